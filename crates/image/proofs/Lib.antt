@@ -1,0 +1,3 @@
+pub mod Defaults
+pub mod Bools
+pub mod Trees

@@ -1,0 +1,13 @@
+pub mod Bytes
+pub mod Tables
+pub mod Kinds
+pub mod Rows
+pub mod Lists
+pub mod Operands
+pub mod Rules
+pub mod Subpatterns
+pub mod Patterns
+pub mod Valid
+pub mod Types
+pub mod Integers
+pub mod Tree

@@ -1,0 +1,152 @@
+"""Writes the samples and the stored list of images.
+
+`python3 samples/make.py` writes every file; `python3 samples/make.py --check`
+writes none, and fails if a file is not what it would write.
+"""
+
+import sys
+from pathlib import Path
+
+sys.dont_write_bytecode = True
+
+from chance import chance_cases
+from faults import fault_cases
+from images import RULES, broken, read_counts
+from readable import sample_files
+from whole import valid_images
+
+ROOT = Path(__file__).resolve().parent.parent
+REFUSED = "refused 1 65535 0"
+# From so many zero bytes at its end on, an image is stored without them.
+LONG_ZEROS = 64
+LARGEST_FILE = 400_000
+
+README = """# Sample images
+
+Each file holds one image as document 01 describes it. The last pattern is the root;
+its subpatterns stand before it. Behind the name stands what it holds and how the image
+is answered: the counts of types, variants, patterns, bindings, list words and data
+bytes, or the refusal.
+
+{samples}
+`list.txt` has one line for each image of the stored list in `crates/replay_images`:
+its number from 1, its name, and `valid` or the names of the rules that it breaks. The
+names follow the order of the document; they are all in `images.py`, as `RULES`.
+
+The stored list, `crates/replay_images/stdin`, has for each image four big-endian bytes n,
+four big-endian bytes z, and n bytes: the image is these n bytes and z zero bytes.
+`crates/replay_images/stdout` has one line of answer for each.
+
+## How they are made
+
+`python3 samples/make.py`, run at the root, writes all of these files again, always the
+same; with `--check` it writes none and fails if one differs.
+
+- `images.py`: builds images, and judges them by the rules alone.
+- `readable.py`: the samples above.
+- `bases.py`: two valid images, and a short notation for edits of them.
+- `whole.py`: valid images, at the edges and limits too.
+- `faults.py`: images that break rules; every rule is broken alone at least once.
+- `chance.py`: random images and random damage, from a fixed seed.
+- `make.py`: puts them together and writes the files.
+"""
+
+
+def answer(image, rules):
+    """The line that an image is answered with."""
+    if rules:
+        return REFUSED
+    return "image " + " ".join(str(count) for count in read_counts(image))
+
+
+def all_cases():
+    """Name, bytes, zeros that follow and, where known, the rules broken."""
+    for name, _, image in sample_files():
+        yield f"sample:{name}", image, 0, None
+    for name, tables in valid_images():
+        yield name, tables.encode(), 0, []
+    yield from fault_cases()
+    yield from chance_cases()
+
+
+def judged_cases():
+    """Name, bytes, zeros that follow and broken rules of every case, checked."""
+    judged, names, alone = [], set(), set()
+    for name, head, zeros, known in all_cases():
+        rules = broken(head + bytes(zeros))
+        assert known is None or rules == known, (name, rules, known)
+        assert name not in names and " " not in name, name
+        names.add(name)
+        alone.update(rules if len(rules) == 1 and known else ())
+        judged.append((name, head, zeros, rules))
+    assert alone == set(RULES), set(RULES) - alone
+    return judged
+
+
+def stored(image, zeros):
+    """One image as the stored list has it."""
+    head = image.rstrip(b"\0")
+    if len(image) - len(head) < LONG_ZEROS:
+        head = image
+    zeros += len(image) - len(head)
+    return len(head).to_bytes(4, "big") + zeros.to_bytes(4, "big") + head
+
+
+def sample_lines():
+    """The part of the README on each sample."""
+    lines = []
+    for name, text, image in sample_files():
+        rules = broken(image)
+        why = f" ({', '.join(rules)})" if rules else ""
+        lines.append(f"- `{name}.img`: {text.rstrip('.')}. `{answer(image, rules)}`{why}\n")
+    return "".join(lines)
+
+
+def all_files():
+    """The contents of every file by its path from the root."""
+    files = {f"samples/{name}.img": image for name, _, image in sample_files()}
+    files["samples/README.md"] = README.format(samples=sample_lines()).encode()
+    cases = judged_cases()
+    files["crates/replay_images/stdin"] = b"".join(
+        stored(image, zeros) for _, image, zeros, _ in cases)
+    files["crates/replay_images/stdout"] = "".join(
+        answer(image, rules) + "\n" for _, image, _, rules in cases).encode()
+    files["samples/list.txt"] = "".join(
+        f"{number} {name} {' '.join(rules) or 'valid'}\n"
+        for number, (name, _, _, rules) in enumerate(cases, 1)).encode()
+    assert len(files["crates/replay_images/stdin"]) < LARGEST_FILE
+    return files
+
+
+def differing(files):
+    """The paths of files that are missing, differ or are no longer made."""
+    for path, content in files.items():
+        found = ROOT / path
+        if not found.is_file() or found.read_bytes() != content:
+            yield path
+    for found in sorted((ROOT / "samples").glob("*.img")):
+        path = found.relative_to(ROOT).as_posix()
+        if path not in files:
+            yield path
+
+
+def main():
+    """Writes the files, or with --check compares them."""
+    files = all_files()
+    if sys.argv[1:] == ["--check"]:
+        paths = list(differing(files))
+        for path in paths:
+            print(f"differs: {path}")
+        return 1 if paths else 0
+    if sys.argv[1:]:
+        print("usage: python3 samples/make.py [--check]")
+        return 2
+    for path, content in files.items():
+        target = ROOT / path
+        target.parent.mkdir(parents=True, exist_ok=True)
+        target.write_bytes(content)
+    return 0
+
+
+if __name__ == "__main__":
+    sys.exit(main())
