@@ -1,10 +1,11 @@
 -- The laws of the tests of specs/Lists.antt. Assumes nothing.
-use Prim.Native.Nat.{ℕ, zero, suc, _≤_, _<_}
+use Prim.Native.Nat.{ℕ, zero, suc, _+_, _≤_, _<_}
 use mathlib.Core.Path.{_≡_, refl, ap, _∙_}
-use mathlib.Core.Bool.{Bool, true, false, _&&_, false≢true}
+use mathlib.Core.Bool.{Bool, true, false, _&&_, true≢false, false≢true}
 use mathlib.Core.List.{List, [], _∷_, _++_}
 use mathlib.Core.Logic.{⊎-elim}
 use native.Mathlib.Nat.{eq-or-lt-of-le}
+use native.Mathlib.Numerals.{add-one}
 use native.Mathlib.Omega.{arith}
 use lib.ListN.{length, getD}
 use Rattle.image.specs.Lists.{allBelow, allIn, allTrue}
@@ -22,10 +23,7 @@ and-true true b d e = e
 and-true false b d e = d
 
 pub and-false-left : (a b : Bool) → a ≡ false → a && b ≡ false
-and-false-left true b e = absurd (false≢true (sym′ e))
-  where
-    sym′ : true ≡ false → false ≡ true
-    sym′ p = λ i. mathlib.Core.Path.sym p i
+and-false-left true b e = absurd (true≢false e)
 and-false-left false b e = refl
 
 pub and-false-right : (a b : Bool) → b ≡ false → a && b ≡ false
@@ -69,6 +67,11 @@ below-false f (suc n) k h e =
   where
     le-of-lt-suc : (a b : ℕ) → a < suc b → a ≤ b
     le-of-lt-suc a b q = omega arith
+
+-- one number more
+pub below-next : (f : ℕ → Bool) (n : ℕ) → allBelow f n ≡ true → f n ≡ true → allBelow f (n + 1) ≡ true
+unfolding allBelow
+below-next f n e d = rw add-one (and-true (allBelow f n) (f n) e d)
 
 pub all-in-left : (f : ℕ → Bool) (xs ys : List ℕ) → allIn f (xs ++ ys) ≡ true → allIn f xs ≡ true
 unfolding allIn

@@ -1,3 +1,5 @@
 pub mod Defaults
 pub mod Bools
 pub mod Trees
+pub mod Samples
+pub mod Corners

@@ -1,0 +1,19 @@
+use borrow.Author.Needs.{needs}
+use Rattle.marks.proofs.take_subpatterns.Statement.{statement}
+use Rattle.marks.proofs.take_subpatterns.Tie as tie
+use Rattle.marks.proofs.take_subpatterns.Reads as reads
+use Rattle.marks.proofs.take_subpatterns.Lts as lts
+use Rattle.image.proofs.kinds.pat_kind.Reads as pat-kind-reads
+use Rattle.image.proofs.rows.pat_at.Reads as pat-at-reads
+use Rattle.marks.proofs.take_row.Reads as take-row-reads
+use Rattle.marks.proofs.Shapes.{pattern-shape, row-of-pattern}
+
+take-row-requires : tie.Need-take-row-requires
+take-row-requires c κs = (c .before .before .before .before .before .pre .0, c .before .before .before .before .before .pre .2, pattern-shape _ _ (c .before .before .pat-at .ensures) (c .pat-kind .ensures) (c .before .before .before .before .before .pre .3), c .before .before .before .before .before .pre .4)
+
+returns : tie.Need-returns
+returns c = row-of-pattern _ _ (c .before .before .before .before .before .pat-at .ensures) (c .before .before .before .pat-kind .ensures) (c .before .before .take-row .ensures)
+
+pub take-subpatterns-spec : {M : Type 1} → statement M
+take-subpatterns-spec =
+    tie.close (tie.spec (λ c κs. search needs) (λ c κs. search needs) take-row-requires (λ c. search needs) returns)
