@@ -35,7 +35,8 @@ names follow the order of the document; they are all in `images.py`, as `RULES`.
 
 The stored list, `crates/replay_images/stdin`, has for each image four big-endian bytes n,
 four big-endian bytes z, and n bytes: the image is these n bytes and z zero bytes.
-`crates/replay_images/stdout` has one line of answer for each.
+`crates/replay_images/stdout` has one line of answer for each. `crates/check_image/stdin`
+is `enum_fields.img`.
 
 ## How they are made
 
@@ -49,6 +50,7 @@ same; with `--check` it writes none and fails if one differs.
 - `faults.py`: images that break rules; every rule is broken alone at least once.
 - `chance.py`: random images and random damage, from a fixed seed.
 - `make.py`: puts them together and writes the files.
+- `theorems.py`: prints the samples as theorems about the definitions, for `crates/image/proofs/Samples.antt`.
 """
 
 
@@ -106,6 +108,9 @@ def all_files():
     """The contents of every file by its path from the root."""
     files = {f"samples/{name}.img": image for name, _, image in sample_files()}
     files["samples/README.md"] = README.format(samples=sample_lines()).encode()
+    sample = next(image for name, _, image in sample_files() if name == "enum_fields")
+    files["crates/check_image/stdin"] = sample
+    files["crates/check_image/stdout"] = (answer(sample, broken(sample)) + "\n").encode()
     cases = judged_cases()
     files["crates/replay_images/stdin"] = b"".join(
         stored(image, zeros) for _, image, zeros, _ in cases)

@@ -31,6 +31,7 @@ and-swap-inner true false true d = refl
 and-swap-inner true false false d = refl
 and-swap-inner false b c d = refl
 
+-- numbers are taken where they lie below the bound and are fresh
 pub takes-split : (bound : ℕ) (marks xs : List ℕ) → takes bound marks xs ≡ allUnder bound xs && fresh marks xs
 unfolding takes fresh allIn
 takes-split bound marks [] = refl
@@ -39,6 +40,7 @@ takes-split bound marks (x ∷ xs) = rw (takes-split bound (set marks x 1) xs) (
     regroup : (a b c d : Bool) → a && (b && (c && d)) ≡ (a && c) && (b && d)
     regroup a b c d = sym (and-assoc a b (c && d)) ∙ and-swap-inner a b c d
 
+-- two lists are fresh where the first is, and then the second
 pub fresh-append : (marks xs ys : List ℕ) → fresh marks (xs ++ ys) ≡ fresh marks xs && fresh (marked marks xs) ys
 unfolding fresh marked
 fresh-append marks [] ys = refl

@@ -18,23 +18,27 @@ use Rattle.marks.specs.Marks.{Taken}
 use Rattle.marks.proofs.Takes.{taken-append, refused-append}
 
 module _ (image : List ℕ) (row : PatRow) where
-  -- the items of each kind lie in the list
+  -- the items of a Tuple lie in the list
   pub tuple-in-list : {kind : PatKind} → kind ≡ PatKind.Tuple → patternShapeHolds kind image row ≡ true → row .a + row .b ≤ listCount image
   unfolding patternShapeHolds
   tuple-in-list e h = leb-true (row .a + row .b) (listCount image) (rw e at h)
 
+  -- the items of an Or lie in the list
   pub or-in-list : {kind : PatKind} → kind ≡ PatKind.Or → patternShapeHolds kind image row ≡ true → row .a + row .b ≤ listCount image
   unfolding patternShapeHolds
   or-in-list e h = leb-true (row .a + row .b) (listCount image) (rw e at h)
 
+  -- the items of a Record, two words each, lie in the list
   pub record-in-list : {kind : PatKind} → kind ≡ PatKind.Record → patternShapeHolds kind image row ≡ true → row .a + 2 * row .b ≤ listCount image
   unfolding patternShapeHolds
   record-in-list e h = leb-true (row .a + 2 * row .b) (listCount image) (and-left (leb (row .a + 2 * row .b) (listCount image)) (variantOrAbsent image (row .c)) (rw e at h))
 
+  -- the items of a TupleStruct lie in the list
   pub tuple-struct-in-list : {kind : PatKind} → kind ≡ PatKind.TupleStruct → patternShapeHolds kind image row ≡ true → row .a + row .b ≤ listCount image
   unfolding patternShapeHolds
   tuple-struct-in-list e h = leb-true (row .a + row .b) (listCount image) (and-left (leb (row .a + row .b) (listCount image)) (variantOrAbsent image (row .d)) (rw e at h))
 
+  -- the prefix and the suffix of a Slice lie in the list
   pub slice-in-list : patternShapeHolds PatKind.Slice image row ≡ true → row .a + (row .b + row .c) ≤ listCount image
   unfolding patternShapeHolds
   slice-in-list h = leb-true (row .a + (row .b + row .c)) (listCount image) h

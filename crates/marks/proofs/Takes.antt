@@ -8,18 +8,12 @@ use native.Mathlib.Nat.{mul-suc}
 use native.Mathlib.Omega.{arith}
 use borrow.Author.Tests.{lt-ltb, le-ltb, eq-eqb, ne-eqb}
 use lib.Dec.{ltb}
-use lib.ListN.{length, getD, set, length-set}
+use lib.ListN.{getD, set}
 use Rattle.image.specs.Lists.{upFrom}
 use Rattle.image.specs.Rules.{absent, listed}
 use Rattle.image.specs.Rows.{listAt}
 use Rattle.image.specs.Subpatterns.{ifPresent}
 use Rattle.marks.specs.Marks.{takes, marked, Taken}
-
--- marking keeps the table's length
-pub length-marked : (marks numbers : List ℕ) → length (marked marks numbers) ≡ length marks
-unfolding marked
-length-marked marks [] = refl
-length-marked marks (x ∷ xs) = length-marked (set marks x 1) xs ∙ length-set marks x 1
 
 -- two lists are taken where the first is, and then the second
 pub takes-append : (bound : ℕ) (marks xs ys : List ℕ) → takes bound marks (xs ++ ys) ≡ takes bound marks xs && takes bound (marked marks xs) ys
@@ -27,6 +21,7 @@ unfolding takes marked
 takes-append bound marks [] ys = refl
 takes-append bound marks (x ∷ xs) ys = rw (takes-append bound (set marks x 1) xs ys) (simp and-assoc)
 
+-- marking two lists is marking the first and then the second
 pub marked-append : (marks xs ys : List ℕ) → marked marks (xs ++ ys) ≡ marked (marked marks xs) ys
 unfolding marked
 marked-append marks [] ys = refl
@@ -78,43 +73,45 @@ pub taken-present : {bound : ℕ} {marks after : List ℕ} {x : ℕ} {r : Bool} 
 unfolding ifPresent
 taken-present {x = x} h t = rw (ne-eqb x absent h) t
 
--- In a loop: to take what is left from the marks now is to take all from the marks then.
+-- In a loop: taking what is left, from the marks now, is taking all, from the marks before the loop.
 abbrev pub Continues : ℕ → List ℕ → List ℕ → List ℕ → List ℕ → Type 0
-Continues bound then all marks left = (after : List ℕ) (r : Bool) → Taken bound marks after left r → Taken bound then after all r
+Continues bound before all marks left = (after : List ℕ) (r : Bool) → Taken bound marks after left r → Taken bound before after all r
 
 -- a turn of the loop that takes a number
-pub continues-more : {bound : ℕ} {then all marks next list left : List ℕ} {x : ℕ} {r : Bool} → list ≡ x ∷ left → Continues bound then all marks list → r ≡ true → Taken bound marks next (x ∷ []) r → Continues bound then all next left
+pub continues-more : {bound : ℕ} {before all marks next list left : List ℕ} {x : ℕ} {r : Bool} → list ≡ x ∷ left → Continues bound before all marks list → r ≡ true → Taken bound marks next (x ∷ []) r → Continues bound before all next left
 continues-more e so-far taken first after s t = so-far after s (rw e (taken-append (rw taken at first) t))
 
 -- a turn that refuses one
-pub continues-refused : {bound : ℕ} {then all marks next list left : List ℕ} {x : ℕ} {r : Bool} (after : List ℕ) → list ≡ x ∷ left → Continues bound then all marks list → r ≡ false → Taken bound marks next (x ∷ []) r → Taken bound then after all false
+pub continues-refused : {bound : ℕ} {before all marks next list left : List ℕ} {x : ℕ} {r : Bool} (after : List ℕ) → list ≡ x ∷ left → Continues bound before all marks list → r ≡ false → Taken bound marks next (x ∷ []) r → Taken bound before after all false
 continues-refused {left = left} after e so-far refused first = so-far after false (rw e (refused-append after left (rw refused at first)))
 
 -- the loop's end
-pub continues-end : {bound : ℕ} {then all marks list : List ℕ} → list ≡ [] → Continues bound then all marks list → Taken bound then marks all true
+pub continues-end : {bound : ℕ} {before all marks list : List ℕ} → list ≡ [] → Continues bound before all marks list → Taken bound before marks all true
 continues-end {bound} {marks = marks} e so-far = so-far marks true (rw e (taken-none bound marks))
 
--- a range that is not empty has a first number and those behind it
+-- a range that is not empty is its first number and the range behind it
 pub up-from-next : (from count : ℕ) → (count ≡ 0 → ⊥) → upFrom from count ≡ from ∷ upFrom (from + 1) (count - 1)
 unfolding upFrom
 up-from-next from zero h = absurd (h refl)
 up-from-next from (suc n) h = let e : suc n - 1 ≡ n = omega arith in rw e
 
+-- a range of no numbers is empty
 pub up-from-none : (from count : ℕ) → count ≡ 0 → upFrom from count ≡ []
 unfolding upFrom
 up-from-none from count e = rw e
 
--- and so do words of the list
+-- the words of the list, where there are any, are the first and those behind it
 pub listed-next : (image : List ℕ) (step from count : ℕ) → (count ≡ 0 → ⊥) → listed image step from count ≡ listAt image from ∷ listed image step (from + step) (count - 1)
 unfolding listed
 listed-next image step from zero h = absurd (h refl)
 listed-next image step from (suc n) h = let e : suc n - 1 ≡ n = omega arith in rw e
 
+-- no words of the list
 pub listed-none : (image : List ℕ) (step from count : ℕ) → count ≡ 0 → listed image step from count ≡ []
 unfolding listed
 listed-none image step from count e = rw e
 
--- `count` steps are one step and those that are left
+-- steps, where there are any, are those that are left and one more
 pub steps-next : (step count : ℕ) → (count ≡ 0 → ⊥) → step * count ≡ step * (count - 1) + step
 steps-next step zero h = absurd (h refl)
 steps-next step (suc n) h = let e : suc n - 1 ≡ n = omega arith in rw e (mul-suc step n)

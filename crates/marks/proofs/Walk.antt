@@ -1,4 +1,4 @@
--- A walk takes numbered lists one after the other. It ends well where each list lies below its bound and no number stands in the lists twice.
+-- A walk takes numbered lists one after the other. It is true where each list lies below its bound and no number stands in the lists twice.
 -- Assumes nothing.
 use Prim.Native.Nat.{ℕ, zero, suc, _+_, _-_, _≤_, _<_}
 use mathlib.Core.Path.{_≡_, refl, ap, sym, _∙_}
@@ -48,7 +48,7 @@ module _ (bound : ℕ → ℕ) (lists : ℕ → List ℕ) where
   abbrev lies : ℕ → Bool
   lies p = allUnder (bound p) (lists p)
 
-  -- a walk ends well where each list lies below its bound and the numbers of all are fresh
+  -- a walk is true where each list lies below its bound and the numbers of all are fresh
   walk-split : (p n : ℕ) (marks : List ℕ) → walk bound lists p n marks ≡ allFrom lies p n && fresh marks (gather lists p n)
   unfolding walk allFrom gather fresh
   walk-split p zero marks = refl
@@ -96,7 +96,7 @@ and-when : (a b c : Bool) → (a ≡ true → b ≡ c) → a && b ≡ a && c
 and-when true b c h = h refl
 and-when false b c h = refl
 
--- The theorem: from a table of zeros, a walk over all lists ends well where each list lies below its bound and no number stands in the lists twice.
+-- The theorem: from a table of zeros, a walk over all lists is true where each list lies below its bound and no number stands in the lists twice.
 pub walk-from-zeros : (bound : ℕ → ℕ) (lists : ℕ → List ℕ) (size n : ℕ) → ((k : ℕ) → k < n → bound k ≤ size) →
     walk bound lists 0 n (zeros size) ≡ allBelow (lies bound lists) n && distinct (gather lists 0 n)
 unfolding allBelow

@@ -24,12 +24,15 @@ loop-holds c = (adts-start _ (c .before .before .pre .1) (c .before .before .pre
 
 take-variants-requires : tie.Need-take-variants-requires Inv-loop μ-loop
 take-variants-requires c κs =
-    let long = ap length (c .before .before .before .before .before .pre .1) in
-    let lt : c .before .before .loop .t < typeCount (c .before .before .before .before .before .args .image .now) = omega (arith, c .before .before .before .before .before .pre .0 .type-count) in
-    (c .before .before .before .before .before .pre .0, lt, omega arith, c .before .before .before .before .before .pre .2, below-at _ _ _ (c .before .before .before .before .before .pre .3) lt)
+    let known = c .before .before .before .before .before .pre in
+    let long = ap length (known .1) in
+    let lt : c .before .before .loop .t < typeCount (c .before .before .before .before .before .args .image .now) = omega (arith, known .0 .type-count) in
+    (known .0, lt, omega arith, known .2, below-at _ _ _ (known .3) lt)
 
 returns : tie.Need-returns Inv-loop μ-loop
-returns c = adts-refused _ _ _ (c .before .before .before .before .before .before .loop .inv .0) (omega (arith, c .before .before .before .before .before .before .before .before .before .pre .0 .type-count)) (not-true _ (c .if1 .taken)) (c .before .before .before .take-variants .ensures)
+returns c =
+    let count = c .before .before .before .before .before .before .before .before .before .pre .0 .type-count in
+    adts-refused _ _ _ (c .before .before .before .before .before .before .loop .inv .0) (omega arith) (not-true _ (c .if1 .taken)) (c .before .before .before .take-variants .ensures)
 
 add-t : tie.Need-add-t Inv-loop μ-loop
 add-t c = omega arith
@@ -38,7 +41,12 @@ loop-less : tie.Need-loop-less Inv-loop μ-loop
 loop-less c = omega (arith, c .before .before .before .before .before .before .before .before .before .pre .0 .type-count)
 
 loop-again : tie.Need-loop-again Inv-loop μ-loop
-loop-again c = (adts-more _ _ _ (c .before .before .before .before .before .before .loop .inv .0) (omega (arith, c .before .before .before .before .before .before .before .before .before .pre .0 .type-count)) (not-false _ (c .if1 .left)) (c .before .before .before .take-variants .ensures), search needs, omega (arith, c .before .before .before .before .before .before .before .before .before .pre .0 .type-count))
+loop-again c =
+    let count = c .before .before .before .before .before .before .before .before .before .pre .0 .type-count in (
+      adts-more _ _ _ (c .before .before .before .before .before .before .loop .inv .0) (omega arith) (not-false _ (c .if1 .left)) (c .before .before .before .take-variants .ensures),
+      search needs,
+      omega arith,
+    )
 
 returns-2 : tie.Need-returns-2 Inv-loop μ-loop
 returns-2 c = adts-end _ _ _ (c .before .loop .inv .0) (omega (arith, c .before .before .before .before .pre .0 .type-count))

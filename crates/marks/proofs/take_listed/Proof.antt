@@ -24,13 +24,20 @@ loop-holds : tie.Need-loop-holds Inv-loop μ-loop
 loop-holds c = ((λ after r t. t), refl, c .before .before .pre .3)
 
 list-at-requires : tie.Need-list-at-requires Inv-loop μ-loop
-list-at-requires c κs = (c .before .before .before .before .before .pre .0, omega (arith, c .before .before .before .before .before .pre .0 .list-count, steps-next (c .before .before .before .before .before .args .step) (c .before .before .loop .left) (c .before .loop-test .taken)))
+list-at-requires c κs =
+    let s = c .before .before .before .before .before in
+    let steps = steps-next (s .args .step) (c .before .before .loop .left) (c .before .loop-test .taken) in
+    (s .pre .0, omega (arith, s .pre .0 .list-count))
 
 returns : tie.Need-returns Inv-loop μ-loop
-returns c = continues-refused _ (listed-next _ _ _ _ (c .before .before .before .before .before .before .loop-test .taken)) (c .before .before .before .before .before .before .before .loop .inv .0) (not-true _ (c .if1 .taken)) (rw (c .before .before .before .before .list-at .ensures) at (c .before .before .before .take .ensures))
+returns c =
+    let item = rw (c .before .before .before .before .list-at .ensures) at (c .before .before .before .take .ensures) in
+    continues-refused _ (listed-next _ _ _ _ (c .before .before .before .before .before .before .loop-test .taken)) (c .before .before .before .before .before .before .before .loop .inv .0) (not-true _ (c .if1 .taken)) item
 
 add-i : tie.Need-add-i Inv-loop μ-loop
-add-i c = omega (arith, steps-next (c .before .before .before .before .before .before .before .before .before .before .args .step) (c .before .before .before .before .before .before .before .loop .left) (c .before .before .before .before .before .before .loop-test .taken))
+add-i c =
+    let steps = steps-next (c .before .before .before .before .before .before .before .before .before .before .args .step) (c .before .before .before .before .before .before .before .loop .left) (c .before .before .before .before .before .before .loop-test .taken) in
+    omega arith
 
 sub-left : tie.Need-sub-left Inv-loop μ-loop
 sub-left c = omega arith
@@ -39,7 +46,13 @@ loop-less : tie.Need-loop-less Inv-loop μ-loop
 loop-less c = omega arith
 
 loop-again : tie.Need-loop-again Inv-loop μ-loop
-loop-again c = (continues-more (listed-next _ _ _ _ (c .before .before .before .before .before .before .loop-test .taken)) (c .before .before .before .before .before .before .before .loop .inv .0) (not-false _ (c .if1 .left)) (rw (c .before .before .before .before .list-at .ensures) at (c .before .before .before .take .ensures)), search needs, omega (arith, steps-next (c .before .before .before .before .before .before .before .before .before .before .args .step) (c .before .before .before .before .before .before .before .loop .left) (c .before .before .before .before .before .before .loop-test .taken)))
+loop-again c =
+    let item = rw (c .before .before .before .before .list-at .ensures) at (c .before .before .before .take .ensures) in
+    let steps = steps-next (c .before .before .before .before .before .before .before .before .before .before .args .step) (c .before .before .before .before .before .before .before .loop .left) (c .before .before .before .before .before .before .loop-test .taken) in (
+      continues-more (listed-next _ _ _ _ (c .before .before .before .before .before .before .loop-test .taken)) (c .before .before .before .before .before .before .before .loop .inv .0) (not-false _ (c .if1 .left)) item,
+      search needs,
+      omega arith,
+    )
 
 returns-2 : tie.Need-returns-2 Inv-loop μ-loop
 returns-2 c = continues-end (listed-none _ _ _ _ (c .loop-test .left)) (c .before .loop .inv .0)

@@ -34,7 +34,11 @@ loop-less : tie.Need-loop-less Inv-loop μ-loop
 loop-less c = omega arith
 
 loop-again : tie.Need-loop-again Inv-loop μ-loop
-loop-again c = (continues-more (up-from-next _ _ (c .before .before .before .before .before .loop-test .taken)) (c .before .before .before .before .before .before .loop .inv .0) (not-false _ (c .if1 .left)) (c .before .before .before .take .ensures), search needs, omega arith)
+loop-again c = (
+  continues-more (up-from-next _ _ (c .before .before .before .before .before .loop-test .taken)) (c .before .before .before .before .before .before .loop .inv .0) (not-false _ (c .if1 .left)) (c .before .before .before .take .ensures),
+  search needs,
+  omega arith,
+)
 
 returns-2 : tie.Need-returns-2 Inv-loop μ-loop
 returns-2 c = continues-end (up-from-none _ _ (c .loop-test .left)) (c .before .loop .inv .0)

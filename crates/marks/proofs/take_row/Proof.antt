@@ -13,22 +13,32 @@ use Rattle.marks.proofs.Takes.{taken-none}
 use Rattle.marks.proofs.Shapes.{tuple-in-list, or-in-list, record-in-list, tuple-struct-in-list}
 
 take-listed-requires : tie.Need-take-listed-requires
-take-listed-requires c κs = (c .before .before .before .before .before .pre .0, c .before .before .before .before .before .pre .1, omega arith, omega (arith, tuple-in-list _ _ (c .before .enum-told .given .1) (c .before .before .before .before .before .pre .2)), c .before .before .before .before .before .pre .3)
+take-listed-requires c κs =
+    let known = c .before .before .before .before .before .pre in
+    (known .0, known .1, omega arith, omega (arith, tuple-in-list _ _ (c .before .enum-told .given .1) (known .2)), known .3)
 
 take-listed-requires-2 : tie.Need-take-listed-requires-2
-take-listed-requires-2 c κs = (c .before .before .before .before .before .pre .0, c .before .before .before .before .before .pre .1, omega arith, omega (arith, or-in-list _ _ (c .before .enum-told2 .given .1) (c .before .before .before .before .before .pre .2)), c .before .before .before .before .before .pre .3)
+take-listed-requires-2 c κs =
+    let known = c .before .before .before .before .before .pre in
+    (known .0, known .1, omega arith, omega (arith, or-in-list _ _ (c .before .enum-told2 .given .1) (known .2)), known .3)
 
 add-take-listed : tie.Need-add-take-listed
 add-take-listed c = omega (arith, record-in-list _ _ (c .before .before .enum-told3 .given .1) (c .before .before .before .before .before .before .pre .2))
 
 take-listed-requires-3 : tie.Need-take-listed-requires-3
-take-listed-requires-3 c κs = (c .before .before .before .before .before .before .pre .0, c .before .before .before .before .before .before .pre .1, omega arith, omega (arith, record-in-list _ _ (c .before .before .enum-told3 .given .1) (c .before .before .before .before .before .before .pre .2)), c .before .before .before .before .before .before .pre .3)
+take-listed-requires-3 c κs =
+    let known = c .before .before .before .before .before .before .pre in
+    (known .0, known .1, omega arith, omega (arith, record-in-list _ _ (c .before .before .enum-told3 .given .1) (known .2)), known .3)
 
 take-slice-requires : tie.Need-take-slice-requires
-take-slice-requires c κs = (c .before .before .before .before .before .pre .0, c .before .before .before .before .before .pre .1, rw (c .before .enum-told4 .given .1) at (c .before .before .before .before .before .pre .2), c .before .before .before .before .before .pre .3)
+take-slice-requires c κs =
+    let known = c .before .before .before .before .before .pre in
+    (known .0, known .1, rw (c .before .enum-told4 .given .1) at (known .2), known .3)
 
 take-listed-requires-4 : tie.Need-take-listed-requires-4
-take-listed-requires-4 c κs = (c .before .before .before .before .before .pre .0, c .before .before .before .before .before .pre .1, omega arith, omega (arith, tuple-struct-in-list _ _ (c .before .enum-told6 .given .1) (c .before .before .before .before .before .pre .2)), c .before .before .before .before .before .pre .3)
+take-listed-requires-4 c κs =
+    let known = c .before .before .before .before .before .pre in
+    (known .0, known .1, omega arith, omega (arith, tuple-struct-in-list _ _ (c .before .enum-told6 .given .1) (known .2)), known .3)
 
 returns : tie.Need-returns
 unfolding subpatternsBy

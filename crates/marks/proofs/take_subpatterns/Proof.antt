@@ -9,7 +9,9 @@ use Rattle.marks.proofs.take_row.Reads as take-row-reads
 use Rattle.marks.proofs.Shapes.{pattern-shape, row-of-pattern}
 
 take-row-requires : tie.Need-take-row-requires
-take-row-requires c κs = (c .before .before .before .before .before .pre .0, c .before .before .before .before .before .pre .2, pattern-shape _ _ (c .before .before .pat-at .ensures) (c .pat-kind .ensures) (c .before .before .before .before .before .pre .3), c .before .before .before .before .before .pre .4)
+take-row-requires c κs =
+    let known = c .before .before .before .before .before .pre in
+    (known .0, known .2, pattern-shape _ _ (c .before .before .pat-at .ensures) (c .pat-kind .ensures) (known .3), known .4)
 
 returns : tie.Need-returns
 returns c = row-of-pattern _ _ (c .before .before .before .before .before .pat-at .ensures) (c .before .before .before .pat-kind .ensures) (c .before .before .take-row .ensures)

@@ -24,12 +24,15 @@ loop-holds c = (uses-start _ (c .before .before .pre .1) (c .before .before .pre
 
 take-subpatterns-requires : tie.Need-take-subpatterns-requires Inv-loop μ-loop
 take-subpatterns-requires c κs =
-    let long = ap length (c .before .before .before .before .before .pre .1) in
-    let lt : c .before .before .loop .p < patternCount (c .before .before .before .before .before .args .image .now) = omega (arith, c .before .before .before .before .before .pre .0 .pattern-count) in
-    (c .before .before .before .before .before .pre .0, lt, omega arith, below-at _ _ _ (c .before .before .before .before .before .pre .4) lt, c .before .before .before .before .before .pre .3)
+    let known = c .before .before .before .before .before .pre in
+    let long = ap length (known .1) in
+    let lt : c .before .before .loop .p < patternCount (c .before .before .before .before .before .args .image .now) = omega (arith, known .0 .pattern-count) in
+    (known .0, lt, omega arith, below-at _ _ _ (known .4) lt, known .3)
 
 returns : tie.Need-returns Inv-loop μ-loop
-returns c = uses-refused _ _ _ (c .before .before .before .before .before .before .loop .inv .0) (omega (arith, c .before .before .before .before .before .before .before .before .before .pre .0 .pattern-count)) (not-true _ (c .if1 .taken)) (c .before .before .before .take-subpatterns .ensures)
+returns c =
+    let count = c .before .before .before .before .before .before .before .before .before .pre .0 .pattern-count in
+    uses-refused _ _ _ (c .before .before .before .before .before .before .loop .inv .0) (omega arith) (not-true _ (c .if1 .taken)) (c .before .before .before .take-subpatterns .ensures)
 
 add-p : tie.Need-add-p Inv-loop μ-loop
 add-p c = omega arith
@@ -38,7 +41,12 @@ loop-less : tie.Need-loop-less Inv-loop μ-loop
 loop-less c = omega (arith, c .before .before .before .before .before .before .before .before .before .pre .0 .pattern-count)
 
 loop-again : tie.Need-loop-again Inv-loop μ-loop
-loop-again c = (uses-more _ _ _ (c .before .before .before .before .before .before .loop .inv .0) (omega (arith, c .before .before .before .before .before .before .before .before .before .pre .0 .pattern-count)) (not-false _ (c .if1 .left)) (c .before .before .before .take-subpatterns .ensures), search needs, omega (arith, c .before .before .before .before .before .before .before .before .before .pre .0 .pattern-count))
+loop-again c =
+    let count = c .before .before .before .before .before .before .before .before .before .pre .0 .pattern-count in (
+      uses-more _ _ _ (c .before .before .before .before .before .before .loop .inv .0) (omega arith) (not-false _ (c .if1 .left)) (c .before .before .before .take-subpatterns .ensures),
+      search needs,
+      omega arith,
+    )
 
 returns-2 : tie.Need-returns-2 Inv-loop μ-loop
 returns-2 c = uses-end _ _ _ (c .before .loop .inv .0) (omega (arith, c .before .before .before .before .pre .0 .pattern-count))

@@ -13,10 +13,15 @@ returns : tie.Need-returns
 returns c = other-taken _ _ (c .before .before .type-at .ensures) (c .before .type-kind .ensures) _ _ (λ e. not-another-kind (rw e at (c .match .keys2)))
 
 take-range-requires : tie.Need-take-range-requires
-take-range-requires c κs = (omega (arith, c .before .before .before .before .before .before .before .pre .0 .variant-count), omega (arith, adt-range _ _ (c .before .before .before .before .type-at .ensures) (c .before .before .before .type-kind .ensures) (c .before .enum-told .given .1) (c .before .before .before .before .before .before .before .pre .4)))
+take-range-requires c κs =
+    let known = c .before .before .before .before .before .before .before .pre in
+    let range = adt-range _ _ (c .before .before .before .before .type-at .ensures) (c .before .before .before .type-kind .ensures) (c .before .enum-told .given .1) (known .4) in
+    (omega (arith, known .0 .variant-count), omega arith)
 
 returns-2 : tie.Need-returns-2
-returns-2 c = adt-taken _ _ (c .before .before .before .before .before .before .before .type-at .ensures) (c .before .before .before .before .before .before .type-kind .ensures) (c .before .before .before .before .enum-told .given .1) (c .before .before .before .before .before .before .before .before .before .before .pre .0 .variant-count) (c .before .before .take-range .ensures)
+returns-2 c =
+    let is-adt = c .before .before .before .before .enum-told .given .1 in
+    adt-taken _ _ (c .before .before .before .before .before .before .before .type-at .ensures) (c .before .before .before .before .before .before .type-kind .ensures) is-adt (c .before .before .before .before .before .before .before .before .before .before .pre .0 .variant-count) (c .before .before .take-range .ensures)
 
 pub take-variants-spec : {M : Type 1} → statement M
 take-variants-spec =
