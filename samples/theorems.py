@@ -1,6 +1,6 @@
-"""Prints crates/image/proofs/Samples.antt: the samples as theorems about the definitions.
+"""Prints crates/image_samples/proofs/Samples.antt: the samples as theorems about the definitions.
 
-`python3 samples/theorems.py > crates/image/proofs/Samples.antt`, then format the file.
+`python3 samples/theorems.py > crates/image_samples/proofs/Samples.antt`, then format the file.
 """
 
 import sys

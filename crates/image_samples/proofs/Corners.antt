@@ -6,18 +6,18 @@ use mathlib.Core.Option.{Option, none, some}
 use mathlib.Core.List.{List, [], _∷_, map}
 use lib.IntN.{ℤ, pos, negsuc}
 use lib.ListN.{replicate}
 use Rattle.image.specs.declared.kinds.OperandKind.{OperandKind}
 use Rattle.image.specs.declared.kinds.BindingMode.{BindingMode}
 use Rattle.image.specs.declared.kinds.BindingAnnotation.{BindingAnnotation}
 use Rattle.image.specs.declared.kinds.AdtKind.{AdtKind}
 use Rattle.image.specs.Bytes.{wordAt, littleEndian}
 use Rattle.image.specs.Rows.{typeAt, variantAt, patAt, listAt, operandAt, operandBytes}
 use Rattle.image.specs.Lists.{upFrom}
 use Rattle.image.specs.Rules.{listed}
 use Rattle.image.specs.Types.{integer, tuple, adt, Ty, Variant, Operand, shapeBy, tyOf, variantOf, operandOf}
 use Rattle.image.specs.Integers.{leastValue, greatestValue, inRange, integerValue}
 use Rattle.image.specs.Tree.{Head, Pat, Pats, nil, cons, no, sub, word?, operand?, trees, tree?, target, nodeBy, node, treeOf, tree}
-use Rattle.image.proofs.Samples.{or-1-2, tuple-ellipsis, slice-rest, enum-fields}
+use Rattle.image_samples.proofs.Samples.{or-1-2, tuple-ellipsis, slice-rest, enum-fields}
 
 abbrev head : ℕ → ℕ → ℕ → Head
 head p t d = record { number = p; ty = t; derefs = d }
