@@ -50,7 +50,7 @@ same; with `--check` it writes none and fails if one differs.
 - `faults.py`: images that break rules; every rule is broken alone at least once.
 - `chance.py`: random images and random damage, from a fixed seed.
 - `make.py`: puts them together and writes the files.
-- `theorems.py`: prints the samples as theorems about the definitions, for `crates/image_samples/proofs/Samples.antt`.
+- `theorems.py`: prints the samples as theorems about the definitions, for `crates/samples/proofs/Samples.antt`.
 """
 
 

@@ -1,3 +1,4 @@
 pub mod Defaults
 pub mod Bools
 pub mod Trees
+pub mod Known

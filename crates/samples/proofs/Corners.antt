@@ -17,7 +17,7 @@ use Rattle.image.specs.Rules.{listed}
 use Rattle.image.specs.Types.{integer, tuple, adt, Ty, Variant, Operand, shapeBy, tyOf, variantOf, operandOf}
 use Rattle.image.specs.Integers.{leastValue, greatestValue, inRange, integerValue}
 use Rattle.image.specs.Tree.{Head, Pat, Pats, nil, cons, no, sub, word?, operand?, trees, tree?, target, nodeBy, node, treeOf, tree}
-use Rattle.image_samples.proofs.Samples.{or-1-2, tuple-ellipsis, slice-rest, enum-fields}
+use Rattle.samples.proofs.Samples.{or-1-2, tuple-ellipsis, slice-rest, enum-fields}
 
 abbrev head : ℕ → ℕ → ℕ → Head
 head p t d = record { number = p; ty = t; derefs = d }

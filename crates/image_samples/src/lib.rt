@@ -1,6 +1,0 @@
-// Holds theorems alone: the definitions of the image, computed on the samples (proofs/Samples.antt) and on what they stand for (proofs/Corners.antt).
-
-// A library has a function; this one answers what it is given.
-pub fn same(x: u16) -> u16 {
-    x
-}

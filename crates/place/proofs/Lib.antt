@@ -1,0 +1,5 @@
+pub mod Projecting
+pub mod Fields
+pub mod Ranges
+pub mod Named
+pub mod Far

@@ -1,0 +1,3 @@
+pub mod Elems
+pub mod Places
+pub mod PlaceTypes
