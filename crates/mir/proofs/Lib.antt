@@ -1,0 +1,3 @@
+pub mod OpenBlocks
+pub mod LocalTypes
+pub mod RowParts
