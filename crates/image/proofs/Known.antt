@@ -36,11 +36,12 @@ module _ (image : List ℕ) where
   binding-holds b v h = below-at (bindingHolds image) (bindingCount image) b (all-true-at (rules image) 7 v) h
 
   -- what a type's kind asks of its row
+  pub type-shape : (t : ℕ) → typeHolds image t ≡ true → typeShapeHolds (typeKind (typeAt image t .kind)) image (typeAt image t) ≡ true
+  unfolding typeHolds
+  type-shape t e = and-right (isFlag (typeAt image t .copy)) (typeShapeHolds (typeKind (typeAt image t .kind)) image (typeAt image t)) e
+
   pub shape-holds : (t : ℕ) → valid image ≡ true → t < typeCount image → typeShapeHolds (typeKind (typeAt image t .kind)) image (typeAt image t) ≡ true
-  shape-holds t v h = shape (type-holds t v h)
-    where
-      shape : typeHolds image t ≡ true → typeShapeHolds (typeKind (typeAt image t .kind)) image (typeAt image t) ≡ true
-      shape e = and-right (isFlag (typeAt image t .copy)) (typeShapeHolds (typeKind (typeAt image t .kind)) image (typeAt image t)) (unfold typeHolds in e)
+  shape-holds t v h = type-shape t (type-holds t v h)
 
   -- a range of the list that names types lies in the list
   pub in-list : (from count : ℕ) → typesListed image from count ≡ true → from + count ≤ listCount image

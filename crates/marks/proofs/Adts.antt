@@ -4,17 +4,17 @@ use mathlib.Core.Path.{_≡_, refl, ap, _∙_}
 use mathlib.Core.Bool.{Bool, true, false, _&&_}
 use mathlib.Core.List.{List, [], _∷_}
 use native.Mathlib.Omega.{arith}
-use borrow.Author.Tests.{leb-true, lt-ltb}
-use lib.Dec.{leb}
+use borrow.Author.Tests.{lt-ltb}
 use types.Run.{OneOf, miss}
 use Rattle.image.specs.declared.kinds.TypeKind.{TypeKind}
 use Rattle.image.specs.declared.rows.TypeRow.{TypeRow}
 use Rattle.image.specs.Tables.{typeCount, variantCount}
-use Rattle.image.specs.Kinds.{typeKind, adtKind}
+use Rattle.image.specs.Kinds.{typeKind}
 use Rattle.image.specs.Rows.{typeAt}
 use Rattle.image.specs.Lists.{allBelow, allIn, upFrom, distinct, gather}
-use Rattle.image.specs.Rules.{isFlag, adtMayHave, typeShapeHolds, typeHolds, variantsBy, variantsOf, adtsShareNoVariant}
-use Rattle.image.proofs.Bools.{and-left, and-right, and-true, below-at}
+use Rattle.image.specs.Rules.{typeShapeHolds, typeHolds, variantsBy, variantsOf, adtsShareNoVariant}
+use Rattle.image.proofs.Bools.{and-true, below-at}
+use Rattle.image.proofs.Known.{type-shape, adt-variants}
 use Rattle.marks.specs.Marks.{Taken}
 use Rattle.marks.proofs.Takes.{taken-none}
 use Rattle.marks.proofs.Fresh.{allUnder, zeros}
@@ -26,16 +26,6 @@ unfolding allIn upFrom
 up-from-under limit from zero h = refl
 up-from-under limit from (suc n) h = and-true _ _ (lt-ltb from limit (omega arith)) (up-from-under limit (from + 1) n (omega arith))
 
--- the variants of an ADT that holds lie in the table
-adt-in-table : (image : List ℕ) (row : TypeRow) → typeShapeHolds TypeKind.Adt image row ≡ true → row .a + row .b ≤ variantCount image
-unfolding typeShapeHolds
-adt-in-table image row e = leb-true (row .a + row .b) (variantCount image) (and-left (leb (row .a + row .b) (variantCount image)) (adtMayHave (adtKind (row .c)) (row .b)) e)
-
--- the shape of a type that holds
-type-shape : (image : List ℕ) (t : ℕ) → typeHolds image t ≡ true → typeShapeHolds (typeKind (typeAt image t .kind)) image (typeAt image t) ≡ true
-unfolding typeHolds
-type-shape image t e = and-right (isFlag (typeAt image t .copy)) (typeShapeHolds (typeKind (typeAt image t .kind)) image (typeAt image t)) e
-
 -- the variants of a type that holds lie in the table
 variants-under : (kind : TypeKind) (image : List ℕ) (row : TypeRow) → typeShapeHolds kind image row ≡ true → allUnder (variantCount image) (variantsBy kind row) ≡ true
 unfolding variantsBy allIn
@@ -44,7 +34,7 @@ variants-under TypeKind.Bool image row e = refl
 variants-under TypeKind.Char image row e = refl
 variants-under TypeKind.Str image row e = refl
 variants-under TypeKind.Tuple image row e = refl
-variants-under TypeKind.Adt image row e = up-from-under (variantCount image) (row .a) (row .b) (adt-in-table image row e)
+variants-under TypeKind.Adt image row e = up-from-under (variantCount image) (row .a) (row .b) (adt-variants image row refl e .1)
 variants-under TypeKind.Reference image row e = refl
 variants-under TypeKind.Array image row e = refl
 variants-under TypeKind.Slice image row e = refl
@@ -114,7 +104,7 @@ not-another-kind = miss (0 ∷ 1 ∷ 2 ∷ 3 ∷ 4 ∷ 6 ∷ 7 ∷ 8 ∷ 9 ∷ [
 module _ (image : List ℕ) (t : ℕ) {row : TypeRow} {kind : TypeKind} (row-is : row ≡ typeAt image t) (kind-is : kind ≡ typeKind (row .kind)) where
   -- an ADT's range lies in the table
   pub adt-range : kind ≡ TypeKind.Adt → typeHolds image t ≡ true → row .a + row .b ≤ variantCount image
-  adt-range e h = adt-in-table image row (rw e at shape)
+  adt-range e h = adt-variants image row e shape .1
     where
       shape : typeShapeHolds kind image row ≡ true
       shape = rw (kind-is, row-is) (type-shape image t h)
