@@ -2,11 +2,11 @@
 use image::BindingId;
 use image::PatId;
 use image::Tables;
-use row_rules::patterns::pattern_holds;
-use row_rules::types::binding_holds;
-use row_rules::types::type_holds;
-use row_rules::types::type_runs;
-use row_rules::types::variant_holds;
+use pattern_rules::patterns::pattern_holds;
+use type_rules::binding_holds;
+use type_rules::type_holds;
+use type_rules::type_runs;
+use type_rules::variant_holds;
 ghost use mathlib.Core.Path.{_≡_};
 ghost use mathlib.Core.Bool.{_&&_};
 ghost use Prim.Native.Nat.{_≤_};
@@ -14,7 +14,7 @@ ghost use Rattle.image.specs.Tables.{Whole, typeCount, variantCount, patternCou
 ghost use Rattle.image.specs.Lists.{allBelow};
 ghost use Rattle.image.specs.Rules.{typeHolds, variantHolds, bindingHolds};
 ghost use Rattle.image.specs.Patterns.{patternHolds};
-ghost use Rattle.row_rules.specs.Runs.{Runs};
+ghost use Rattle.type_rules.specs.Runs.{Runs};
 ghost use Rattle.read_image.specs.Parts.{rowsHold};
 
 fn types_hold(image: &[u8], tables: Tables, runs: &[u16]) -> bool

@@ -2,7 +2,7 @@ use Rattle.read_image.proofs.tables_hold.patterns_hold.Statement.{state
 use Rattle.read_image.proofs.tables_hold.patterns_hold.Tie as tie
 use Rattle.read_image.proofs.tables_hold.patterns_hold.Reads as reads
 use Rattle.read_image.proofs.tables_hold.patterns_hold.Lts as lts
-use Rattle.row_rules.proofs.patterns.pattern_holds.Reads as pattern-holds-reads
+use Rattle.pattern_rules.proofs.patterns.pattern_holds.Reads as pattern-holds-reads
 use native.Mathlib.Omega.{arith}
 use Prim.Native.Nat.{ℕ, _-_, _≤_}
 use mathlib.Core.Path.{_≡_, refl, sym, ap, _∙_}

@@ -2,7 +2,7 @@ use Rattle.read_image.proofs.tables_hold.types_hold.Statement.{statemen
 use Rattle.read_image.proofs.tables_hold.types_hold.Tie as tie
 use Rattle.read_image.proofs.tables_hold.types_hold.Reads as reads
 use Rattle.read_image.proofs.tables_hold.types_hold.Lts as lts
-use Rattle.row_rules.proofs.types.type_holds.Reads as type-holds-reads
+use Rattle.type_rules.proofs.type_holds.Reads as type-holds-reads
 use native.Mathlib.Omega.{arith}
 use Prim.Native.Nat.{ℕ, _-_, _≤_}
 use mathlib.Core.Path.{_≡_, refl, sym, ap, _∙_}

@@ -2,7 +2,7 @@ use Rattle.read_image.proofs.tables_hold.variants_hold.Statement.{state
 use Rattle.read_image.proofs.tables_hold.variants_hold.Tie as tie
 use Rattle.read_image.proofs.tables_hold.variants_hold.Reads as reads
 use Rattle.read_image.proofs.tables_hold.variants_hold.Lts as lts
-use Rattle.row_rules.proofs.types.variant_holds.Reads as variant-holds-reads
+use Rattle.type_rules.proofs.variant_holds.Reads as variant-holds-reads
 use native.Mathlib.Omega.{arith}
 use Prim.Native.Nat.{ℕ, _-_, _≤_}
 use mathlib.Core.Path.{_≡_, refl, sym, ap, _∙_}
