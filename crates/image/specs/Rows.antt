@@ -18,6 +18,7 @@ typeRow image k = record { kind = wordAt image k; a = wordAt image (k + 2); b = 
 unfoldable pub typeAt : List ℕ → ℕ → TypeRow
 typeAt image t = typeRow image (typesAt image + 10 * t)
 
+-- the three words of a variant that begin at byte k
 abbrev pub variantRow : List ℕ → ℕ → VariantRow
 variantRow image k = record { fields = wordAt image k; count = wordAt image (k + 2); discriminant = wordAt image (k + 4) }
 
@@ -25,6 +26,7 @@ variantRow image k = record { fields = wordAt image k; count = wordAt image (k +
 unfoldable pub variantAt : List ℕ → ℕ → VariantRow
 variantAt image v = variantRow image (variantsAt image + 6 * v)
 
+-- the seven words of a pattern that begin at byte k
 abbrev pub patRow : List ℕ → ℕ → PatRow
 patRow image k =
     record {
@@ -41,6 +43,7 @@ patRow image k =
 unfoldable pub patAt : List ℕ → ℕ → PatRow
 patAt image p = patRow image (patternsAt image + 14 * p)
 
+-- the two words of a binding that begin at byte k
 abbrev pub bindingRow : List ℕ → ℕ → BindingRow
 bindingRow image k = record { ty = wordAt image k; picked = wordAt image (k + 2) }
 
@@ -52,6 +55,7 @@ bindingAt image b = bindingRow image (bindingsAt image + 4 * b)
 unfoldable pub listAt : List ℕ → ℕ → ℕ
 listAt image i = wordAt image (listStart image + 2 * i)
 
+-- the three words of an operand that begin at byte k
 abbrev pub operandRow : List ℕ → ℕ → OperandRow
 operandRow image k = record { kind = wordAt image k; offset = wordAt image (k + 2); count = wordAt image (k + 4) }
 

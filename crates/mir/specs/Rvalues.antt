@@ -17,10 +17,12 @@ use Rattle.mir.specs.Statements.{placeWords}
 unfoldable pub constantWords : Constant → List ℕ
 constantWords c = 2 ∷ c .count ∷ c .ty ∷ c .offset ∷ (fourWords (c .low) ++ fourWords (c .high))
 
+-- the left operand of an operator
 unfoldable pub leftWords : Left → List ℕ
 leftWords (Left.Local l) = 1 ∷ l .0 ∷ zeros 10
 leftWords (Left.Constant c) = constantWords c
 
+-- the kind of what is made of a place
 unfoldable pub placeRvalueKind : PlaceRvalue → ℕ
 placeRvalueKind PlaceRvalue.Copy = 3
 placeRvalueKind PlaceRvalue.Ref = 4
@@ -28,6 +30,7 @@ placeRvalueKind PlaceRvalue.Mut = 5
 placeRvalueKind PlaceRvalue.Len = 6
 placeRvalueKind PlaceRvalue.Discr = 7
 
+-- the kind of an operator
 unfoldable pub binaryKind : BinOp → ℕ
 binaryKind BinOp.Eq = 9
 binaryKind BinOp.Le = 10
@@ -37,17 +40,22 @@ binaryKind BinOp.Ge = 11
 abbrev pub statementRow : BasicBlockId → ℕ → LocalId → List ℕ → List ℕ → List ℕ
 statementRow block kind l operand place = (block .0 ∷ kind ∷ l .0 ∷ []) ++ (operand ++ place)
 
+-- StorageLive of a local
 unfoldable pub liveRow : BasicBlockId → LocalId → List ℕ
 liveRow block l = statementRow block 1 l (zeros 12) (zeros 34)
 
+-- StorageDead of a local
 unfoldable pub deadRow : BasicBlockId → LocalId → List ℕ
 deadRow block l = statementRow block 2 l (zeros 12) (zeros 34)
 
+-- a local set to what is made of a place
 unfoldable pub placeRvalueRow : BasicBlockId → LocalId → PlaceRvalue → Place → List ℕ
 placeRvalueRow block target rvalue place = statementRow block (placeRvalueKind rvalue) target (zeros 12) (placeWords place)
 
+-- a local set to a constant
 unfoldable pub constantRow : BasicBlockId → LocalId → Constant → List ℕ
 constantRow block target constant = statementRow block 8 target (constantWords constant) (zeros 34)
 
+-- a local set to what an operator makes of a left operand and a copy of a place
 unfoldable pub binaryRow : BasicBlockId → LocalId → BinOp → Left → Place → List ℕ
 binaryRow block target op left place = statementRow block (binaryKind op) target (leftWords left) (placeWords place)

@@ -82,6 +82,7 @@ adtDowncastTy AdtKind.Enum e v variants = cond (member v variants) (PlaceTy.Vari
 adtDowncastTy AdtKind.Union e v variants = PlaceTy.Inapplicable
 adtDowncastTy AdtKind.Unknown e v variants = PlaceTy.Inapplicable
 
+-- a variant of a type: an enum has some
 unfoldable pub downcastTy : ℕ → ℕ → Shape → PlaceTy
 downcastTy e v (integer size signed) = PlaceTy.Inapplicable
 downcastTy e v bool = PlaceTy.Inapplicable

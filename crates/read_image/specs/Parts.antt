@@ -25,6 +25,7 @@ pub record Begun (image : List ℕ) : Type 0 where
   pub counted : countsWhatFollows image ≡ true
   pub version : versionIsOne image ≡ true
 
+-- the tables' places, where the frame holds
 unfoldable pub frameOf : List ℕ → Read
 frameOf image = cond (framed image) (Read.Image (tablesOf image)) Read.Refused
 
