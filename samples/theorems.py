@@ -16,8 +16,8 @@ HEAD = """-- The samples, computed: which of them are valid, by the definition. 
 -- Assumes nothing.
 use Prim.Native.Nat.{ℕ}
 use mathlib.Core.Path.{_≡_, refl}
-use mathlib.Core.Bool.{Bool, true, false}
-use mathlib.Core.List.{List, [], _∷_, map}
+use mathlib.Core.Bool.{true, false}
+use mathlib.Core.List.{List, [], _∷_}
 use Rattle.image.specs.Bytes.{wordAt, littleEndian}
 use Rattle.image.specs.Tables.{tablesOf}
 use Rattle.image.specs.Rows.{typeAt, variantAt, patAt, bindingAt, listAt, operandAt, operandBytes}
@@ -53,4 +53,5 @@ def main():
         print(f"{name}-valid : valid {name} ≡ {answer}\nunfolding {OPENED}\n{name}-valid = refl\n")
 
 
-main()
+if __name__ == "__main__":
+    main()

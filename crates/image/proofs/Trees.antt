@@ -1,7 +1,7 @@
 -- The tree of a pattern of a valid image is its node over the trees of its subpatterns. Assumes nothing.
-use Prim.Native.Nat.{ℕ, zero, suc, _+_, _≤_, _<_}
+use Prim.Native.Nat.{ℕ, zero, suc, _+_, _<_}
 use mathlib.Core.Path.{_≡_, refl, ap, ap₂}
-use mathlib.Core.Bool.{Bool, true, false, cond, _&&_}
+use mathlib.Core.Bool.{Bool, true, false, cond}
 use mathlib.Core.List.{List, [], _∷_, _++_}
 use native.Mathlib.Nat.{lt-trans}
 use native.Mathlib.Omega.{arith}
@@ -14,10 +14,10 @@ use Rattle.image.specs.Kinds.{patKind}
 use Rattle.image.specs.Rows.{patAt}
 use Rattle.image.specs.Lists.{allIn}
 use Rattle.image.specs.Rules.{absent, listed}
-use Rattle.image.specs.Subpatterns.{ifPresent, subpatternsBy, subpatterns}
+use Rattle.image.specs.Subpatterns.{ifPresent, subpatternsBy}
 use Rattle.image.specs.Patterns.{subpatternsBelow}
 use Rattle.image.specs.Valid.{rules, valid}
-use Rattle.image.specs.Tree.{Head, Pat, Pats, PatOpt, no, sub, trees, tree?, nodeBy, node, treeOf, tree, word?}
+use Rattle.image.specs.Tree.{Head, Pat, Pats, no, sub, trees, tree?, nodeBy, node, treeOf, tree, word?}
 use Rattle.image.proofs.Bools.{and-left, and-right, all-true-at, below-at, all-in-left, all-in-right}
 
 abbrev below : ℕ → List ℕ → Type 0

@@ -12,7 +12,7 @@ use Rattle.image.specs.Bytes.{byteAt, longAt}
 use Rattle.image.specs.Tables.{typeCount, variantCount, patternCount, bindingCount, listCount, dataCount, tablesEnd}
 use Rattle.image.specs.Kinds.{typeKind, adtKind}
 use Rattle.image.specs.Rows.{typeAt, variantAt, bindingAt, listAt}
-use Rattle.image.specs.Lists.{allBelow, allIn, distinct, upFrom, gather}
+use Rattle.image.specs.Lists.{allIn, distinct, upFrom, gather}
 
 -- "Four bytes, big-endian: how many bytes follow."
 unfoldable pub countsWhatFollows : List ℕ → Bool

@@ -1,6 +1,6 @@
 -- The subpatterns of a pattern, in order. Assumes nothing: these are definitions.
 use Prim.Native.Nat.{ℕ, _+_}
-use mathlib.Core.Bool.{Bool, cond}
+use mathlib.Core.Bool.{cond}
 use mathlib.Core.List.{List, [], _∷_, _++_}
 use lib.Dec.{eqb}
 use Rattle.image.specs.declared.kinds.PatKind.{PatKind}

@@ -5,7 +5,6 @@ use Prim.Native.Nat.{ℕ, _+_, _*_, _≤_}
 use mathlib.Core.Path.{_≡_}
 use mathlib.Core.List.{List}
 use lib.ListN.{length}
-use Rattle.image.specs.declared.Table.{Table}
 use Rattle.image.specs.declared.Tables.{Tables}
 use Rattle.image.specs.Bytes.{wordAt}
 

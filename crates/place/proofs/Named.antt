@@ -1,18 +1,18 @@
 -- In a valid image the numbers of a place's type name entries, however far the projection goes. Assumes nothing.
 use Prim.Native.Nat.{ℕ, zero, suc, _+_, _≤_, _<_}
-use mathlib.Core.Path.{_≡_, refl, sym, ap, _∙_}
-use mathlib.Core.Bool.{Bool, true, false, cond, not, _&&_, _||_, false≢true}
+use mathlib.Core.Path.{_≡_, refl}
+use mathlib.Core.Bool.{Bool, true, false, cond, not, _||_, false≢true}
 use mathlib.Core.List.{List, [], _∷_}
 use native.Mathlib.Omega.{arith}
 use borrow.Author.Tests.{ltb-true, eqb-true}
-use lib.Dec.{eqb, leb, ltb}
+use lib.Dec.{eqb, ltb}
 use lib.ListN.{length, getD}
 use Rattle.image.specs.declared.kinds.TypeKind.{TypeKind}
 use Rattle.image.specs.declared.kinds.AdtKind.{AdtKind}
 use Rattle.image.specs.declared.rows.TypeRow.{TypeRow}
 use Rattle.image.specs.Tables.{typeCount, variantCount, dataCount}
-use Rattle.image.specs.Kinds.{typeKind, adtKind}
-use Rattle.image.specs.Rows.{typeAt, variantAt}
+use Rattle.image.specs.Kinds.{adtKind}
+use Rattle.image.specs.Rows.{variantAt}
 use Rattle.image.specs.Lists.{allIn, member, upFrom}
 use Rattle.image.specs.Rules.{absent, inTable, namesType, listed, typesListed, typeShapeHolds, variantHolds}
 use Rattle.image.specs.Types.{shapeBy, tyOf, variantOf}

@@ -1,17 +1,15 @@
 -- One element more of a projection. Assumes nothing.
 use Prim.Native.Nat.{ℕ, _+_, _*_, _/_, _%_, _≤_, _<_}
-use mathlib.Core.Path.{_≡_, refl, sym, ap, ap₂, _∙_}
-use mathlib.Core.Bool.{Bool, true, false, false≢true}
-use mathlib.Core.List.{List, [], _∷_, _++_, map, map-append}
+use mathlib.Core.Path.{_≡_, refl, sym, ap, _∙_}
+use mathlib.Core.Bool.{true, false, false≢true}
+use mathlib.Core.List.{[], _∷_, _++_, map, map-append}
 use native.Mathlib.Nat.{add-mul-mod-self-left, mod-eq-of-lt}
 use native.Mathlib.Numerals.{add-one}
 use native.Mathlib.Omega.{arith}
 use borrow.Author.Tests.{le-ltb, lt-ltb}
 use lib.ListN.{length, getD, set, take}
 use lib.Seq.{take-suc-set}
-use Rattle.place.specs.declared.LocalId.{LocalId}
 use Rattle.place.specs.declared.Place.{Place}
-use Rattle.place.specs.declared.Projected.{Projected}
 use Rattle.place.specs.declared.elems.ProjectionElem.{ProjectionElem}
 use Rattle.place.specs.Elems.{elemKinds, elemOf, wordOf, Fits}
 use Rattle.place.specs.Places.{projectionOf, Projects}

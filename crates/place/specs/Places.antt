@@ -1,11 +1,9 @@
 -- Places, and one element more. Assumes nothing: these are definitions.
-use Prim.Native.Nat.{ℕ}
 use mathlib.Core.Path.{_≡_}
-use mathlib.Core.Bool.{Bool, true}
+use mathlib.Core.Bool.{true}
 use mathlib.Core.List.{List, [], _∷_, _++_, map}
 use lib.Dec.{ltb}
 use lib.ListN.{take}
-use Rattle.place.specs.declared.LocalId.{LocalId}
 use Rattle.place.specs.declared.Place.{Place}
 use Rattle.place.specs.declared.Projected.{Projected}
 use Rattle.place.specs.declared.elems.ProjectionElem.{ProjectionElem}

@@ -1,19 +1,18 @@
 -- The ways through `read_image`, over the parts of the test. Assumes nothing.
 use Prim.Native.Nat.{ℕ}
 use mathlib.Core.Path.{_≡_, refl, sym, ap, _∙_}
-use mathlib.Core.Bool.{Bool, true, false, cond, _&&_, true≢false, false≢true}
+use mathlib.Core.Bool.{Bool, true, false, _&&_, true≢false, false≢true}
 use mathlib.Core.List.{List, [], _∷_}
-use mathlib.Core.Option.{Option, none, some}
 use Rattle.image.specs.declared.Tables.{Tables}
 use Rattle.image.specs.Tables.{typeCount, variantCount, patternCount, bindingCount, tablesOf}
 use Rattle.image.specs.Lists.{allBelow, allTrue}
-use Rattle.image.specs.Rules.{countsWhatFollows, versionIsOne, tablesFillTheRest, typeHolds, variantHolds, bindingHolds, adtsShareNoVariant, withinLimits}
+use Rattle.image.specs.Rules.{typeHolds, variantHolds, bindingHolds, adtsShareNoVariant}
 use Rattle.image.specs.Patterns.{patternHolds, subpatternsBelow, usedOnce}
 use Rattle.image.specs.Valid.{rules, valid}
 use Rattle.image.proofs.Bools.{and-left, and-right, and-true, all-true-at}
 use Rattle.read_image.specs.declared.Read.{Read}
 use Rattle.read_image.specs.Parts.{framed, rowsHold}
-use Rattle.read_image.specs.Read.{readOf, refusalOf, breaksARule, Reads}
+use Rattle.read_image.specs.Read.{readOf, Reads}
 use Rattle.read_image.proofs.Frames.{frame-rules}
 
 module _ (image : List ℕ) where

@@ -4,19 +4,10 @@ use mathlib.Core.Path.{_≡_}
 use mathlib.Core.Bool.{cond}
 use mathlib.Core.Option.{Option, none, some}
 use mathlib.Core.List.{List}
+use Rattle.refusals.specs.Refusals.{Refusal, breaksARule}
 use Rattle.image.specs.Tables.{tablesOf}
 use Rattle.image.specs.Valid.{valid}
 use Rattle.read_image.specs.declared.Read.{Read}
-
--- document 01's three numbers of a refusal: "number, pattern (65535 if none), reason"
-pub record Refusal : Type 0 where
-  pub number : ℕ
-  pub pattern : ℕ
-  pub reason : ℕ
-
--- "1, 65535, 0: image or parameter list breaks a rule above"
-abbrev pub breaksARule : Refusal
-breaksARule = record { number = 1; pattern = 65535; reason = 0 }
 
 -- the numbers of an answer, where it is a refusal
 abbrev pub refusalOf : Read → Option Refusal

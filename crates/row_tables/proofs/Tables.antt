@@ -19,7 +19,7 @@ take-drop (suc n) m [] = take-nil m ∙ sym (ap (drop (suc n)) (take-nil (suc n 
 take-drop (suc n) m (x ∷ l) = take-drop n m l ∙ sym (ap (λ (k : ℕ). drop (suc n) (take k (x ∷ l))) (suc-add n m))
 
 -- lists with the same first numbers have fewer of them the same
-take-less : (m n : ℕ) (t s : List ℕ) → m ≤ n → take n t ≡ take n s → take m t ≡ take m s
+pub take-less : (m n : ℕ) (t s : List ℕ) → m ≤ n → take n t ≡ take n s → take m t ≡ take m s
 take-less m n t s h e = sym (take-take m n t h) ∙ ap (take m) e ∙ take-take m n s h
 
 -- a row below n ends where row n begins, or before

@@ -1,10 +1,10 @@
 -- What some samples stand for, and the ends of the integer types, computed. Assumes nothing.
-use Prim.Native.Nat.{ℕ, zero, suc}
+use Prim.Native.Nat.{ℕ}
 use mathlib.Core.Path.{_≡_, refl}
-use mathlib.Core.Bool.{Bool, true, false}
-use mathlib.Core.Option.{Option, none, some}
-use mathlib.Core.List.{List, [], _∷_, map}
-use lib.IntN.{ℤ, pos, negsuc}
+use mathlib.Core.Bool.{true, false}
+use mathlib.Core.Option.{none, some}
+use mathlib.Core.List.{[], _∷_}
+use lib.IntN.{pos, negsuc}
 use lib.ListN.{replicate}
 use Rattle.image.specs.declared.kinds.OperandKind.{OperandKind}
 use Rattle.image.specs.declared.kinds.BindingMode.{BindingMode}
@@ -14,9 +14,9 @@ use Rattle.image.specs.Bytes.{wordAt, littleEndian}
 use Rattle.image.specs.Rows.{typeAt, variantAt, patAt, listAt, operandAt, operandBytes}
 use Rattle.image.specs.Lists.{upFrom}
 use Rattle.image.specs.Rules.{listed}
-use Rattle.image.specs.Types.{integer, tuple, adt, Ty, Variant, Operand, shapeBy, tyOf, variantOf, operandOf}
+use Rattle.image.specs.Types.{adt, Operand, shapeBy, tyOf, variantOf, operandOf}
 use Rattle.image.specs.Integers.{leastValue, greatestValue, inRange, integerValue}
-use Rattle.image.specs.Tree.{Head, Pat, Pats, nil, cons, no, sub, word?, operand?, trees, tree?, target, nodeBy, node, treeOf, tree}
+use Rattle.image.specs.Tree.{Head, Pat, nil, cons, no, sub, word?, trees, tree?, nodeBy, node, treeOf, tree}
 use Rattle.samples.proofs.Samples.{or-1-2, tuple-ellipsis, slice-rest, enum-fields}
 
 abbrev head : ℕ → ℕ → ℕ → Head

@@ -1,10 +1,7 @@
 -- The types of places in some samples, computed. Assumes nothing.
-use Prim.Native.Nat.{ℕ, zero, suc}
 use mathlib.Core.Path.{_≡_, refl}
-use mathlib.Core.Bool.{Bool, true, false}
-use mathlib.Core.List.{List, [], _∷_}
-use lib.ListN.{getD}
-use Rattle.image.specs.Bytes.{wordAt, littleEndian}
+use mathlib.Core.List.{[], _∷_}
+use Rattle.image.specs.Bytes.{wordAt}
 use Rattle.image.specs.Rows.{typeAt, variantAt, listAt}
 use Rattle.image.specs.Lists.{member, upFrom}
 use Rattle.image.specs.Rules.{listed}

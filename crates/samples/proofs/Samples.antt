@@ -2,8 +2,8 @@
 -- Assumes nothing.
 use Prim.Native.Nat.{ℕ}
 use mathlib.Core.Path.{_≡_, refl}
-use mathlib.Core.Bool.{Bool, true, false}
-use mathlib.Core.List.{List, [], _∷_, map}
+use mathlib.Core.Bool.{true, false}
+use mathlib.Core.List.{List, [], _∷_}
 use Rattle.image.specs.Bytes.{wordAt, littleEndian}
 use Rattle.image.specs.Tables.{tablesOf}
 use Rattle.image.specs.Rows.{typeAt, variantAt, patAt, bindingAt, listAt, operandAt, operandBytes}

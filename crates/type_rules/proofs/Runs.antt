@@ -1,20 +1,20 @@
 -- The laws of the runs of type numbers. Assumes nothing.
 use Prim.Native.Nat.{ℕ, zero, suc, _+_, _-_, _≤_, _<_}
-use mathlib.Core.Path.{_≡_, refl, sym, ap, subst, _∙_}
+use mathlib.Core.Path.{_≡_, refl, sym, ap, _∙_}
 use mathlib.Core.Bool.{Bool, true, false, cond, _&&_}
-use mathlib.Core.List.{List, [], _∷_}
+use mathlib.Core.List.{List}
 use mathlib.Core.Logic.{⊎-elim}
 use native.Mathlib.Nat.{eq-or-lt-of-le}
 use native.Mathlib.Numerals.{add-one}
 use native.Mathlib.Omega.{arith}
 use borrow.Author.Tests.{le-leb}
-use lib.Dec.{leb, ltb, leb·zero, leb·suc-zero, leb·suc-suc}
+use lib.Dec.{leb, leb·zero, leb·suc-zero, leb·suc-suc}
 use lib.ListN.{length, getD, set, replicate, length-set, length-replicate, getD-replicate}
 use lib.Seq.{getD-set-same, getD-set-other}
 use Rattle.image.specs.Tables.{listCount}
 use Rattle.image.specs.Rows.{listAt}
 use Rattle.image.specs.Lists.{allIn}
-use Rattle.image.specs.Rules.{namesType, listed, inTable, typesListed}
+use Rattle.image.specs.Rules.{namesType, listed, typesListed}
 use Rattle.type_rules.specs.Runs.{run, Runs}
 
 -- a range lies within a run where each of its words names a type
