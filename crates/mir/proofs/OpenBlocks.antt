@@ -1,15 +1,14 @@
 -- The rows of blocks. Assumes nothing.
 use Prim.Native.Nat.{ℕ, zero, suc, _+_, _*_, _-_, _≤_}
-use mathlib.Core.Path.{_≡_, refl, sym, ap, _∙_}
-use mathlib.Core.Bool.{true}
+use mathlib.Core.Path.{_≡_, refl, ap, _∙_}
 use mathlib.Core.List.{List, [], _∷_, _++_}
 use native.Mathlib.Numerals.{add-one}
 use native.Mathlib.Omega.{arith}
-use lib.ListN.{length, getD, take, drop, replicate}
+use lib.ListN.{length, getD, take, drop}
 use lib.Seq.{getD-take, getD-drop}
 use Rattle.row_tables.specs.Rows.{zeros, rowAt, rowsOf, Blank}
 use Rattle.mir.specs.declared.blocks.Terminator.{Terminator}
-use Rattle.mir.specs.Blocks.{termRow, isOpen}
+use Rattle.mir.specs.Blocks.{termRow}
 
 -- the first word of a row
 pub first-word : (t : List ℕ) (b : ℕ) → getD (rowAt 12 t b) 0 0 ≡ getD t (12 * b) 0

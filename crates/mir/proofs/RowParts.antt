@@ -1,5 +1,5 @@
 -- A row that is stored in parts, one behind the other; and a place's elements, stored as halves. Assumes nothing.
-use Prim.Native.Nat.{ℕ, zero, suc, _+_, _*_, _-_, _/_, _%_, _≤_, _<_}
+use Prim.Native.Nat.{ℕ, _+_, _*_, _/_, _%_, _≤_, _<_}
 use mathlib.Core.Path.{_≡_, refl, sym, ap, _∙_}
 use mathlib.Core.List.{List, [], _∷_, _++_, append-assoc, append-nil}
 use native.Mathlib.Numerals.{add-one}
@@ -7,7 +7,6 @@ use native.Mathlib.Omega.{arith}
 use lib.ListN.{length, getD, set, take, drop, replicate, length-append, length-set, take-append-drop}
 use lib.Seq.{length-take-le, take-at, drop-at, drop-drop, sets-eq, take-suc, take-all}
 use Rattle.row_tables.specs.Rows.{stored}
-use Rattle.row_tables.proofs.Tables.{length-stored}
 use Rattle.mir.specs.Statements.{halves}
 
 -- two parts stored one behind the other are their join, stored

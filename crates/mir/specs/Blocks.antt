@@ -1,13 +1,10 @@
 -- Blocks and their terminators, in rows of 12 words of a table of 512. Assumes nothing: these are definitions.
-use Prim.Native.Nat.{ℕ, _+_, _*_, _/_, _%_, _<_}
-use mathlib.Core.Path.{_≡_}
+use Prim.Native.Nat.{ℕ, _+_, _/_, _%_}
 use mathlib.Core.Bool.{Bool, cond}
 use mathlib.Core.List.{List, [], _∷_, _++_}
 use lib.Dec.{eqb, ltb}
 use lib.ListN.{getD}
-use Rattle.row_tables.specs.Rows.{zeros, rowAt}
-use Rattle.place.specs.declared.LocalId.{LocalId}
-use Rattle.mir.specs.declared.BasicBlockId.{BasicBlockId}
+use Rattle.row_tables.specs.Rows.{zeros}
 use Rattle.mir.specs.declared.Counts.{Counts}
 use Rattle.mir.specs.declared.blocks.Terminator.{Terminator}
 use Rattle.mir.specs.declared.blocks.NewBlock.{NewBlock}

@@ -1,11 +1,10 @@
 -- Statements, in rows of 49 words of a table of 1,024, in order of creation: the block's number, the kind, a local, a left operand of 12 words and a place
 -- of 34. Assumes nothing: these are definitions.
 use Prim.Native.Nat.{ℕ, _+_, _*_, _/_, _%_}
-use mathlib.Core.Bool.{Bool, cond}
-use mathlib.Core.List.{List, [], _∷_, _++_}
+use mathlib.Core.Bool.{cond}
+use mathlib.Core.List.{List, [], _∷_}
 use lib.Dec.{ltb}
 use Rattle.row_tables.specs.Rows.{stored}
-use Rattle.place.specs.declared.LocalId.{LocalId}
 use Rattle.place.specs.declared.Place.{Place}
 use Rattle.mir.specs.declared.Counts.{Counts}
 use Rattle.mir.specs.declared.scopes.Counted.{Counted}

@@ -3,7 +3,7 @@ use super::BasicBlockId;
 use super::Counts;
 use super::scopes::Counted;
 use super::statements::place_words;
-use super::statements::push_row;
+use super::statements::push_statement;
 use place::LocalId;
 use place::Place;
 ghost use mathlib.Core.Path.{_≡_};
@@ -99,7 +99,7 @@ pub fn push_live(statements: &mut [u16], counts: Counts, block: BasicBlockId, l:
     requires { ⌜ length (now statements) ≡ 50176 ⌝ }
     ensures { λ r. ⌜ (r ≡ newStatement counts) × (now (statements .exit) ≡ statementsAfter counts (now (statements .entry)) (liveRow block l)) ⌝ }
 {
-    push_row(
+    push_statement(
         statements,
         counts,
         [block.0, 1, l.0],
@@ -113,7 +113,7 @@ pub fn push_dead(statements: &mut [u16], counts: Counts, block: BasicBlockId, l:
     requires { ⌜ length (now statements) ≡ 50176 ⌝ }
     ensures { λ r. ⌜ (r ≡ newStatement counts) × (now (statements .exit) ≡ statementsAfter counts (now (statements .entry)) (deadRow block l)) ⌝ }
 {
-    push_row(
+    push_statement(
         statements,
         counts,
         [block.0, 2, l.0],
@@ -123,7 +123,7 @@ pub fn push_dead(statements: &mut [u16], counts: Counts, block: BasicBlockId, l:
 }
 
 // A local set to what is made of a place.
-pub fn push_place_rvalue(
+pub fn push_assignment(
     statements: &mut [u16],
     counts: Counts,
     block: BasicBlockId,
@@ -136,7 +136,7 @@ pub fn push_place_rvalue(
 {
     let kind = place_rvalue_kind(rvalue);
     let words = place_words(place);
-    push_row(
+    push_statement(
         statements,
         counts,
         [block.0, kind, target.0],
@@ -146,7 +146,7 @@ pub fn push_place_rvalue(
 }
 
 // A local set to a constant.
-pub fn push_constant(
+pub fn push_constant_assignment(
     statements: &mut [u16],
     counts: Counts,
     block: BasicBlockId,
@@ -157,7 +157,7 @@ pub fn push_constant(
     ensures { λ r. ⌜ (r ≡ newStatement counts) × (now (statements .exit) ≡ statementsAfter counts (now (statements .entry)) (constantRow block target constant)) ⌝ }
 {
     let words = constant_words(constant);
-    push_row(
+    push_statement(
         statements,
         counts,
         [block.0, 8, target.0],
@@ -167,7 +167,7 @@ pub fn push_constant(
 }
 
 // A local set to what an operator makes of a left operand and a copy of a place.
-pub fn push_binary(
+pub fn push_binary_assignment(
     statements: &mut [u16],
     counts: Counts,
     block: BasicBlockId,
@@ -182,7 +182,7 @@ pub fn push_binary(
     let kind = binary_kind(op);
     let operand = left_words(left);
     let words = place_words(place);
-    push_row(
+    push_statement(
         statements,
         counts,
         [block.0, kind, target.0],

@@ -36,7 +36,7 @@ fn split_elems(elems: &[u32], words: &mut [u16])
 }
 
 // A statement at the end of the table: its block, its kind, the local that it is about, its left operand and its place.
-pub fn push_row(
+pub fn push_statement(
     statements: &mut [u16],
     counts: Counts,
     head: [u16; 3],

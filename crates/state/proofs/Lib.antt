@@ -1,0 +1,5 @@
+pub mod Words
+pub mod RowLengths
+pub mod Answering
+pub mod Stepping
+pub mod Calls
