@@ -1,0 +1,4 @@
+mod Loops
+mod BlockKinds
+mod RowWords
+pub mod Checked
