@@ -1,0 +1,4 @@
+mod Halves
+mod Constants
+mod Operands
+mod Answers
