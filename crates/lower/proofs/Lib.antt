@@ -1,0 +1,3 @@
+mod Marking
+mod Temporaries
+mod Joining

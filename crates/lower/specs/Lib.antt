@@ -1,0 +1,4 @@
+pub mod Temps
+pub mod Merging
+pub mod Replies
+pub mod Promises

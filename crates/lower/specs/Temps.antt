@@ -1,0 +1,50 @@
+-- Temporaries and live marks, as lower.rs makes them. Assumes nothing: these are definitions.
+use Prim.Native.Nat.{ℕ}
+use mathlib.Core.Bool.{Bool, cond, _&&_}
+use mathlib.Core.List.{List}
+use lib.Dec.{eqb, ltb}
+use lib.ListN.{length, getD}
+use Rattle.refusals.specs.declared.MirLowerError.{MirLowerError}
+use Rattle.refusals.specs.Refusals.{Result, ok, refused, andThen}
+use Rattle.image.specs.Tables.{typeCount}
+use Rattle.image.specs.Rows.{typeAt}
+use Rattle.place.specs.declared.LocalId.{LocalId}
+use Rattle.mir.specs.declared.BasicBlockId.{BasicBlockId}
+use Rattle.mir.specs.Rvalues.{liveRow}
+use Rattle.state.specs.State.{State}
+use Rattle.state.specs.Steps.{nextLocal, tryLocal, tryEntry, tryStatement}
+use Rattle.lower.specs.declared.temps.DiscrTemp.{DiscrTemp}
+
+-- the word of a local's type says a slice, kind 9 of the type table; str is none
+unfoldable pub isSlice : List ℕ → ℕ → Bool
+isSlice image word = ltb word (typeCount image) && eqb (typeAt image word .kind) 9
+
+-- a local as the last entry of the last scope, and live from the end of a block on; without a scope document 01's number 14
+unfoldable pub pushStorageLiveForLocal : State → LocalId → BasicBlockId → Result State
+pushStorageLiveForLocal st l block =
+    cond (eqb (length (st .scopes)) 0) (refused MirLowerError.NoScope)
+    (andThen (tryEntry st l) (λ st₁. tryStatement st₁ (liveRow block l)))
+
+-- a temporary of the type that the word says, live from the end of a block on: its number is `nextLocal st`; one of slice type is refused
+unfoldable pub temp : List ℕ → State → ℕ → BasicBlockId → Result State
+temp image st word block =
+    cond (isSlice image word) (refused MirLowerError.UnsizedTemporary)
+    (andThen (tryLocal st word) (λ st₁. pushStorageLiveForLocal st₁ (nextLocal st) block))
+
+-- the local of a binding: a word of the bindings' table, in which 65535 stands for none
+unfoldable pub bindingLocal : List ℕ → ℕ → Result LocalId
+bindingLocal locals b = cond (eqb (getD locals b 65535) 65535) (refused MirLowerError.InaccessibleLocal) (ok (record { 0 = getD locals b 65535 }))
+
+-- a binding's local, live from the end of a block on
+unfoldable pub pushStorageLive : State → List ℕ → ℕ → BasicBlockId → Result State
+pushStorageLive st locals b block = andThen (bindingLocal locals b) (λ l. pushStorageLiveForLocal st l block)
+
+-- the local that all tests of enums share: made at the first, of type i128 (word 258)
+unfoldable pub discrTempPlace : List ℕ → State → DiscrTemp → BasicBlockId → Result State
+discrTempPlace image st (DiscrTemp.Some l) block = ok st
+discrTempPlace image st DiscrTemp.None block = temp image st 258 block
+
+-- its number
+unfoldable pub discrLocal : State → DiscrTemp → LocalId
+discrLocal st (DiscrTemp.Some l) = l
+discrLocal st DiscrTemp.None = nextLocal st
