@@ -1,4 +1,4 @@
-"""Writes the samples and the stored list of images.
+"""Writes the samples and the stored lists of images and of calls.
 
 `python3 samples/make.py` writes every file; `python3 samples/make.py --check`
 writes none, and fails if a file is not what it would write.
@@ -9,6 +9,7 @@ from pathlib import Path
 
 sys.dont_write_bytecode = True
 
+from call_list import call_files
 from chance import chance_cases
 from faults import fault_cases
 from images import RULES, broken, read_counts
@@ -51,6 +52,35 @@ same; with `--check` it writes none and fails if one differs.
 - `chance.py`: random images and random damage, from a fixed seed.
 - `make.py`: puts them together and writes the files.
 - `theorems.py`: prints the samples as theorems about the definitions, for `crates/samples/proofs/Samples.antt`.
+
+## Listings
+
+Written from document 01 and the Rust alone, not from the definitions:
+
+- `lowering.py`: what the listing program prints. `python3 samples/lowering.py FILE`
+  prints the listing of an image. `builder.py` holds what lower.rs and mir.rs give it.
+- `corners.py`: checks document 01's corners, which are in `accepted.py` and
+  `refusals.py`. `python3 samples/corners.py` prints each with its listing's first line.
+- `counts.py`: visits, blocks and statements counted from the tree. `python3
+  samples/counts.py N` compares them with lowerings of N random images of each sort.
+- `typed_chance.py`: random images whose patterns follow their types.
+
+## Calls
+
+`crates/replay_calls/stdin` is a list of scripts: four big-endian bytes n, an image of n
+bytes, four big-endian bytes m, and m commands of four big-endian words. A command is one
+of the six calls on a body and its scopes, or sets a word of their tables, or a count.
+`crates/replay_calls/stdout` has a line for each call: its answer, the five counts, and a
+checksum of each table. `calls.txt` has for each script the number of its first line
+there, its name, and what it shows.
+
+- `calls.py`: answers the calls, by document 01 and the rows of `docs/BODY.md` alone, and
+  names the rules that number 2 is given for.
+- `call_notation.py`: the scripts' image, and a short notation for commands.
+- `call_scripts.py`: document 01's corners, the limits, restoration, zeros above the counts.
+- `call_faults.py`: numbers 1 and 2; every rule is broken alone at least once.
+- `call_chance.py`: random scripts, from a fixed seed.
+- `call_list.py`: judges them all, and holds them to the answers that they state.
 """
 
 
@@ -119,7 +149,8 @@ def all_files():
     files["samples/list.txt"] = "".join(
         f"{number} {name} {' '.join(rules) or 'valid'}\n"
         for number, (name, _, _, rules) in enumerate(cases, 1)).encode()
-    assert len(files["crates/replay_images/stdin"]) < LARGEST_FILE
+    files.update(call_files())
+    assert all(len(content) < LARGEST_FILE for content in files.values())
     return files
 
 

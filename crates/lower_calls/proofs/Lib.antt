@@ -1,0 +1,5 @@
+mod RowWords
+mod Clearing
+mod Restoring
+mod Prologue
+mod Answering

@@ -1,0 +1,146 @@
+// What is printed of an answer: each part has a space behind it, but the last checksum a line end.
+use libc::STDOUT_FILENO;
+use lower::merging::OptBlock;
+use lower_calls::DropCall;
+use lower_calls::MergeCall;
+use lower_calls::ScopeCall;
+use lower_calls::TempCall;
+use mir::Counts;
+use refusals::MirLowerError;
+
+// A number, and a space.
+fn print_number(number: u32) {
+    io::print_decimal(STDOUT_FILENO, number as u64);
+    io::write_all(STDOUT_FILENO, b" ");
+}
+
+// A refusal's number, pattern and reason: no call here has a pattern.
+fn print_refusal(number: u32, reason: u16) {
+    io::write_all(STDOUT_FILENO, b"refused ");
+    print_number(number);
+    print_number(65535);
+    print_number(reason as u32);
+}
+
+// The three numbers of an error.
+fn print_error(e: MirLowerError) {
+    match e {
+        MirLowerError::IncompletePattern => print_refusal(3, 0),
+        MirLowerError::TypeError(reason) => print_refusal(4, reason),
+        MirLowerError::UnresolvedField => print_refusal(5, 0),
+        MirLowerError::NotSupported => print_refusal(6, 0),
+        MirLowerError::Ellipsis => print_refusal(7, 0),
+        MirLowerError::UnsizedTemporary => print_refusal(8, 0),
+        MirLowerError::InaccessibleLocal => print_refusal(9, 0),
+        MirLowerError::Expr => print_refusal(10, 0),
+        MirLowerError::Limit => print_refusal(11, 0),
+        MirLowerError::PlaceType => print_refusal(12, 0),
+        MirLowerError::UnresolvedName => print_refusal(13, 0),
+        MirLowerError::NoScope => print_refusal(14, 0),
+    }
+}
+
+fn print_block(block: u16) {
+    io::write_all(STDOUT_FILENO, b"block ");
+    print_number(block as u32);
+}
+
+fn print_opt_block(block: OptBlock) {
+    match block {
+        OptBlock::None => {
+            io::write_all(STDOUT_FILENO, b"block - ");
+        }
+        OptBlock::Some(b) => print_block(b.0),
+    }
+}
+
+// The counts behind a call: those of its answer, or after a refusal those before.
+pub fn print_temp(answer: TempCall, before: Counts) -> Counts {
+    match answer {
+        TempCall::Local(counts, l) => {
+            io::write_all(STDOUT_FILENO, b"local ");
+            print_number(l.0 as u32);
+            return counts;
+        }
+        TempCall::Refused(e) => print_error(e),
+        TempCall::BadCall => print_refusal(2, 0),
+        TempCall::BadImage => print_refusal(1, 0),
+    }
+    before
+}
+
+pub fn print_merge(answer: MergeCall, before: Counts) -> Counts {
+    match answer {
+        MergeCall::At(counts, b) => {
+            print_opt_block(b);
+            return counts;
+        }
+        MergeCall::Refused(e) => print_error(e),
+        MergeCall::BadCall => print_refusal(2, 0),
+        MergeCall::BadImage => print_refusal(1, 0),
+    }
+    before
+}
+
+pub fn print_scope(answer: ScopeCall, before: Counts) -> Counts {
+    match answer {
+        ScopeCall::Now(counts) => {
+            io::write_all(STDOUT_FILENO, b"now ");
+            return counts;
+        }
+        ScopeCall::Refused(e) => print_error(e),
+        ScopeCall::BadCall => print_refusal(2, 0),
+        ScopeCall::BadImage => print_refusal(1, 0),
+    }
+    before
+}
+
+pub fn print_drop(answer: DropCall, before: Counts) -> Counts {
+    match answer {
+        DropCall::At(counts, b) => {
+            print_block(b.0);
+            return counts;
+        }
+        DropCall::Refused(e) => print_error(e),
+        DropCall::BadCall => print_refusal(2, 0),
+        DropCall::BadImage => print_refusal(1, 0),
+    }
+    before
+}
+
+// The five counts.
+pub fn print_counts(counts: Counts) {
+    print_number(counts.blocks as u32);
+    print_number(counts.statements as u32);
+    print_number(counts.locals as u32);
+    print_number(counts.scopes as u32);
+    print_number(counts.entries as u32);
+}
+
+// Modulo 2^32.
+fn plus(sum: u32, word: u16) -> u32 {
+    std::num::wrapping_add_u32(sum, word as u32)
+}
+
+// Each word of a table times its place, from 1 on, summed up modulo 2^32: from the end on, a word is in so many of the sums.
+fn checksum(table: &[u16]) -> u32 {
+    let mut behind = 0u32;
+    let mut sum = 0u32;
+    let mut i = table.len();
+    while i > 0 {
+        i -= 1;
+        behind = plus(behind, table[i]);
+        sum = std::num::wrapping_add_u32(sum, behind);
+    }
+    sum
+}
+
+// The checksums of the five tables, and the line's end.
+pub fn print_sums(blocks: &[u16], stmts: &[u16], locals: &[u16], scopes: &[u16], entries: &[u16]) {
+    print_number(checksum(blocks));
+    print_number(checksum(stmts));
+    print_number(checksum(locals));
+    print_number(checksum(scopes));
+    io::print_decimal(STDOUT_FILENO, checksum(entries) as u64);
+    io::write_all(STDOUT_FILENO, b"\n");
+}
