@@ -1,0 +1,5 @@
+pub mod Walking
+pub mod Tests
+pub mod Variants
+pub mod Slices
+pub mod Patterns
