@@ -1,0 +1,22 @@
+pub mod Holding
+pub mod Going
+mod Building
+pub mod Stepping
+pub mod Passing
+pub mod Typed
+mod Testing
+pub mod Arguments
+mod Rows
+mod Naming
+mod Binding
+mod Choosing
+mod Inside
+mod Leaves
+pub mod Trees
+mod Bounds
+mod Tallies
+mod Numbers
+mod Within
+pub mod Once
+pub mod Whole
+pub mod Visits

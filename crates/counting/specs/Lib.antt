@@ -1,0 +1,3 @@
+pub mod Reaching
+pub mod Counting
+pub mod Demand3

@@ -1,0 +1,287 @@
+-- Document 01's "reached" and "can fail", down the pattern tree from the type of its place. Assumes nothing: these are definitions.
+use Prim.Native.Nat.{ℕ, zero, suc, _+_}
+use mathlib.Core.Bool.{Bool, true, false, cond, _&&_, _||_}
+use mathlib.Core.Option.{Option, none, some}
+use mathlib.Core.List.{List, [], _∷_, _++_, map, reverse}
+use lib.ListN.{length, take, drop}
+use Rattle.image.specs.declared.kinds.AdtKind.{AdtKind}
+use Rattle.image.specs.Lists.{upFrom}
+use Rattle.image.specs.Types.{Shape, integer, bool, char, str, tuple, adt, reference, array, slice, unknown, tyOf, variantOf, Operand}
+use Rattle.image.specs.Tree.{Head, Target, unresolved, variant, local, constant, other, Pat, Pats, nil, cons, PatOpt, no, sub}
+use Rattle.place.specs.declared.elems.ProjectionElem.{ProjectionElem}
+use Rattle.place.specs.declared.place_ty.PlaceTy.{PlaceTy}
+use Rattle.place.specs.PlaceTypes.{projectionTy, multiProjectionTy}
+use Rattle.pattern_matching.specs.Variants.{shapeOf, fieldsUpTo}
+use Rattle.pattern_matching.specs.Slices.{RestOf}
+use Rattle.pattern_matching.specs.Patterns.{restOf}
+
+-- the type of a place behind so many references
+unfoldable pub behindDerefs : List ℕ → PlaceTy → ℕ → PlaceTy
+behindDerefs image ty zero = ty
+behindDerefs image ty (suc n) = behindDerefs image (projectionTy ty image ProjectionElem.Deref) n
+
+-- arguments and the elements that lead to them, in pairs; surplus ones of either are dropped, as by `zip`
+pub record Argument (A : Type 0) : Type 0 where
+  pub elems : List ProjectionElem
+  pub what : A
+
+unfoldable pub zip : {A : Type 0} → List ProjectionElem → List A → List (Argument A)
+zip [] xs = []
+zip (elem ∷ elems) [] = []
+zip (elem ∷ elems) (x ∷ xs) = record { elems = elem ∷ []; what = x } ∷ zip elems xs
+
+-- arguments in a row on so many fields, of which those from `at` on stand behind an ellipsis
+unfoldable pub inARow : {A : Type 0} → Option ℕ → ℕ → List A → List (Argument A)
+inARow none fields xs = zip (fieldsUpTo fields) xs
+inARow (some at) fields xs = zip (fieldsUpTo fields) (take at xs) ++ zip (reverse (fieldsUpTo fields)) (reverse (drop at xs))
+
+-- arguments by the numbers of their fields, those of them that there are
+unfoldable pub byFields : {A : Type 0} → List (Option ℕ) → List A → List (Argument A)
+byFields [] xs = []
+byFields (none ∷ fields) [] = []
+byFields (none ∷ fields) (x ∷ xs) = byFields fields xs
+byFields (some i ∷ fields) [] = []
+byFields (some i ∷ fields) (x ∷ xs) = record { elems = ProjectionElem.Field i ∷ []; what = x } ∷ byFields fields xs
+
+-- how many fields a tuple has
+unfoldable pub fieldCount : Option Shape → ℕ
+fieldCount none = 0
+fieldCount (some (integer size signed)) = 0
+fieldCount (some bool) = 0
+fieldCount (some char) = 0
+fieldCount (some str) = 0
+fieldCount (some (tuple fields)) = length fields
+fieldCount (some (adt kind variants)) = 0
+fieldCount (some (reference t)) = 0
+fieldCount (some (array t n)) = 0
+fieldCount (some (slice t)) = 0
+fieldCount (some unknown) = 0
+
+abbrev pub isEnumKind : AdtKind → Bool
+isEnumKind AdtKind.Struct = false
+isEnumKind AdtKind.Enum = true
+isEnumKind AdtKind.Union = false
+isEnumKind AdtKind.Unknown = false
+
+-- the type at the place is an enum
+unfoldable pub isEnum : Option Shape → Bool
+isEnum none = false
+isEnum (some (integer size signed)) = false
+isEnum (some bool) = false
+isEnum (some char) = false
+isEnum (some str) = false
+isEnum (some (tuple fields)) = false
+isEnum (some (adt kind variants)) = isEnumKind kind
+isEnum (some (reference t)) = false
+isEnum (some (array t n)) = false
+isEnum (some (slice t)) = false
+isEnum (some unknown) = false
+
+-- a pattern's own type is a slice
+unfoldable pub isSliceShape : Shape → Bool
+isSliceShape (integer size signed) = false
+isSliceShape bool = false
+isSliceShape char = false
+isSliceShape str = false
+isSliceShape (tuple fields) = false
+isSliceShape (adt kind variants) = false
+isSliceShape (reference t) = false
+isSliceShape (array t n) = false
+isSliceShape (slice t) = true
+isSliceShape unknown = false
+
+-- the fields of an enum's variant lie behind a Downcast
+unfoldable pub downcast : {A : Type 0} → Bool → ℕ → List (Argument A) → List (Argument A)
+downcast false v args = args
+downcast true v args = map (λ arg. record { elems = ProjectionElem.Downcast v ∷ arg .elems; what = arg .what }) args
+
+-- the arguments of a pattern that names a variant, on a place of this type
+unfoldable pub ofVariant : {A : Type 0} → List ℕ → PlaceTy → Option ℕ → (ℕ → List (Argument A)) → List (Argument A)
+ofVariant image ty none args = []
+ofVariant image ty (some v) args = downcast (isEnum (shapeOf image ty)) v (args (length (variantOf image v .fields)))
+
+-- the items of a Slice pattern
+unfoldable pub items : {A : Type 0} → List A → List A → List (Argument A)
+items prefix suffix =
+    zip (map (λ i. ProjectionElem.Index i) (upFrom 0 (length prefix))) prefix
+    ++ zip (map (λ i. ProjectionElem.IndexFromEnd i) (upFrom 0 (length suffix))) suffix
+
+-- what holds of one of the arguments, each at its type
+unfoldable pub someArgument : List ℕ → PlaceTy → List (Argument (PlaceTy → Bool)) → Bool
+someArgument image ty [] = false
+someArgument image ty (arg ∷ args) = (arg .what) (multiProjectionTy image ty (arg .elems)) || someArgument image ty args
+
+-- of all alternatives, which share the type of their place
+unfoldable pub allAlternatives : PlaceTy → List (PlaceTy → Bool) → Bool
+allAlternatives ty [] = true
+allAlternatives ty (alt ∷ alts) = alt ty && allAlternatives ty alts
+
+-- how many of the ends of a range there are
+abbrev pub endCount : Option Operand → ℕ
+endCount none = 0
+endCount (some operand) = 1
+
+-- "Tests: Lit, constant Path, Slice on a slice, enum variant, each end of a Range." Those of a Path:
+unfoldable pub pathTests : List ℕ → PlaceTy → Target → ℕ
+pathTests image ty unresolved = 0
+pathTests image ty (variant v) = cond (isEnum (shapeOf image ty)) 1 0
+pathTests image ty (local b) = 0
+pathTests image ty (constant operand) = 1
+pathTests image ty other = 0
+
+abbrev pub positive : ℕ → Bool
+positive zero = false
+positive (suc n) = true
+
+-- "An Or can fail if all alternatives can, others if they have a test or, directly below, a reached pattern that can."
+module _ (image : List ℕ) where
+  unfoldable mutual
+    pub canFail : Pat → PlaceTy → Bool
+    canFail (Pat.Missing h) ty = false
+    canFail (Pat.Rest h) ty = false
+    canFail (Pat.NotNull h) ty = false
+    canFail (Pat.Wild h) ty = false
+    canFail (Pat.Tuple h args ellipsis) ty =
+        let here = behindDerefs image ty (h .derefs) in
+        someArgument image here (inARow ellipsis (fieldCount (shapeOf image here)) (failing args))
+    canFail (Pat.Or h alts) ty = allAlternatives (behindDerefs image ty (h .derefs)) (failing alts)
+    canFail (Pat.Record h fields args v) ty =
+        let here = behindDerefs image ty (h .derefs) in
+        isEnum (shapeOf image here) || someArgument image here (ofVariant image here v (λ n. byFields fields (failing args)))
+    canFail (Pat.Range h start end halfOpen) ty = positive (endCount start + endCount end)
+    canFail (Pat.Slice h prefix rest suffix) ty =
+        isSliceShape (tyOf image (h .ty) .shape) || someArgument image (behindDerefs image ty (h .derefs)) (items (failing prefix) (failing suffix))
+    canFail (Pat.Path h target) ty = positive (pathTests image (behindDerefs image ty (h .derefs)) target)
+    canFail (Pat.Lit h operand) ty = true
+    canFail (Pat.Bind h b s how annotation) ty = canFail? s (behindDerefs image ty (h .derefs))
+    canFail (Pat.TupleStruct h args ellipsis v) ty =
+        let here = behindDerefs image ty (h .derefs) in
+        isEnum (shapeOf image here) || someArgument image here (ofVariant image here v (λ n. inARow ellipsis n (failing args)))
+    canFail (Pat.Ref h s) ty = canFail s (projectionTy (behindDerefs image ty (h .derefs)) image ProjectionElem.Deref)
+    canFail (Pat.Expr h) ty = false
+    canFail (Pat.Box h) ty = false
+    canFail (Pat.Deref h) ty = false
+
+    pub failing : Pats → List (PlaceTy → Bool)
+    failing nil = []
+    failing (cons q qs) = (λ ty. canFail q ty) ∷ failing qs
+
+    pub canFail? : PatOpt → PlaceTy → Bool
+    canFail? no ty = false
+    canFail? (sub s) ty = canFail s ty
+
+-- What is counted of a reached pattern: its number, how many Or patterns are above it, its tests and the statements that they make in a Check visit, whether
+-- it is an alternative that can fail, whether it is an Or, whether its test is that of an enum, and how many statements a Bind visit makes
+pub record Reached : Type 0 where
+  pub number : ℕ
+  pub ors : ℕ
+  pub tests : ℕ
+  pub testStatements : ℕ
+  pub failingAlternative : Bool
+  pub isOr : Bool
+  pub testsEnum : Bool
+  pub bindStatements : ℕ
+
+-- a pattern with so many tests, which make so many statements; k Ors are above it, and f says whether it is an alternative that can fail
+abbrev pub testing : Head → ℕ → Bool → ℕ → ℕ → Reached
+testing h k f tests statements =
+    record { number = h .number; ors = k; tests = tests; testStatements = statements; failingAlternative = f; isOr = false; testsEnum = false; bindStatements = 0 }
+
+-- one that names a variant: on an enum it has a test, which makes one statement
+abbrev pub naming : Head → ℕ → Bool → Bool → Reached
+naming h k f enum =
+    record {
+      number = h .number;
+      ors = k;
+      tests = cond enum 1 0;
+      testStatements = cond enum 1 0;
+      failingAlternative = f;
+      isOr = false;
+      testsEnum = enum;
+      bindStatements = 0;
+    }
+
+-- one that binds: two statements in a Bind visit
+abbrev pub binding : Head → ℕ → Bool → ℕ → ℕ → ℕ → Reached
+binding h k f tests statements binds =
+    record { number = h .number; ors = k; tests = tests; testStatements = statements; failingAlternative = f; isOr = false; testsEnum = false; bindStatements = binds }
+
+abbrev pub anOr : Head → ℕ → Bool → Reached
+anOr h k f = record { number = h .number; ors = k; tests = 0; testStatements = 0; failingAlternative = f; isOr = true; testsEnum = false; bindStatements = 0 }
+
+-- "a test makes 2, but .. of a Slice with a rest 4"
+unfoldable pub lengthStatements : RestOf → ℕ
+lengthStatements RestOf.none = 2
+lengthStatements (RestOf.binds q b how) = 4
+lengthStatements RestOf.ignores = 4
+
+-- "and 2 for a Slice's rest that is one"
+unfoldable pub restBinds : RestOf → ℕ
+restBinds RestOf.none = 0
+restBinds (RestOf.binds q b how) = 2
+restBinds RestOf.ignores = 0
+
+unfoldable pub pathReached : List ℕ → PlaceTy → Target → Head → ℕ → Bool → Reached
+pathReached image ty unresolved h k f = testing h k f 0 0
+pathReached image ty (variant v) h k f = naming h k f (isEnum (shapeOf image ty))
+pathReached image ty (local b) h k f = testing h k f 0 0
+pathReached image ty (constant operand) h k f = testing h k f 1 4
+pathReached image ty other h k f = testing h k f 0 0
+
+-- the patterns reached from one: by the type of its place, how many Ors are above it, and whether it is an alternative that can fail
+abbrev pub Reaching : Type 0
+Reaching = PlaceTy → ℕ → Bool → List Reached
+
+-- those of its arguments
+unfoldable pub throughArguments : List ℕ → PlaceTy → ℕ → List (Argument Reaching) → List Reached
+throughArguments image ty k [] = []
+throughArguments image ty k (arg ∷ args) = (arg .what) (multiProjectionTy image ty (arg .elems)) k false ++ throughArguments image ty k args
+
+-- those of the alternatives of an Or, up to the first that cannot fail
+unfoldable pub throughAlternatives : PlaceTy → ℕ → List (PlaceTy → Bool) → List Reaching → List Reached
+throughAlternatives ty k [] alts = []
+throughAlternatives ty k (fails ∷ fs) [] = []
+throughAlternatives ty k (fails ∷ fs) (alt ∷ alts) = alt ty (k + 1) (fails ty) ++ cond (fails ty) (throughAlternatives ty k fs alts) []
+
+-- "Reached: the root, and directly below a reached pattern all but rests, arguments `zip` drops, and alternatives behind one that cannot fail."
+module _ (image : List ℕ) where
+  unfoldable mutual
+    pub reached : Pat → Reaching
+    reached (Pat.Missing h) ty k f = testing h k f 0 0 ∷ []
+    reached (Pat.Rest h) ty k f = testing h k f 0 0 ∷ []
+    reached (Pat.NotNull h) ty k f = testing h k f 0 0 ∷ []
+    reached (Pat.Wild h) ty k f = testing h k f 0 0 ∷ []
+    reached (Pat.Tuple h args ellipsis) ty k f =
+        let here = behindDerefs image ty (h .derefs) in
+        testing h k f 0 0 ∷ throughArguments image here k (inARow ellipsis (fieldCount (shapeOf image here)) (reachings args))
+    reached (Pat.Or h alts) ty k f =
+        anOr h k f ∷ throughAlternatives (behindDerefs image ty (h .derefs)) k (failing image alts) (reachings alts)
+    reached (Pat.Record h fields args v) ty k f =
+        let here = behindDerefs image ty (h .derefs) in
+        naming h k f (isEnum (shapeOf image here)) ∷ throughArguments image here k (ofVariant image here v (λ n. byFields fields (reachings args)))
+    reached (Pat.Range h start end halfOpen) ty k f =
+        let ends = endCount start + endCount end in
+        testing h k f ends (ends + ends) ∷ []
+    reached (Pat.Slice h prefix rest suffix) ty k f =
+        let tested = isSliceShape (tyOf image (h .ty) .shape) in
+        binding h k f (cond tested 1 0) (cond tested (lengthStatements (restOf rest)) 0) (restBinds (restOf rest))
+        ∷ throughArguments image (behindDerefs image ty (h .derefs)) k (items (reachings prefix) (reachings suffix))
+    reached (Pat.Path h target) ty k f = pathReached image (behindDerefs image ty (h .derefs)) target h k f ∷ []
+    reached (Pat.Lit h operand) ty k f = testing h k f 1 2 ∷ []
+    reached (Pat.Bind h b s how annotation) ty k f = binding h k f 0 0 2 ∷ reaching? s (behindDerefs image ty (h .derefs)) k false
+    reached (Pat.TupleStruct h args ellipsis v) ty k f =
+        let here = behindDerefs image ty (h .derefs) in
+        naming h k f (isEnum (shapeOf image here)) ∷ throughArguments image here k (ofVariant image here v (λ n. inARow ellipsis n (reachings args)))
+    reached (Pat.Ref h s) ty k f =
+        testing h k f 0 0 ∷ reached s (projectionTy (behindDerefs image ty (h .derefs)) image ProjectionElem.Deref) k false
+    reached (Pat.Expr h) ty k f = testing h k f 0 0 ∷ []
+    reached (Pat.Box h) ty k f = testing h k f 0 0 ∷ []
+    reached (Pat.Deref h) ty k f = testing h k f 0 0 ∷ []
+
+    pub reachings : Pats → List Reaching
+    reachings nil = []
+    reachings (cons q qs) = (λ ty k f. reached q ty k f) ∷ reachings qs
+
+    pub reaching? : PatOpt → Reaching
+    reaching? no ty k f = []
+    reaching? (sub s) ty k f = reached s ty k f

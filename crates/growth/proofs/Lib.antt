@@ -1,0 +1,11 @@
+pub mod States
+pub mod Working
+pub mod Opening
+pub mod Leaving
+pub mod Walks
+pub mod Testing
+pub mod Fields
+pub mod Alternating
+pub mod Joining
+pub mod Growing
+pub mod OpenBlocks
