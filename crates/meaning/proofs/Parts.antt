@@ -1,0 +1,219 @@
+-- A value that fits a type is of the type's kind, and its parts fit. Assumes nothing.
+use Prim.Native.Nat.{ℕ, zero, suc, _<_}
+use mathlib.Core.Path.{_≡_, refl, sym, ap, _∙_, subst}
+use mathlib.Core.Bool.{Bool, true, false, cond, _&&_, false≢true}
+use mathlib.Core.List.{List, [], _∷_}
+use native.Mathlib.Omega.{arith}
+use borrow.Author.Tests.{eqb-true, ltb-true}
+use lib.Dec.{eqb}
+use lib.IntN.{ℤ}
+use lib.ListN.{length, getD}
+use Rattle.image.specs.declared.kinds.AdtKind.{AdtKind}
+use Rattle.image.specs.Lists.{member}
+use Rattle.image.specs.Operands.{isScalarValue}
+use Rattle.image.specs.Integers.{inRange}
+use Rattle.image.specs.Types.{Shape, integer, bool, char, str, tuple, adt, reference, array, slice, unknown, tyOf, variantOf}
+use Rattle.image.proofs.Bools.{and-left, and-right}
+use Rattle.meaning.specs.Values.{Value, Int, Bool′, Char, Str, Tuple, Variant, Reference, Array, Slice, Values, nil, cons, items, nothing, hasValues, shorter, intFits, kindNumber, fieldTypes, arrayLength, valueFits, fieldsFit, eachFits}
+
+-- the kind of a value, by the numbers of types' kinds
+kindOf : Value → ℕ
+kindOf (Int z) = 1
+kindOf (Bool′ b) = 2
+kindOf (Char c) = 3
+kindOf (Str bytes) = 4
+kindOf (Tuple vs) = 5
+kindOf (Variant v vs) = 6
+kindOf (Reference v) = 7
+kindOf (Array vs) = 8
+kindOf (Slice vs) = 9
+
+-- what a value of each kind is
+abbrev Kinds : Value → List (Type 0)
+Kinds v =
+    ⊥
+    ∷ ((z : ℤ) × (v ≡ Int z))
+    ∷ ((b : Bool) × (v ≡ Bool′ b))
+    ∷ ((c : ℕ) × (v ≡ Char c))
+    ∷ ((bytes : List ℕ) × (v ≡ Str bytes))
+    ∷ ((vs : Values) × (v ≡ Tuple vs))
+    ∷ ((w : ℕ) × (vs : Values) × (v ≡ Variant w vs))
+    ∷ ((w : Value) × (v ≡ Reference w))
+    ∷ ((vs : Values) × (v ≡ Array vs))
+    ∷ ((vs : Values) × (v ≡ Slice vs))
+    ∷ []
+
+abbrev Is : ℕ → Value → Type 0
+Is k v = getD (Kinds v) k ⊥
+
+is-kind : (v : Value) → Is (kindOf v) v
+unfolding kindOf
+is-kind (Int z) = (z, refl)
+is-kind (Bool′ b) = (b, refl)
+is-kind (Char c) = (c, refl)
+is-kind (Str bytes) = (bytes, refl)
+is-kind (Tuple vs) = (vs, refl)
+is-kind (Variant w vs) = (w, vs, refl)
+is-kind (Reference w) = (w, refl)
+is-kind (Array vs) = (vs, refl)
+is-kind (Slice vs) = (vs, refl)
+
+int-kind : (s : Shape) (z : ℤ) → intFits s z ≡ true → kindNumber s ≡ 1
+unfolding intFits kindNumber
+int-kind (integer size signed) z e = refl
+int-kind bool z e = absurd (false≢true e)
+int-kind char z e = absurd (false≢true e)
+int-kind str z e = absurd (false≢true e)
+int-kind (tuple fields) z e = absurd (false≢true e)
+int-kind (adt kind variants) z e = absurd (false≢true e)
+int-kind (reference t) z e = absurd (false≢true e)
+int-kind (array t n) z e = absurd (false≢true e)
+int-kind (slice t) z e = absurd (false≢true e)
+int-kind unknown z e = absurd (false≢true e)
+
+module _ (image : List ℕ) where
+  -- a value that fits is of the type's kind
+  fits-kind : (v : Value) (t : ℕ) → valueFits image v t ≡ true → kindNumber (tyOf image t .shape) ≡ kindOf v
+  unfolding valueFits kindOf
+  fits-kind (Int z) t e = int-kind (tyOf image t .shape) z e
+  fits-kind (Bool′ b) t e = eqb-true (kindNumber (tyOf image t .shape)) 2 e
+  fits-kind (Char c) t e = eqb-true (kindNumber (tyOf image t .shape)) 3 (and-left (eqb (kindNumber (tyOf image t .shape)) 3) (isScalarValue c) e)
+  fits-kind (Str bytes) t e = eqb-true (kindNumber (tyOf image t .shape)) 4 (and-left (eqb (kindNumber (tyOf image t .shape)) 4) (shorter (length bytes)) e)
+  fits-kind (Tuple vs) t e =
+      eqb-true (kindNumber (tyOf image t .shape)) 5 (and-left (eqb (kindNumber (tyOf image t .shape)) 5) (fieldsFit image vs (fieldTypes (tyOf image t .shape))) e)
+  fits-kind (Variant w vs) t e =
+      let k = eqb (kindNumber (tyOf image t .shape)) 6 in
+      let m = member w (fieldTypes (tyOf image t .shape)) in
+      eqb-true (kindNumber (tyOf image t .shape)) 6 (and-left k m (and-left (k && m) (fieldsFit image vs (variantOf image w .fields)) e))
+  fits-kind (Reference w) t e =
+      eqb-true (kindNumber (tyOf image t .shape)) 7 (and-left (eqb (kindNumber (tyOf image t .shape)) 7) (valueFits image w (getD (fieldTypes (tyOf image t .shape)) 0 0)) e)
+  fits-kind (Array vs) t e =
+      let k = eqb (kindNumber (tyOf image t .shape)) 8 in
+      let n = eqb (length (items vs)) (arrayLength (tyOf image t .shape)) in
+      eqb-true (kindNumber (tyOf image t .shape)) 8 (and-left k n (and-left (k && n) (eachFits image vs (getD (fieldTypes (tyOf image t .shape)) 0 0)) e))
+  fits-kind (Slice vs) t e =
+      let k = eqb (kindNumber (tyOf image t .shape)) 9 in
+      let n = shorter (length (items vs)) in
+      eqb-true (kindNumber (tyOf image t .shape)) 9 (and-left k n (and-left (k && n) (eachFits image vs (getD (fieldTypes (tyOf image t .shape)) 0 0)) e))
+
+  -- so it is what a value of that kind is
+  is-of : (v : Value) (t : ℕ) {s : Shape} → tyOf image t .shape ≡ s → valueFits image v t ≡ true → Is (kindNumber s) v
+  is-of v t e fits = subst (λ (k : ℕ). Is k v) (sym (fits-kind v t fits) ∙ ap kindNumber e) (is-kind v)
+
+  same-fits : {v w : Value} (t : ℕ) → v ≡ w → valueFits image v t ≡ true → valueFits image w t ≡ true
+  same-fits t e fits = subst (λ (x : Value). valueFits image x t ≡ true) e fits
+
+  int-part : (z : ℤ) (t size : ℕ) (signed : Bool) → tyOf image t .shape ≡ integer size signed → valueFits image (Int z) t ≡ true → inRange size signed z ≡ true
+  unfolding valueFits intFits
+  int-part z t size signed e h = rw e at h
+
+  char-part : (c t : ℕ) → valueFits image (Char c) t ≡ true → isScalarValue c ≡ true
+  unfolding valueFits
+  char-part c t h = and-right (eqb (kindNumber (tyOf image t .shape)) 3) (isScalarValue c) h
+
+  str-part : (bytes : List ℕ) (t : ℕ) → valueFits image (Str bytes) t ≡ true → length bytes < 18446744073709551616
+  unfolding valueFits
+  str-part bytes t h = ltb-true (length bytes) 18446744073709551616 (and-right (eqb (kindNumber (tyOf image t .shape)) 4) (shorter (length bytes)) h)
+
+  tuple-part : (vs : Values) (t : ℕ) (fields : List ℕ) → tyOf image t .shape ≡ tuple fields → valueFits image (Tuple vs) t ≡ true → fieldsFit image vs fields ≡ true
+  unfolding valueFits kindNumber fieldTypes
+  tuple-part vs t fields e h = rw e at h
+
+  variant-part : (w : ℕ) (vs : Values) (t : ℕ) (kind : AdtKind) (variants : List ℕ) → tyOf image t .shape ≡ adt kind variants → valueFits image (Variant w vs) t ≡ true
+      → (member w (cond (hasValues kind) variants []) ≡ true) × (fieldsFit image vs (variantOf image w .fields) ≡ true)
+  unfolding valueFits kindNumber fieldTypes
+  variant-part w vs t kind variants e h =
+      let m = member w (cond (hasValues kind) variants []) in
+      let f = fieldsFit image vs (variantOf image w .fields) in
+      let both : m && f ≡ true = rw e at h in
+      (and-left m f both, and-right m f both)
+
+  reference-part : (w : Value) (t u : ℕ) → tyOf image t .shape ≡ reference u → valueFits image (Reference w) t ≡ true → valueFits image w u ≡ true
+  unfolding valueFits kindNumber fieldTypes
+  reference-part w t u e h = rw e at h
+
+  array-part : (vs : Values) (t u n : ℕ) → tyOf image t .shape ≡ array u n → valueFits image (Array vs) t ≡ true → (length (items vs) ≡ n) × (eachFits image vs u ≡ true)
+  unfolding valueFits kindNumber fieldTypes arrayLength
+  array-part vs t u n e h =
+      let both : eqb (length (items vs)) n && eachFits image vs u ≡ true = rw e at h in
+      (eqb-true (length (items vs)) n (and-left (eqb (length (items vs)) n) (eachFits image vs u) both), and-right (eqb (length (items vs)) n) (eachFits image vs u) both)
+
+  slice-part : (vs : Values) (t u : ℕ) → tyOf image t .shape ≡ slice u → valueFits image (Slice vs) t ≡ true → (length (items vs) < 18446744073709551616) × (eachFits image vs u ≡ true)
+  unfolding valueFits kindNumber fieldTypes
+  slice-part vs t u e h =
+      let both : shorter (length (items vs)) && eachFits image vs u ≡ true = rw e at h in
+      (ltb-true (length (items vs)) 18446744073709551616 (and-left (shorter (length (items vs))) (eachFits image vs u) both), and-right (shorter (length (items vs))) (eachFits image vs u) both)
+
+  -- values in a row that fit types in a row: as many, each its own
+  pub fields-length : (vs : Values) (ts : List ℕ) → fieldsFit image vs ts ≡ true → length (items vs) ≡ length ts
+  unfolding fieldsFit items
+  fields-length nil [] e = refl
+  fields-length nil (t ∷ ts) e = absurd (false≢true e)
+  fields-length (cons v vs) [] e = absurd (false≢true e)
+  fields-length (cons v vs) (t ∷ ts) e = ap suc (fields-length vs ts (and-right (valueFits image v t) (fieldsFit image vs ts) e))
+
+  pub field-fits : (vs : Values) (ts : List ℕ) (i : ℕ) → fieldsFit image vs ts ≡ true → i < length ts → valueFits image (getD (items vs) i nothing) (getD ts i 0) ≡ true
+  unfolding fieldsFit items
+  field-fits nil [] i e h = absurd (omega arith)
+  field-fits nil (t ∷ ts) i e h = absurd (false≢true e)
+  field-fits (cons v vs) [] i e h = absurd (false≢true e)
+  field-fits (cons v vs) (t ∷ ts) zero e h = and-left (valueFits image v t) (fieldsFit image vs ts) e
+  field-fits (cons v vs) (t ∷ ts) (suc i) e h = field-fits vs ts i (and-right (valueFits image v t) (fieldsFit image vs ts) e) (omega arith)
+
+  -- values that all fit one type
+  pub item-fits : (vs : Values) (t i : ℕ) → eachFits image vs t ≡ true → i < length (items vs) → valueFits image (getD (items vs) i nothing) t ≡ true
+  unfolding eachFits items
+  item-fits nil t i e h = absurd (omega arith)
+  item-fits (cons v vs) t zero e h = and-left (valueFits image v t) (eachFits image vs t) e
+  item-fits (cons v vs) t (suc i) e h = item-fits vs t i (and-right (valueFits image v t) (eachFits image vs t) e) (omega arith)
+
+  -- a value that fits an integer type, bool, char or str
+  pub fits-integer : (v : Value) (t size : ℕ) (signed : Bool) → tyOf image t .shape ≡ integer size signed → valueFits image v t ≡ true → (z : ℤ) × (v ≡ Int z) × (inRange size signed z ≡ true)
+  unfolding kindNumber
+  fits-integer v t size signed e h = let (z, q) = is-of v t e h in (z, q, int-part z t size signed e (same-fits t q h))
+
+  pub fits-bool : (v : Value) (t : ℕ) → tyOf image t .shape ≡ bool → valueFits image v t ≡ true → (b : Bool) × (v ≡ Bool′ b)
+  unfolding kindNumber
+  fits-bool v t e h = is-of v t e h
+
+  pub fits-char : (v : Value) (t : ℕ) → tyOf image t .shape ≡ char → valueFits image v t ≡ true → (c : ℕ) × (v ≡ Char c) × (isScalarValue c ≡ true)
+  unfolding kindNumber
+  fits-char v t e h = let (c, q) = is-of v t e h in (c, q, char-part c t (same-fits t q h))
+
+  pub fits-str : (v : Value) (t : ℕ) → tyOf image t .shape ≡ str → valueFits image v t ≡ true → (bytes : List ℕ) × (v ≡ Str bytes) × (length bytes < 18446744073709551616)
+  unfolding kindNumber
+  fits-str v t e h = let (bytes, q) = is-of v t e h in (bytes, q, str-part bytes t (same-fits t q h))
+
+  -- a tuple's fields fit
+  pub fits-tuple : (v : Value) (t : ℕ) (fields : List ℕ) → tyOf image t .shape ≡ tuple fields → valueFits image v t ≡ true → (vs : Values) × (v ≡ Tuple vs) × (fieldsFit image vs fields ≡ true)
+  unfolding kindNumber
+  fits-tuple v t fields e h = let (vs, q) = is-of v t e h in (vs, q, tuple-part vs t fields e (same-fits t q h))
+
+  has-values : (b : Bool) (w : ℕ) (variants : List ℕ) → member w (cond b variants []) ≡ true → (b ≡ true) × (member w variants ≡ true)
+  unfolding member
+  has-values true w variants e = (refl, e)
+  has-values false w variants e = absurd (false≢true e)
+
+  -- a struct or an enum has the value's variant, whose fields fit
+  pub fits-adt : (v : Value) (t : ℕ) (kind : AdtKind) (variants : List ℕ) → tyOf image t .shape ≡ adt kind variants → valueFits image v t ≡ true
+      → (w : ℕ) × (vs : Values) × (v ≡ Variant w vs) × (hasValues kind ≡ true) × (member w variants ≡ true) × (fieldsFit image vs (variantOf image w .fields) ≡ true)
+  unfolding kindNumber
+  fits-adt v t kind variants e h =
+      let (w, vs, q) = is-of v t e h in
+      let (m, f) = variant-part w vs t kind variants e (same-fits t q h) in
+      let (b, n) = has-values (hasValues kind) w variants m in
+      (w, vs, q, b, n, f)
+
+  -- what a reference refers to fits
+  pub fits-reference : (v : Value) (t u : ℕ) → tyOf image t .shape ≡ reference u → valueFits image v t ≡ true → (w : Value) × (v ≡ Reference w) × (valueFits image w u ≡ true)
+  unfolding kindNumber
+  fits-reference v t u e h = let (w, q) = is-of v t e h in (w, q, reference-part w t u e (same-fits t q h))
+
+  -- the elements of an array or a slice fit
+  pub fits-array : (v : Value) (t u n : ℕ) → tyOf image t .shape ≡ array u n → valueFits image v t ≡ true → (vs : Values) × (v ≡ Array vs) × (length (items vs) ≡ n) × (eachFits image vs u ≡ true)
+  unfolding kindNumber
+  fits-array v t u n e h = let (vs, q) = is-of v t e h in let (l, f) = array-part vs t u n e (same-fits t q h) in (vs, q, l, f)
+
+  pub fits-slice : (v : Value) (t u : ℕ) → tyOf image t .shape ≡ slice u → valueFits image v t ≡ true → (vs : Values) × (v ≡ Slice vs) × (length (items vs) < 18446744073709551616) × (eachFits image vs u ≡ true)
+  unfolding kindNumber
+  fits-slice v t u e h = let (vs, q) = is-of v t e h in let (l, f) = slice-part vs t u e (same-fits t q h) in (vs, q, l, f)

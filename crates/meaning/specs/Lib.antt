@@ -1,0 +1,9 @@
+pub mod Values
+pub mod Running
+pub mod Executing
+pub mod Matching
+pub mod Binding
+pub mod Typing
+pub mod Fitting
+pub mod Fit
+pub mod Fits
