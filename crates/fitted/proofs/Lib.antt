@@ -1,0 +1,7 @@
+mod Stopping
+mod Building
+mod Walks
+mod Testing
+mod Choosing
+mod Shaping
+pub mod Refusing
