@@ -1,0 +1,3 @@
+pub mod Proved
+pub mod Further
+pub mod Audit

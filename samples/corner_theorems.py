@@ -1,0 +1,209 @@
+"""Prints the corners as rows of a theorem about the definitions of the lowering.
+
+`python3 samples/corner_theorems.py proved > crates/audit/proofs/Proved.antt` prints
+those that document 01 marks [P], and with `further` the others that are small, for
+crates/audit/proofs/Further.antt. The answers are those of lowering.py; then format
+the files. With `--check` it fails if a file is not what it prints, but for its layout.
+"""
+
+import contextlib
+import io
+import sys
+from pathlib import Path
+
+sys.dont_write_bytecode = True
+
+from corners import CORNERS
+from images import broken, decode
+from lowering import lower, root_type
+from theorems import byte_list
+
+PROVED = ["wild", "literal7", "range", "or_1_2", "wild_or_2", "or_none", "slice_two", "array",
+          "slice_any", "tuple_ellipsis", "ellipsis_2", "ellipsis_3"]
+
+SMALL = 500
+
+MODULES = [
+    ("image", "Bytes", "wordAt littleEndian"),
+    ("image", "Tables", "tablesOf"),
+    ("image", "Rows", "typeAt variantAt patAt bindingAt listAt operandAt operandBytes"),
+    ("image", "Lists", "member upFrom"),
+    ("image", "Rules", "listed"),
+    ("image", "Types", "shapeBy tyOf variantOf bindingOf operandOf"),
+    ("image", "Tree", "word? operand? trees tree? target nodeBy node treeOf tree"),
+    ("place", "Elems", "elemOf wordOf"),
+    ("place", "Places", "projectionOf"),
+    ("place", "PlaceTypes", "fieldOf derefTy adtFieldTy fieldTy elementTy subsliceTy adtDowncastTy downcastTy tyProjection variantProjection partProjection "
+     "projectionTy multiProjectionTy"),
+    ("mir", "Blocks", "termRow"),
+    ("mir", "Statements", "halves placeWords"),
+    ("mir", "Locals", "localTy"),
+    ("mir", "Rvalues", "constantWords leftWords placeRvalueKind binaryKind liveRow deadRow placeRvalueRow constantRow binaryRow"),
+    ("state", "Steps", "newBlock setTerminator pushStatement newLocal pushScope pushEntry tryBlock tryStatement tryLocal tryScope tryEntry"),
+    ("literals", "Literals", "constantOf stringConstant integerConstant literalBy lowerLiteralToOperand lowerConstToOperand literalOrConstBy "
+     "lowerLiteralOrConstToOperand"),
+    ("lower", "Temps", "isSlice pushStorageLiveForLocal temp bindingLocal discrTempPlace discrLocal"),
+    ("views", "Views", "terminatorOf elemsAt pathOf constantAt leftOf lineOf mirOf"),
+    ("refusals", "Refusals", "numberOf reasonOf refusalAt"),
+    ("pattern_matching", "Walking", "visited project localPlace elseState elseBlock derefed entered"),
+    ("pattern_matching", "Tests", "compare patternMatchConst literal litBy constantPath rangeEnd rangeEnd? bindingRvalue patternMatchBinding localPath"),
+    ("pattern_matching", "Variants", "placeTy shapeOf patternMatchAdt patternMatchTupleLike ellipsisAt tupleOn tuplePattern refOn refPattern resolved "
+     "recordFields variantFields discriminantTest variantOn adtOn patternMatchingVariant variantPattern"),
+    ("pattern_matching", "Slices", "lengthConstant lengthCompared lengthTest restBound sliceItems sliceOn"),
+    ("pattern_matching", "Patterns", "alternatives alternativesEnd orPattern rangePattern pathPattern bindPattern restBy restOf patternMatchInner lowerings "
+     "lowering? patternMatch"),
+]
+
+HEAD = """-- {what}, lowered by computation from the images' bytes: each row has an image, the type of local 0, and the answer with the
+-- whole content of its listing and the visits. The rows are written out by samples/corner_theorems.py. Assumes nothing.
+use Prim.Native.Nat.{{ℕ}}
+use mathlib.Core.Path.{{_≡_, refl}}
+use mathlib.Core.List.{{List, [], _∷_, map}}
+use Rattle.lower.specs.declared.merging.OptBlock.{{OptBlock}}
+use Rattle.place.specs.declared.elems.ProjectionElem.{{ProjectionElem}}
+use Rattle.mir.specs.declared.blocks.Terminator.{{Terminator}}
+use Rattle.mir.specs.declared.rvalues.BinOp.{{BinOp}}
+use Rattle.mir.specs.declared.rvalues.Left.{{Left}}
+use Rattle.mir.specs.declared.rvalues.PlaceRvalue.{{PlaceRvalue}}
+use Rattle.views.specs.Views.{{Rvalue, ofPlace, ofConstant, binary, Statement, live, dead, set}}
+{uses}
+use Rattle.audit.specs.Call.{{lowering}}
+use Rattle.audit.specs.Started.{{startState, start, answerBy, Answer, accepted, refusal, Row}}
+"""
+
+ELEMENTS = {"deref": "Deref", "f": "Field", "i": "Index", "e": "IndexFromEnd", "s": "Subslice", "v": "Downcast"}
+RVALUES = {"copy": "Copy", "ref": "Ref", "mut": "Mut", "len": "Len", "discr": "Discr"}
+OPERATORS = {"eq": "Eq", "le": "Le", "ge": "Ge"}
+WORDS = {"bool": 256, "usize": 257, "i128": 258}
+
+
+def number(n):
+    """A number under a tuple struct."""
+    return f"(record {{ 0 = {n} }})"
+
+
+def word(type_):
+    """The word of a local's type."""
+    return WORDS.get(type_, type_)
+
+
+def row_of(items):
+    """A list."""
+    return "(" + "".join(f"{item} ∷ " for item in items) + "[])"
+
+
+def element(parts):
+    """An element of a place."""
+    name = "ProjectionElem." + ELEMENTS[parts[0]]
+    return name if len(parts) == 1 else "(" + " ".join([name, *map(str, parts[1:])]) + ")"
+
+
+def place(value):
+    """A place."""
+    return f"(record {{ local = {value[0]}; elems = {row_of(map(element, value[1]))} }})"
+
+
+def constant(value):
+    """A constant: its bytes as two halves, its type, and where a string's bytes lie."""
+    data, type_ = value[1], value[2]
+    offset = value[3][0] if value[3] else 0
+    low, high = (int.from_bytes(half, "little") for half in (data[:8], data[8:]))
+    return f"(record {{ count = {len(data)}; ty = {word(type_)}; offset = {offset}; low = {low}; high = {high} }})"
+
+
+def rvalue(value):
+    """What a local is set to."""
+    if value[0] == "const":
+        return f"(ofConstant {constant(value)})"
+    if value[0] in OPERATORS:
+        left = value[1]
+        operand = f"(Left.Constant {constant(left)})" if left[0] == "const" else f"(Left.Local {number(left[1][0])})"
+        return f"(binary BinOp.{OPERATORS[value[0]]} {operand} {place(value[2][1])})"
+    return f"(ofPlace PlaceRvalue.{RVALUES[value[0]]} {place(value[1])})"
+
+
+def line(created):
+    """A statement and its block."""
+    block, statement = created
+    text = f"set {statement[1]} {rvalue(statement[2])}" if statement[0] == "set" else f"{statement[0]} {statement[1]}"
+    return f"record {{ block = {block}; statement = {text} }}"
+
+
+def terminator(value):
+    """A block's terminator."""
+    if value is None:
+        return "Terminator.Open"
+    if value[0] == "goto":
+        return f"Terminator.Goto {number(value[1])}"
+    if value[0] == "switch":
+        _, local, tested, then, other = value
+        return f"Terminator.Switch {number(local)} {tested % 2 ** 64} {tested >> 64} {number(then)} {number(other)}"
+    return "Terminator.Unreachable"
+
+
+def wanted(body):
+    """The answer of a lowering."""
+    if body.refusal:
+        return "refusal (record {{ number = {}; pattern = {}; reason = {} }})".format(*body.refusal)
+    other = "OptBlock.None" if body.other is None else f"(OptBlock.Some {number(body.other)})"
+    mir = (f"(record {{ terminators = {row_of(map(terminator, body.terminators))}; lines = {row_of(map(line, body.created))}; "
+           f"locals = {row_of(map(word, body.locals))} }})")
+    return f"accepted {number(body.then)} {other} {mir} {row_of(body.visits)}"
+
+
+def rows(names):
+    """A declaration for each corner."""
+    for name, image in CORNERS:
+        data = image.encode()
+        if name not in names:
+            continue
+        m = decode(data)
+        label = name.replace("_", "-") + "-row"
+        type_ = root_type(m, len(m.patterns) - 1)
+        print(f"abbrev {label} : Row\n{label} = record {{ image = {byte_list(data)}; ty = {type_}; wanted = {wanted(lower(m, len(m.patterns) - 1))} }}\n")
+
+
+def small(name, image):
+    """A corner whose answer is that of the walk, and that is no long computation."""
+    data = image.encode()
+    if broken(data) or len(data) > SMALL:
+        return False
+    m = decode(data)
+    return root_type(m, len(m.patterns) - 1) is not None and name not in PROVED
+
+
+def differs(kind):
+    """A file is not what is printed for it."""
+    printed = io.StringIO()
+    with contextlib.redirect_stdout(printed):
+        print_file(kind)
+    path = Path(__file__).resolve().parent.parent / "crates/audit/proofs" / f"{kind.capitalize()}.antt"
+    return printed.getvalue().split() != path.read_text().split()
+
+
+def main():
+    """Prints a file, or checks both."""
+    if sys.argv[1] != "--check":
+        print_file(sys.argv[1])
+    elif any(differs(kind) for kind in ("proved", "further")):
+        sys.exit("crates/audit/proofs are not what samples/corner_theorems.py prints")
+
+
+def print_file(kind):
+    """Prints a file."""
+    proved = kind == "proved"
+    names = PROVED if proved else [name for name, image in CORNERS if small(name, image)]
+    present = [name.replace("_", "-") + "-row" for name, _ in CORNERS if name in names]
+    what = "The corners of pattern_matching.rs that document 01 marks [P]" if proved else "Further corners"
+    uses = "\n".join(f"use Rattle.{crate}.specs.{module}.{{{', '.join(names_.split())}}}" for crate, module, names_ in MODULES)
+    print(HEAD.format(what=what, uses=uses))
+    rows(names)
+    opened = " ".join(names_ for _, _, names_ in MODULES)
+    print(f"abbrev pub rows : List Row\nrows = {row_of(present)[1:-1]}\n")
+    print("-- each row's image comes to the answer that is wanted")
+    print("pub as-wanted : map (λ (row : Row). answerBy lowering (row .image) (row .ty)) rows ≡ map (λ (row : Row). row .wanted) rows")
+    print(f"unfolding {opened} startState start answerBy\nas-wanted = refl")
+
+
+if __name__ == "__main__":
+    main()
