@@ -10,7 +10,7 @@ use Rattle.refusals.specs.Refusals.{ok as done, refused as stopped}
 use Rattle.place.specs.declared.LocalId.{LocalId}
 use Rattle.place.specs.declared.Place.{Place}
 use Rattle.place.specs.declared.elems.ProjectionElem.{ProjectionElem}
-use Rattle.place.specs.Elems.{wordOf}
+use Rattle.place.specs.Places.{onward}
 use Rattle.mir.specs.declared.BasicBlockId.{BasicBlockId}
 use Rattle.state.specs.State.{State}
 use Rattle.state.specs.Steps.{nextBlock, tryBlock}
@@ -62,9 +62,7 @@ visited ctx p = record { state = ctx .state; discr = ctx .discr; visits = set (c
 -- the place one element on; a place has at most 16
 unfoldable pub project : Place → ProjectionElem → Result Place
 project place elem =
-    cond (ltb (place .len) 16)
-    (done (record { local = place .local; len = place .len + 1; elems = set (place .elems) (place .len) (wordOf elem) }))
-    (stopped MirLowerError.Limit)
+    cond (ltb (place .len) 16) (done (onward place elem)) (stopped MirLowerError.Limit)
 
 -- a local as a place
 unfoldable pub localPlace : LocalId → Place

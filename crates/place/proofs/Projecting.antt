@@ -12,7 +12,7 @@ use lib.Seq.{take-suc-set}
 use Rattle.place.specs.declared.Place.{Place}
 use Rattle.place.specs.declared.elems.ProjectionElem.{ProjectionElem}
 use Rattle.place.specs.Elems.{elemKinds, elemOf, wordOf, Fits}
-use Rattle.place.specs.Places.{projectionOf, Projects}
+use Rattle.place.specs.Places.{projectionOf, onward, Projects}
 
 -- the parts of a word
 parts : (kind a b word : ℕ) → word ≡ kind + 8 * (b + 8192 * a) → kind < 8 → b < 8192 → elemOf word ≡ getD (elemKinds a b) kind ProjectionElem.Unknown
@@ -39,16 +39,16 @@ elem-of-word ProjectionElem.Unknown f = parts 6 0 0 6 (omega arith) (omega arith
 
 -- a place that has 16 elements
 pub full : (place : Place) (elem : ProjectionElem) → 16 ≤ place .len → Projects place elem (record { ok = false; place = place })
-full place elem h = record { room = sym (le-ltb (place .len) 16 h); local = refl; elems = λ e. absurd (false≢true e) }
+full place elem h = record { room = sym (le-ltb (place .len) 16 h); is = rw (le-ltb (place .len) 16 h) refl; elems = λ e. absurd (false≢true e) }
 
 -- a place that has fewer
 pub longer : (place : Place) (elem : ProjectionElem) → Fits elem → length (place .elems) ≡ 16 → place .len < 16 →
-    Projects place elem (record { ok = true; place = record { local = place .local; len = place .len + 1; elems = set (place .elems) (place .len) (wordOf elem) } })
+    Projects place elem (record { ok = true; place = onward place elem })
 unfolding projectionOf
 longer place elem f n h =
     record {
       room = sym (lt-ltb (place .len) 16 h);
-      local = refl;
+      is = rw (lt-ltb (place .len) 16 h) refl;
       elems = λ e.
           ap (λ (k : ℕ). map elemOf (take k (set (place .elems) (place .len) (wordOf elem)))) (add-one (place .len))
           ∙ ap (map elemOf) (take-suc-set (place .elems) (place .len) (wordOf elem) (omega arith))
