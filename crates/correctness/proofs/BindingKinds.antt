@@ -4,7 +4,7 @@ use mathlib.Core.Path.{_≡_, refl, sym, ap, _∙_, subst}
 use mathlib.Core.Bool.{Bool, true}
 use mathlib.Core.Option.{Option, some}
 use mathlib.Core.List.{List, [], _∷_, _++_}
-use lib.ListN.{length, replicate}
+use lib.ListN.{length}
 use Rattle.image.specs.declared.kinds.BindingMode.{BindingMode}
 use Rattle.image.specs.declared.kinds.OperandKind.{OperandKind}
 use Rattle.image.specs.Valid.{valid}
@@ -39,12 +39,12 @@ use Rattle.correctness.proofs.BindingRows.{fills-row}
 
 -- references crossed: behind them lies what the pattern looks at, on the place behind them
 crossing-path : {C : Type 0} {scene : Scene} {word : ℕ} {place : Place} {t : ℕ} {w : Value} (p n u : ℕ) (k : Place → Walk Out) (r : Out) → valid (scene .image) ≡ true →
-    Stands scene word place (PlaceTy.Ty t) w → behind (scene .image) (replicate n true) (some t) ≡ some u → derefed p place k n ≡ ok r →
+    Stands scene word place (PlaceTy.Ty t) w → behind (scene .image) n (some t) ≡ some u → derefed p place k n ≡ ok r →
     ((place′ : Place) → Stands scene word place′ (PlaceTy.Ty u) (crossed n w) → pathOf place′ ≡ crossedPath n (pathOf place) → k place′ ≡ ok r → C) → C
 unfolding derefed behind crossed crossedPath
 crossing-path {place} {t} p zero u k r holds s b e f = let same : t ≡ u = cc in f place (stands-as (ap PlaceTy.Ty same) s) refl e
 crossing-path {C} {scene} {place} {t} p (suc n) u k r holds s b e f =
-    let (x, q, rest) = behind-first (scene .image) (replicate n true) t u b in
+    let (x, q, rest) = behind-first (scene .image) n t u b in
     stepped p (project place ProjectionElem.Deref) (λ place′. derefed p place′ k n) e (λ place′ e₁ e₂.
     crossing-path p n u k r holds (stands-as (deref-type (scene .image) t x q) (stands-onward ProjectionElem.Deref place′ holds tt s e₁)) rest e₂
     (λ place″ s′ path e₃. f place″ s′ (path ∙ ap (crossedPath n) (path-onward place ProjectionElem.Deref place′ tt (s .elements) e₁)) e₃))
@@ -99,7 +99,7 @@ lit-taken OperandKind.Unknown image p t operand ctx c els place r e = absurd (no
 
 module _ (scene : Scene) (word : ℕ) (bindings : List ℕ) (M : Mir) where
   -- a pattern is entered
-  pub fills-entered : valid (scene .image) ≡ true → (p n : ℕ) (l : Lowering) (t u : ℕ) (w : Value) (b : Binder) → behind (scene .image) (replicate n true) (some t) ≡ some u →
+  pub fills-entered : valid (scene .image) ≡ true → (p n : ℕ) (l : Lowering) (t u : ℕ) (w : Value) (b : Binder) → behind (scene .image) n (some t) ≡ some u →
       FillsOn scene word bindings M l (PlaceTy.Ty u) (crossed n w) b → FillsOn scene word bindings M (entered p n l) (PlaceTy.Ty t) w (λ path v. b (crossedPath n path) (crossed n v))
   unfolding entered visited
   fills-entered holds p n l t u w b q f =

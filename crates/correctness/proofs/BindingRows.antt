@@ -1,6 +1,6 @@
 -- Arguments in a row, before an ellipsis and behind it, and fields by their numbers: what a walk in Bind binds is what the Reference says. Assumes nothing.
 use Prim.Native.Nat.{ℕ, zero, suc, _+_, _-_, _≤_, _<_, min}
-use native.Mathlib.Nat.{add-zero, zero-add, suc-add}
+use native.Mathlib.Nat.{add-zero, zero-add}
 use native.Mathlib.Omega.{arith}
 use mathlib.Core.Path.{_≡_, refl, sym, ap, ap₂, _∙_, subst}
 use mathlib.Core.Bool.{Bool, true, false, cond, _&&_, false≢true}
@@ -8,7 +8,7 @@ use mathlib.Core.Option.{Option, none, some}
 use mathlib.Core.List.{List, [], _∷_, _++_, map, map-append, append-nil, append-assoc, reverse, reverseAux, reverseAux-append}
 use borrow.Author.Tests.{eqb-true, leb-true, ltb-true}
 use lib.Dec.{eqb, leb, ltb}
-use lib.ListN.{length, getD, take, drop, replicate, length-take, length-drop, length-map, take-append-drop, getD-replicate, length-replicate}
+use lib.ListN.{length, getD, take, drop, length-take, length-drop, length-map, take-append-drop}
 use lib.Seq.{getD-drop, take-length, length-take-le}
 use Rattle.image.specs.Valid.{valid}
 use Rattle.image.specs.Lists.{upFrom}
@@ -23,7 +23,7 @@ use Rattle.lower.specs.declared.merging.OptBlock.{OptBlock}
 use Rattle.views.specs.Views.{Path, Mir}
 use Rattle.pattern_matching.specs.declared.MatchingMode.{MatchingMode}
 use Rattle.pattern_matching.specs.Walking.{Ctx, Out, ok, refused, Lowering, next}
-use Rattle.pattern_matching.specs.Variants.{patternMatchAdt, fieldsUpTo, patternMatchTupleLike, ellipsisAt, resolved}
+use Rattle.pattern_matching.specs.Variants.{patternMatchAdt, fieldsUpTo, patternMatchTupleLike, ellipsisAt}
 use Rattle.growth.specs.Opened.{Ready}
 use Rattle.growth.proofs.Walks.{not-ok, walked}
 use Rattle.meaning.specs.Values.{Value, nothing, partsOf, partAt}
@@ -32,9 +32,10 @@ use Rattle.meaning.specs.Matching.{onto, Bound, bindAll, matchAll, matchRow, ma
 use Rattle.meaning.specs.Typing.{TypeNumber, argumentsFit}
 use Rattle.meaning.specs.Fitting.{eachFits, rowFits, fieldType, byFieldsFit, itemsAllFit}
 use Rattle.meaning.specs.Fits.{fieldsThere}
-use Rattle.meaning.proofs.Children.{Valued, fields-resolved}
+use Rattle.meaning.proofs.Children.{Valued, from-append, length-from}
 use Rattle.correctness.specs.Demand2.{pathOf}
 use Rattle.correctness.proofs.Standing.{Rooted, rooted-more, Stands}
+use Rattle.correctness.proofs.Rows.{zipMatch}
 use Rattle.correctness.proofs.Permuting.{LocalsApart, Binder, Same, same-trans, same-is, same-behind, turned, Separate, separate-drop, pieces-apart}
 use Rattle.correctness.proofs.BindSteps.{Fills, fills-seq, fills-as}
 use Rattle.correctness.proofs.BindingFields.{AllCan, can-length, can-take, can-drop, AllFill, fill-none, fill-reverse, fills-adt, Suited, suited-fill}
@@ -57,20 +58,6 @@ unfolding bindAll
 bind-surplus [] elems more path v e = refl
 bind-surplus (b ∷ bs) [] more path v e = absurd (omega arith)
 bind-surplus (b ∷ bs) (elem ∷ elems) more path v e = ap (λ (xs : List Bound). b (onto path elem) (partAt elem v) ++ xs) (bind-surplus bs elems more path v (omega arith))
-
--- the numbers from a on
-from-append : (a m n : ℕ) → upFrom a (m + n) ≡ upFrom a m ++ upFrom (a + m) n
-unfolding upFrom
-from-append a zero n = rw (zero-add n, add-zero a)
-from-append a (suc m) n =
-    let e : a + 1 + m ≡ a + suc m = omega arith in
-    rw (suc-add m n) (ap (λ (xs : List ℕ). a ∷ xs) (from-append (a + 1) m n ∙ ap (λ (b : ℕ). upFrom (a + 1) m ++ upFrom b n) e))
-
--- so many
-length-from : (a n : ℕ) → length (upFrom a n) ≡ n
-unfolding upFrom
-length-from a zero = refl
-length-from a (suc n) = ap suc (length-from (a + 1) n)
 
 -- the fields from a on, so many
 abbrev pub fieldsFrom : ℕ → ℕ → List ProjectionElem
@@ -139,25 +126,6 @@ match-length [] vs e = omega arith
 match-length (m ∷ ms) [] e = absurd (false≢true e)
 match-length (m ∷ ms) (v ∷ vs) e = let h = match-length ms vs (and-right (m v) (matchAll ms vs) e) in omega arith
 
--- a Record that is not refused has its fields
-resolved-none : (count : ℕ) (fields : List (Option ℕ)) → fieldsThere fields count ≡ false → resolved count fields ≡ none
-unfolding fieldsThere resolved
-resolved-none count [] e = absurd (false≢true (sym e))
-resolved-none count (none ∷ fields) e = refl
-resolved-none count (some i ∷ fields) e = by (ltb i count) refl e (resolved-none count fields)
-  where
-    by : (b : Bool) → ltb i count ≡ b → b && fieldsThere fields count ≡ false → (fieldsThere fields count ≡ false → resolved count fields ≡ none) → resolved count (some i ∷ fields) ≡ none
-    by true q h k = rw (q, k h)
-    by false q h k = rw q
-
--- and names their elements
-pub resolved-there : (count : ℕ) (fields : List (Option ℕ)) (elems : List ProjectionElem) → resolved count fields ≡ some elems → (fieldsThere fields count ≡ true) × (elems ≡ recordFields fields)
-resolved-there count fields elems e = by (fieldsThere fields count) refl
-  where
-    by : (b : Bool) → fieldsThere fields count ≡ b → (fieldsThere fields count ≡ true) × (elems ≡ recordFields fields)
-    by true q = (q, let same : some elems ≡ some (recordFields fields) = sym e ∙ fields-resolved count fields q in let is : elems ≡ recordFields fields = cc in is)
-    by false q = absurd (let no : none ≡ some elems = sym (resolved-none count fields q) ∙ e in let z : _≡_ {A = ℕ} 0 1 = cc in omega arith)
-
 module _ (scene : Scene) (word : ℕ) (bindings : List ℕ) (M : Mir) (ty : PlaceTy) (w : Value) where
   -- children in a row, on the elements from a on
   pub suited-row : (elem : ℕ → ProjectionElem) → ((i : ℕ) → Fits (elem i)) → (a n : ℕ) (fs : List (TypeNumber → Bool)) (ms : List (Value → Bool)) (ts : List ℕ) (vs : List Value) →
@@ -186,22 +154,29 @@ module _ (scene : Scene) (word : ℕ) (bindings : List ℕ) (M : Mir) (ty : Plac
             (and-right (f (some t)) (eachFits fs ts) e) (and-right (m v) (matchAll ms vs) h),
       )
 
-  -- items of one type, as items each of its own
-  items-each : (fs : List (TypeNumber → Bool)) (u : ℕ) → itemsAllFit fs (some u) ≡ true → eachFits fs (replicate (length fs) u) ≡ true
-  unfolding itemsAllFit eachFits
-  items-each [] u e = refl
-  items-each (f ∷ fs) u e =
-      rw (and-left (f (some u)) (itemsAllFit fs (some u)) e) (items-each fs u (and-right (f (some u)) (itemsAllFit fs (some u)) e))
-
-  -- items of one type, on the elements from a on
-  pub suited-items : (elem : ℕ → ProjectionElem) → ((i : ℕ) → Fits (elem i)) → (a n : ℕ) (fs : List (TypeNumber → Bool)) (ms : List (Value → Bool)) (u : ℕ) (vs : List Value) →
-      length fs ≡ length ms → ((i : ℕ) → i < length vs → Valued (scene .image) ty w (elem (a + i)) u) → ((i : ℕ) → i < length fs → partAt (elem (a + i)) w ≡ getD vs i nothing) →
-      itemsAllFit fs (some u) ≡ true → matchAll ms vs ≡ true → Suited scene word bindings M ty w (map elem (upFrom a n)) fs ms
-  suited-items elem fit a n fs ms u vs same at part e h =
-      let long = match-length ms vs h in
-      let many = length-replicate (length fs) u in
-      suited-row elem fit a n fs ms (replicate (length fs) u) vs same (omega arith)
-      (λ i j. subst (Valued (scene .image) ty w (elem (a + i))) (sym (getD-replicate (length fs) i u 0 (omega arith))) (at i (omega arith))) part (items-each fs u e) h
+  -- items of one type that match, on the elements from a on
+  pub suited-items : (elem : ℕ → ProjectionElem) → ((i : ℕ) → Fits (elem i)) → (a n : ℕ) (fs : List (TypeNumber → Bool)) (ms : List (Value → Bool)) (u : ℕ) → length fs ≡ length ms →
+      ((i : ℕ) → i < length ms → Valued (scene .image) ty w (elem (a + i)) u) → itemsAllFit fs (some u) ≡ true → zipMatch (map elem (upFrom a n)) ms w ≡ true →
+      Suited scene word bindings M ty w (map elem (upFrom a n)) fs ms
+  unfolding upFrom itemsAllFit zipMatch
+  suited-items elem fit a zero fs ms u same at e h = tt
+  suited-items elem fit a (suc n) [] [] u same at e h = tt
+  suited-items elem fit a (suc n) [] (m ∷ ms) u same at e h = absurd (omega arith)
+  suited-items elem fit a (suc n) (f ∷ fs) [] u same at e h = absurd (omega arith)
+  suited-items elem fit a (suc n) (f ∷ fs) (m ∷ ms) u same at e h =
+      let next : (i : ℕ) → a + suc i ≡ a + 1 + i = λ i. omega arith in
+      let first = m (partAt (elem a) w) in
+      let others = zipMatch (map elem (upFrom (a + 1) n)) ms w in (
+        record {
+          fit = fit a;
+          number = u;
+          valued = subst (λ (k : ℕ). Valued (scene .image) ty w (elem k) u) (add-zero a) (at 0 (omega arith));
+          fits = and-left (f (some u)) (itemsAllFit fs (some u)) e;
+          matches = and-left first others h;
+        },
+        suited-items elem fit (a + 1) n fs ms u (omega arith) (λ i j. subst (λ (k : ℕ). Valued (scene .image) ty w (elem k) u) (next i) (at (suc i) (omega arith)))
+            (and-right (f (some u)) (itemsAllFit fs (some u)) e) (and-right first others h),
+      )
 
   -- fields by their numbers
   pub suited-record : (fields : List (Option ℕ)) (fs : List (TypeNumber → Bool)) (ms : List (Value → Bool)) (ts : List ℕ) → length fs ≡ length ms →

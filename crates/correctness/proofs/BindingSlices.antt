@@ -1,13 +1,11 @@
 -- Walks in Bind by kinds of patterns: slices. Assumes nothing.
-use Prim.Native.Nat.{ℕ, zero, suc, _+_, _-_, _<_}
-use native.Mathlib.Nat.{zero-add}
+use Prim.Native.Nat.{ℕ, _+_, _-_, _≤_, _<_}
 use native.Mathlib.Omega.{arith}
 use mathlib.Core.Path.{_≡_, refl, sym, ap, _∙_, subst}
 use mathlib.Core.Bool.{Bool, true}
 use mathlib.Core.Option.{some}
-use mathlib.Core.List.{List, [], _∷_, _++_, map}
-use lib.ListN.{length, getD, drop, length-drop}
-use lib.Seq.{getD-drop}
+use mathlib.Core.List.{List, [], _∷_, _++_, map, append-nil, reverse}
+use lib.ListN.{length, drop, length-drop, length-map, length-reverse}
 use Rattle.image.specs.Valid.{valid}
 use Rattle.image.specs.Lists.{upFrom}
 use Rattle.image.specs.Types.{Shape, integer, bool, char, str, tuple, adt, reference, array, slice, unknown, tyOf}
@@ -24,18 +22,21 @@ use Rattle.pattern_matching.specs.Variants.{patternMatchAdt}
 use Rattle.pattern_matching.specs.Slices.{RestOf, restBound, sliceItems, sliceOn}
 use Rattle.pattern_matching.specs.Patterns.{restBy, restOf}
 use Rattle.growth.proofs.Walks.{not-ok, ok-is, walked}
-use Rattle.meaning.specs.Values.{Value, nothing, partsOf, partAt, valueFits}
+use Rattle.meaning.specs.Values.{Value, partsOf, partAt, valueFits}
 use Rattle.meaning.specs.Running.{Scene}
 use Rattle.meaning.specs.Matching.{bindAll, matchAll, lastItems, boundAs}
 use Rattle.meaning.specs.Binding.{restBinds, restBinds?}
 use Rattle.meaning.specs.Typing.{TypeNumber, elementType}
 use Rattle.meaning.specs.Fitting.{itemsAllFit}
-use Rattle.meaning.proofs.Children.{Valued, index-valued, end-valued}
+use Rattle.meaning.proofs.Children.{length-from, index-valued, end-valued}
+use Rattle.correctness.specs.Demand2.{pathOf}
 use Rattle.correctness.proofs.Standing.{rooted-more, stands-onward, stepped}
-use Rattle.correctness.proofs.Permuting.{Binder}
-use Rattle.correctness.proofs.BindSteps.{Fills, fills-seq, fills-binding}
+use Rattle.correctness.proofs.Rows.{zipMatch, zip-numbered, last-items, zip-end}
+use Rattle.correctness.proofs.Slicing.{index-is}
+use Rattle.correctness.proofs.Permuting.{LocalsApart, Binder, Same, same-trans, same-sym, same-is, same-behind, turned, Separate, pieces-apart}
+use Rattle.correctness.proofs.BindSteps.{Fills, fills-seq, fills-as, fills-binding}
 use Rattle.correctness.proofs.BindingFields.{path-onward, FillsOn, AllCan, SameLength, can-length, fills-adt, Suited, suited-fill}
-use Rattle.correctness.proofs.BindingRows.{suited-items}
+use Rattle.correctness.proofs.BindingRows.{match-length, suited-items}
 use Rattle.correctness.proofs.BindingKinds.{fills-nothing}
 
 -- a Slice that is not refused stands on an array or a slice
@@ -54,24 +55,24 @@ slice-taken (array u n) image bindings p prefix rest suffix ctx c els place r e 
 slice-taken (slice u) image bindings p prefix rest suffix ctx c els place r e = (u, refl, e)
 slice-taken unknown image bindings p prefix rest suffix ctx c els place r e = absurd (not-ok e)
 
--- fewer than two items at the end are the last ones from either side
-last-items : (n : ℕ) → n < 2 → map (λ i. ProjectionElem.IndexFromEnd i) (upFrom 0 n) ≡ lastItems n
-unfolding upFrom lastItems
-last-items zero h = refl
-last-items (suc zero) h = refl
-last-items (suc (suc n)) h = absurd (omega arith)
+-- items at the end, from the last on and from the first: the same
+items-order : (bindings : List ℕ) → LocalsApart bindings → (bs : List Binder) (path : Path) (v : Value) → Separate bindings bs →
+    Same bindings (bindAll bs (map (λ i. ProjectionElem.IndexFromEnd i) (upFrom 0 (length bs))) path v) (bindAll (reverse bs) (lastItems (length (reverse bs))) path v)
+unfolding bindAll
+items-order bindings apart bs path v sep =
+    let elems = map (λ i. ProjectionElem.IndexFromEnd i) (upFrom 0 (length bs)) in
+    let size : length bs ≡ length elems = sym (length-map (upFrom 0 (length bs)) (λ i. ProjectionElem.IndexFromEnd i) ∙ length-from 0 (length bs)) in
+    same-trans bindings (same-is bindings (sym (append-nil (bindAll bs elems path v))))
+    (same-trans bindings (same-sym bindings (turned bindings path v bs [] elems [] size (pieces-apart bindings apart path v bs elems sep)))
+    (same-is bindings (ap (λ (es : List ProjectionElem). bindAll (reverse bs) es path v) (last-items (length bs) ∙ ap lastItems (sym (length-reverse bs))))))
 
--- the last element from either side
-from-end : (n k i : ℕ) → i < k → k < 2 → n - 1 - (0 + i) ≡ n - k + i
-from-end n k i h few = omega arith
-
--- an element from the end is one
-end-inside : (n k i m : ℕ) → m ≡ n - (n - k) → i < m → 0 + i < n
-end-inside n k i m e h = omega arith
+-- if the last k of some elements are k at least, there are k
+last-there : (n k m l : ℕ) → k ≡ l → m ≡ n - (n - k) → k ≤ m → l ≤ n
+last-there n k m l e q h = omega arith
 
 module _ (scene : Scene) (word : ℕ) (bindings : List ℕ) (M : Mir) (holds : valid (scene .image) ≡ true) where
   -- a rest binds the part between the items
-  fills-rest-by : (rest : Pat) (p front end : ℕ) (ty : PlaceTy) (w : Value) → end < 2 →
+  fills-rest-by : (rest : Pat) (p front end : ℕ) (ty : PlaceTy) (w : Value) → end < 8192 →
       FillsOn scene word bindings M (restBound (restBy rest) bindings p front end) ty w (λ path v. restBinds rest front end path v)
   unfolding restBy restBinds restBound
   fills-rest-by (Pat.Missing h) p front end ty w few = fills-nothing scene word bindings M (restBound RestOf.ignores bindings p front end) ty w (λ ctx c els place r e. ok-is e)
@@ -91,8 +92,8 @@ module _ (scene : Scene) (word : ℕ) (bindings : List ℕ) (M : Mir) (holds : v
         fill = λ ctx c els place r root ready s e.
             stepped p (project place elem) _ e (λ place′ e₁ e₂.
             subst (λ (path : Path). Fills scene bindings M ctx c els (record { binding = b; what = boundAs how path (partAt elem w) } ∷ []) r)
-            (path-onward place elem place′ (omega arith) (s .elements) e₁)
-            (fills-binding bindings M p (h .number) b how ctx c els r ready (stands-onward elem place′ holds (omega arith) s e₁) e₂));
+            (path-onward place elem place′ few (s .elements) e₁)
+            (fills-binding bindings M p (h .number) b how ctx c els r ready (stands-onward elem place′ holds few s e₁) e₂));
       }
   fills-rest-by (Pat.TupleStruct h args ellipsis v) p front end ty w few = fills-nothing scene word bindings M (restBound RestOf.ignores bindings p front end) ty w (λ ctx c els place r e. ok-is e)
   fills-rest-by (Pat.Ref h s) p front end ty w few = fills-nothing scene word bindings M (restBound RestOf.ignores bindings p front end) ty w (λ ctx c els place r e. ok-is e)
@@ -101,22 +102,23 @@ module _ (scene : Scene) (word : ℕ) (bindings : List ℕ) (M : Mir) (holds : v
   fills-rest-by (Pat.Deref h) p front end ty w few = fills-nothing scene word bindings M (restBound RestOf.ignores bindings p front end) ty w (λ ctx c els place r e. ok-is e)
 
   -- a rest that may be absent
-  fills-rest : (rest : PatOpt) (p front end : ℕ) (ty : PlaceTy) (w : Value) → end < 2 →
+  fills-rest : (rest : PatOpt) (p front end : ℕ) (ty : PlaceTy) (w : Value) → end < 8192 →
       FillsOn scene word bindings M (restBound (restOf rest) bindings p front end) ty w (λ path v. restBinds? rest front end path v)
   unfolding restOf restBinds? restBound
   fills-rest no p front end ty w few = fills-nothing scene word bindings M (restBound RestOf.none bindings p front end) ty w (λ ctx c els place r e. ok-is e)
   fills-rest (sub rest) p front end ty w few = fills-rest-by rest p front end ty w few
 
-  -- a Slice: the items in front, the rest, and the items at the end
-  pub fills-slice : (p : ℕ) {ls ls′ : List Lowering} {fs fs′ : List (TypeNumber → Bool)} {ms ms′ : List (Value → Bool)} {bs bs′ : List Binder} →
-      AllCan scene word bindings M ls fs ms bs → AllCan scene word bindings M ls′ fs′ ms′ bs′ → (rest : PatOpt) (t : ℕ) (w : Value) → valueFits (scene .image) w t ≡ true →
-      itemsAllFit fs (elementType (tyOf (scene .image) t .shape)) ≡ true → itemsAllFit fs′ (elementType (tyOf (scene .image) t .shape)) ≡ true → length ms′ < 2 →
-      matchAll ms (partsOf w) ≡ true → matchAll ms′ (drop (length (partsOf w) - length ms′) (partsOf w)) ≡ true →
+  -- a Slice: the items in front, the rest, and the items at the end from the last on
+  pub fills-slice : LocalsApart bindings → (p : ℕ) {ls ls′ : List Lowering} {fs fs′ : List (TypeNumber → Bool)} {ms ms′ : List (Value → Bool)} {bs bs′ : List Binder} →
+      AllCan scene word bindings M ls fs ms bs → AllCan scene word bindings M ls′ fs′ ms′ bs′ → Separate bindings bs′ → length ls′ < 8192 →
+      (rest : PatOpt) (t : ℕ) (w : Value) → valueFits (scene .image) w t ≡ true →
+      itemsAllFit fs (elementType (tyOf (scene .image) t .shape)) ≡ true → itemsAllFit fs′ (elementType (tyOf (scene .image) t .shape)) ≡ true →
+      matchAll ms (partsOf w) ≡ true → matchAll (reverse ms′) (drop (length (partsOf w) - length (reverse ms′)) (partsOf w)) ≡ true →
       FillsOn scene word bindings M (sliceOn (tyOf (scene .image) t .shape) (scene .image) bindings p ls (restOf rest) ls′) (PlaceTy.Ty t) w
       (λ path v. bindAll bs (map (λ i. ProjectionElem.Index i) (upFrom 0 (length bs))) path v
-      ++ (restBinds? rest (length bs) (length bs′) path v ++ bindAll bs′ (lastItems (length bs′)) path v))
-  unfolding sliceItems partAt
-  fills-slice p {ls} {ls′} {fs} {fs′} {ms} {ms′} {bs} {bs′} cs cs′ rest t w value fits fits′ few match match′ =
+      ++ (restBinds? rest (length bs) (length (reverse bs′)) path v ++ bindAll (reverse bs′) (lastItems (length (reverse bs′))) path v))
+  unfolding sliceItems
+  fills-slice apart p {ls} {ls′} {fs} {fs′} {ms} {ms′} {bs} {bs′} cs cs′ sep few rest t w value fits fits′ match match′ =
       record {
         fill = λ ctx c els place r root ready s e.
             let shape = tyOf (scene .image) t .shape in
@@ -127,12 +129,17 @@ module _ (scene : Scene) (word : ℕ) (bindings : List ℕ) (M : Mir) (holds : v
             walked (restBound (restOf rest) bindings p (length ls) (length ls′) MatchingMode.Bind (r₁ .ctx) (r₁ .then) (r₁ .else) place) _ e₃ (λ r₂ e₄ e₅.
             let f₁ = fills-adt scene word bindings M (PlaceTy.Ty t) w holds p front ls bs (suited-fill scene word bindings M (PlaceTy.Ty t) w front cs (first u is)) ctx c els place r₁ root ready s e₂ in
             let root₁ = rooted-more scene word (ctx .state) (r₁ .ctx .state) (f₁ .leaves .worked .moreLocals) (f₁ .leaves .worked .locals) root in
-            let f₂ = fills-rest rest p (length ls) (length ls′) (PlaceTy.Ty t) w fewer .fill (r₁ .ctx) (r₁ .then) (r₁ .else) place r₂ root₁ (f₁ .leaves .ready) s e₄ in
+            let f₂ = fills-rest rest p (length ls) (length ls′) (PlaceTy.Ty t) w few .fill (r₁ .ctx) (r₁ .then) (r₁ .else) place r₂ root₁ (f₁ .leaves .ready) s e₄ in
             let root₂ = rooted-more scene word (r₁ .ctx .state) (r₂ .ctx .state) (f₂ .leaves .worked .moreLocals) (f₂ .leaves .worked .locals) root₁ in
             let f₃ = fills-adt scene word bindings M (PlaceTy.Ty t) w holds p back ls′ bs′ (suited-fill scene word bindings M (PlaceTy.Ty t) w back cs′ (last u is)) (r₂ .ctx) (r₂ .then) (r₂ .else) place r root₂
             (f₂ .leaves .ready) s e₅ in
             let whole = fills-seq r₁ r ready f₁ (fills-seq r₂ r (f₁ .leaves .ready) f₂ f₃) in
-            rw (n .binders, n′ .binders, ← last-items (length ls′) fewer) whole));
+            let path = pathOf place in
+            let A = bindAll bs (map (λ i. ProjectionElem.Index i) (upFrom 0 (length bs))) path w in
+            let R = restBinds? rest (length bs) (length (reverse bs′)) path w in
+            let counted : Fills scene bindings M ctx c els (A ++ (R ++ bindAll bs′ (map (λ i. ProjectionElem.IndexFromEnd i) (upFrom 0 (length bs′))) path w)) r =
+            rw (length-reverse bs′, n .binders, n′ .binders) whole in
+            fills-as r (same-behind bindings A (same-behind bindings R (items-order bindings apart bs′ path w sep))) counted));
       }
     where
       n : SameLength scene word bindings M ls fs ms bs
@@ -141,21 +148,24 @@ module _ (scene : Scene) (word : ℕ) (bindings : List ℕ) (M : Mir) (holds : v
       n′ : SameLength scene word bindings M ls′ fs′ ms′ bs′
       n′ = can-length scene word bindings M cs′
 
-      fewer : length ls′ < 2
-      fewer = subst (λ (k : ℕ). k < 2) (n′ .matches) few
+      many : length ms ≤ length (partsOf w)
+      many = match-length ms (partsOf w) match
+
+      many′ : length ms′ ≤ length (partsOf w)
+      many′ =
+          let all = length (partsOf w) in
+          let k = length (reverse ms′) in
+          last-there all k (length (drop (all - k) (partsOf w))) (length ms′) (length-reverse ms′) (length-drop (all - k) (partsOf w)) (match-length (reverse ms′) (drop (all - k) (partsOf w)) match′)
 
       first : (u : ℕ) → elementType (tyOf (scene .image) t .shape) ≡ some u → Suited scene word bindings M (PlaceTy.Ty t) w (map (λ i. ProjectionElem.Index i) (upFrom 0 (length ls))) fs ms
       first u is =
-          suited-items scene word bindings M (PlaceTy.Ty t) w (λ i. ProjectionElem.Index i) (λ i. tt) 0 (length ls) fs ms u (partsOf w) (n .fits ∙ sym (n .matches))
-          (λ i j. subst (λ (k : ℕ). Valued (scene .image) (PlaceTy.Ty t) w (ProjectionElem.Index k) u) (sym (zero-add i)) (index-valued (scene .image) t w is value i j))
-          (λ i j. ap (λ (k : ℕ). getD (partsOf w) k nothing) (zero-add i)) (ap (itemsAllFit fs) (sym is) ∙ fits) match
+          suited-items scene word bindings M (PlaceTy.Ty t) w (λ i. ProjectionElem.Index i) (λ i. tt) 0 (length ls) fs ms u (n .fits ∙ sym (n .matches))
+          (λ i j. index-valued (scene .image) t w is value (0 + i) (omega (arith, many))) (ap (itemsAllFit fs) (sym is) ∙ fits)
+          (zip-numbered (λ i. ProjectionElem.Index i) 0 (length ls) ms w (index-is w) (omega (arith, n .matches)) (omega (arith, many)) ∙ match)
 
       last : (u : ℕ) → elementType (tyOf (scene .image) t .shape) ≡ some u →
           Suited scene word bindings M (PlaceTy.Ty t) w (map (λ i. ProjectionElem.IndexFromEnd i) (upFrom 0 (length ls′))) fs′ ms′
       last u is =
-          let all = length (partsOf w) in
-          let k = length ms′ in
-          suited-items scene word bindings M (PlaceTy.Ty t) w (λ i. ProjectionElem.IndexFromEnd i) (λ i. tt) 0 (length ls′) fs′ ms′ u (drop (all - k) (partsOf w)) (n′ .fits ∙ sym (n′ .matches))
-          (λ i j. end-valued (scene .image) t w is value (0 + i) (end-inside all k i (length (drop (all - k) (partsOf w))) (length-drop (all - k) (partsOf w)) j))
-          (λ i j. ap (λ (x : ℕ). getD (partsOf w) x nothing) (from-end all k i (subst (λ (x : ℕ). i < x) (n′ .fits ∙ sym (n′ .matches)) j) few) ∙ sym (getD-drop (all - k) (partsOf w) i nothing))
-          (ap (itemsAllFit fs′) (sym is) ∙ fits′) match′
+          suited-items scene word bindings M (PlaceTy.Ty t) w (λ i. ProjectionElem.IndexFromEnd i) (λ i. tt) 0 (length ls′) fs′ ms′ u (n′ .fits ∙ sym (n′ .matches))
+          (λ i j. end-valued (scene .image) t w is value (0 + i) (omega (arith, many′))) (ap (itemsAllFit fs′) (sym is) ∙ fits′)
+          (ap (λ (k : ℕ). zipMatch (map (λ i. ProjectionElem.IndexFromEnd i) (upFrom 0 k)) ms′ w) (sym (n′ .matches)) ∙ zip-end ms′ w many′ ∙ match′)

@@ -39,10 +39,11 @@ use Rattle.meaning.proofs.Children.{Valued, struct-valued, enum-valued}
 use Rattle.correctness.specs.Demand2.{pathOf}
 use Rattle.correctness.proofs.Standing.{Rooted, Stands, stands-onward, stands-as, stepped}
 use Rattle.correctness.proofs.Arguments.{accepted}
+use Rattle.correctness.proofs.Rows.{fields-there}
 use Rattle.correctness.proofs.Permuting.{LocalsApart, Binder, Separate}
 use Rattle.correctness.proofs.BindSteps.{Fills}
 use Rattle.correctness.proofs.BindingFields.{path-onward, FillsOn, AllCan, can-length, fills-adt, suited-fill}
-use Rattle.correctness.proofs.BindingRows.{resolved-there, suited-record, fills-row}
+use Rattle.correctness.proofs.BindingRows.{suited-record, fills-row}
 use Rattle.correctness.proofs.BindingKinds.{needed-shape, fills-nothing}
 
 -- a pattern that names a variant and is not refused stands on an ADT that has it
@@ -176,7 +177,7 @@ module _ (scene : Scene) (word : ℕ) (bindings : List ℕ) (M : Mir) (holds : v
       record {
         fill = λ ctx c els place r root ready s e.
             let (elems, q, e₁) = record-taken (resolved (length ts) fields) p ls MatchingMode.Bind ctx c els place r e in
-            let (all, same) = resolved-there (length ts) fields elems q in
+            let (all, same) = fields-there (length ts) fields elems q in
             let n = can-length scene word bindings M cs in
             let suited = suited-record scene word bindings M ty w fields fs ms ts (n .fits ∙ sym (n .matches)) (there .valued) all
             (ap (byFieldsFit fields fs) (sym (there .named)) ∙ fits) match in

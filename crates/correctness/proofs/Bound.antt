@@ -1,11 +1,11 @@
--- A walk in Bind over a fitting pattern that matches binds what the Reference says: by induction on the pattern. Assumes nothing.
+-- A walk in Bind over a fitting pattern binds what the Reference says of the pattern that the Rust reads, where that matches: by induction on the pattern.
+-- Assumes nothing.
 use Prim.Native.Nat.{ℕ, _+_, _-_, _<_}
 use native.Mathlib.Omega.{arith}
 use mathlib.Core.Path.{_≡_, refl, sym, ap, _∙_, subst}
-use mathlib.Core.Bool.{Bool, true, false, cond, _&&_, _||_, false≢true}
+use mathlib.Core.Bool.{Bool, true, cond, _&&_, false≢true}
 use mathlib.Core.Option.{none, some}
 use mathlib.Core.List.{List, [], _∷_, _++_, map}
-use borrow.Author.Tests.{ltb-true}
 use lib.ListN.{length, drop}
 use Rattle.image.specs.Valid.{valid}
 use Rattle.image.specs.Lists.{upFrom}
@@ -22,47 +22,36 @@ use Rattle.pattern_matching.specs.Patterns.{passing, orPattern, rangePattern, p
 use Rattle.growth.proofs.Walks.{ok-is}
 use Rattle.meaning.specs.Values.{Value, partsOf, partAt}
 use Rattle.meaning.specs.Running.{Scene}
-use Rattle.meaning.specs.Matching.{onto, crossed, crossedPath, Bound, boundAs, bindAll, matchAll, matchRow, matchFields, longEnough, isVariant, rowFields, recordFields, lastItems, variantPath, matches, matchers, matchAny, matches?}
+use Rattle.meaning.specs.Matching.{onto, crossed, crossedPath, Bound, boundAs, bindAll, matchAll, matchRow, matchFields, longEnough, isVariant, rowFields, recordFields, lastItems, variantPath, matches, matchers, matches?}
 use Rattle.meaning.specs.Binding.{restBinds?, binds, binders, bindFirst, binds?}
 use Rattle.meaning.specs.Typing.{referent}
 use Rattle.meaning.specs.Fitting.{typesFit, fitting, typesFit?}
 use Rattle.meaning.specs.Fit.{BoundAt, within, patCount, restBound?, boundIn, boundInAll, boundIn?, bindOnce, bindingsFit, allBindingsFit, bindingsFit?, alternativesFit, allBind, sameBindings}
-use Rattle.meaning.specs.Fits.{fewerThanTwo, asTheReference, allAsTheReference, asTheReference?}
+use Rattle.meaning.specs.Differences.{backwards, asTheRustReads, allAsTheRustReads, asTheRustReads?}
 use Rattle.meaning.proofs.Cutting.{Bytes}
 use Rattle.meaning.proofs.Typed.{headOf, tuple-fits, or-fits, record-fits, slice-fits, bind-fits, tuple-struct-fits, ref-fits, type-behind, value-here}
-use Rattle.meaning.proofs.Children.{deref-valued}
+use Rattle.meaning.proofs.Children.{lowerings-count, deref-valued}
 use Rattle.correctness.specs.Demand2.{pathOf}
+use Rattle.correctness.proofs.Reading.{matchers-backwards, binders-backwards}
 use Rattle.correctness.proofs.OfImages.{OfImage, AllOfImage, OfImage?}
-use Rattle.correctness.proofs.Checked.{all-check}
-use Rattle.correctness.proofs.Choosing.{anyOf, firstOf}
+use Rattle.correctness.proofs.Checked.{any-of, all-check}
+use Rattle.correctness.proofs.Choosing.{firstOf}
 use Rattle.correctness.proofs.Permuting.{LocalsApart, Binder}
-use Rattle.correctness.proofs.BindingNames.{AllLocal, local-left, local-right, within-among, separate}
+use Rattle.correctness.proofs.BindingNames.{AllLocal, once-right, local-left, local-right, within-among, separate}
 use Rattle.correctness.proofs.BindSteps.{Fills}
-use Rattle.correctness.proofs.BindingFields.{Can, AllCan, no-child, child}
+use Rattle.correctness.proofs.BindingFields.{FillsOn, Can, AllCan, no-child, child}
 use Rattle.correctness.proofs.BindingKinds.{fills-entered, fills-nothing, fills-tuple, fills-ref, fills-bind, fills-range, fills-lit}
 use Rattle.correctness.proofs.BindingVariants.{fills-tuple-struct, fills-record, fills-path}
 use Rattle.correctness.proofs.BindingSlices.{fills-slice}
 use Rattle.correctness.proofs.BindingOr.{fills-or}
 
 module _ (image : List ℕ) where
-  -- one of the alternatives matches
-  any-matches : (alts : Pats) (v : Value) → anyOf (map (λ (m : Value → Bool). m v) (matchers image alts)) ≡ matchAny image alts v
-  unfolding anyOf matchers
-  any-matches nil v = refl
-  any-matches (cons q qs) v = ap (λ (b : Bool). matches image q v || b) (any-matches qs v)
-
-  -- and the first that does binds
+  -- the first alternative that matches binds
   first-binds : (alts : Pats) (path : Path) (v : Value) →
       firstOf (map (λ (m : Value → Bool). m v) (matchers image alts)) (map (λ (b : Binder). b path v) (binders image alts)) ≡ bindFirst image alts path v
   unfolding firstOf matchers binders
   first-binds nil path v = refl
   first-binds (cons q qs) path v = ap (λ (bs : List Bound). cond (matches image q v) (binds image q path v) bs) (first-binds qs path v)
-
-  -- as many as there are patterns
-  matcher-count : (qs : Pats) → length (matchers image qs) ≡ patCount qs
-  unfolding matchers patCount
-  matcher-count nil = refl
-  matcher-count (cons q qs) = let e = matcher-count qs in omega arith
 
   -- what stands below a Ref fits what the reference refers to
   referent-fits : (s : Pat) (u : ℕ) (shape : Shape) → shape ≡ reference u → typesFit image s (referent shape) ≡ true → typesFit image s (some u) ≡ true
@@ -75,28 +64,28 @@ module _ (image : List ℕ) where
 
 module _ (scene : Scene) (word : ℕ) (bindings : List ℕ) (M : Mir) (holds : valid (scene .image) ≡ true) (bytes : Bytes (scene .image)) (apart : LocalsApart bindings) where
   mutual
-    unfolding patternMatchInner typesFit matches binds bindingsFit boundIn asTheReference headOf OfImage
+    unfolding patternMatchInner typesFit matches binds bindingsFit boundIn asTheRustReads headOf OfImage
 
     -- a pattern
-    pub bound : (pat : Pat) → bindingsFit (scene .image) pat ≡ true → AllLocal bindings (boundIn (scene .image) pat) → asTheReference pat ≡ true → OfImage (scene .image) pat →
-        Can scene word bindings M (patternMatchInner (scene .image) bindings pat) (λ t. typesFit (scene .image) pat t) (λ v. matches (scene .image) pat v)
-        (λ path v. binds (scene .image) pat path v)
-    bound (Pat.Missing h) f there ref of = record { fills = λ t w fits match value. absurd (false≢true match) }
-    bound (Pat.Rest h) f there ref of = record { fills = λ t w fits match value. absurd (false≢true match) }
-    bound (Pat.NotNull h) f there ref of = record { fills = λ t w fits match value. absurd (false≢true match) }
-    bound (Pat.Wild h) f there ref of =
+    pub bound : (pat : Pat) → bindingsFit (scene .image) pat ≡ true → AllLocal bindings (boundIn (scene .image) pat) → OfImage (scene .image) pat →
+        Can scene word bindings M (patternMatchInner (scene .image) bindings pat) (λ t. typesFit (scene .image) pat t) (λ v. matches (scene .image) (asTheRustReads pat) v)
+        (λ path v. binds (scene .image) (asTheRustReads pat) path v)
+    bound (Pat.Missing h) f there of = record { fills = λ t w fits match value. absurd (false≢true match) }
+    bound (Pat.Rest h) f there of = record { fills = λ t w fits match value. absurd (false≢true match) }
+    bound (Pat.NotNull h) f there of = record { fills = λ t w fits match value. absurd (false≢true match) }
+    bound (Pat.Wild h) f there of =
         record {
           fills = λ t w fits match value.
               fills-entered scene word bindings M holds (h .number) (h .derefs) passing t (h .ty) w (λ path v. []) (type-behind (scene .image) (Pat.Wild h) (some t) fits)
               (fills-nothing scene word bindings M passing (PlaceTy.Ty (h .ty)) (crossed (h .derefs) w) (λ ctx c els place r e. ok-is e));
         }
-    bound (Pat.Tuple h args ellipsis) f there ref of =
+    bound (Pat.Tuple h args ellipsis) f there of =
         let image = scene .image in
         let pat = Pat.Tuple h args ellipsis in
-        let bs = binders image args in
+        let bs = binders image (allAsTheRustReads args) in
         let each = and-right (bindOnce image (boundInAll image args)) (allBindingsFit image args) f in
         let once = and-left (bindOnce image (boundInAll image args)) (allBindingsFit image args) f in
-        let cs = all-bound args each there ref of in
+        let cs = all-bound args each there of in
         record {
           fills = λ t w fits match value.
               fills-entered scene word bindings M holds (h .number) (h .derefs) (tuplePattern image (h .number) (lowerings image bindings args) ellipsis) t (h .ty) w
@@ -104,41 +93,42 @@ module _ (scene : Scene) (word : ℕ) (bindings : List ℕ) (M : Mir) (holds : v
               (fills-tuple scene word bindings M holds apart (h .number) ellipsis cs (separate image bindings args each once there) (h .ty) (crossed (h .derefs) w) (value-here image pat w t fits value)
               (tuple-fits image h (some t) args ellipsis fits .1) match);
         }
-    bound (Pat.Or h alts) f there ref of =
+    bound (Pat.Or h alts) f there of =
         let image = scene .image in
         let pat = Pat.Or h alts in
+        let read = allAsTheRustReads alts in
         let first = alternativesFit image alts in
         let each = allBindingsFit image alts in
-        let ks = alts-bound alts (and-left first each f) (and-right first each f) there ref of in
+        let ks = alts-bound alts (and-left first each f) (and-right first each f) there of in
         record {
           fills = λ t w fits match value.
               let x = crossed (h .derefs) w in
               let g = fills-entered scene word bindings M holds (h .number) (h .derefs) (orPattern (h .number) (lowerings image bindings alts)) t (h .ty) w
-              (λ path v. firstOf (map (λ (m : Value → Bool). m v) (matchers image alts)) (map (λ (b : Binder). b path v) (binders image alts))) (type-behind image pat (some t) fits)
-              (fills-or scene word bindings M (h .number) (all-check holds bytes alts of ref) ks (h .ty) x (value-here image pat w t fits value) (or-fits image h (some t) alts fits .1)
-              (any-matches image alts x ∙ match)) in
+              (λ path v. firstOf (map (λ (m : Value → Bool). m v) (matchers image read)) (map (λ (b : Binder). b path v) (binders image read))) (type-behind image pat (some t) fits)
+              (fills-or scene word bindings M (h .number) (all-check holds bytes alts of) ks (h .ty) x (value-here image pat w t fits value) (or-fits image h (some t) alts fits .1)
+              (any-of image read x ∙ match)) in
               record {
                 fill = λ ctx c els place r root ready s e.
                     subst (λ (bs : List Bound). Fills scene bindings M ctx c els bs r)
-                    (first-binds image alts (crossedPath (h .derefs) (pathOf place)) x) (g .fill ctx c els place r root ready s e);
+                    (first-binds image read (crossedPath (h .derefs) (pathOf place)) x) (g .fill ctx c els place r root ready s e);
               };
         }
-    bound (Pat.Record h fields args v) f there ref of =
+    bound (Pat.Record h fields args v) f there of =
         let image = scene .image in
         let pat = Pat.Record h fields args v in
-        let bs = binders image args in
-        let cs = all-bound args (and-right (bindOnce image (boundInAll image args)) (allBindingsFit image args) f) there ref of in
+        let bs = binders image (allAsTheRustReads args) in
+        let cs = all-bound args (and-right (bindOnce image (boundInAll image args)) (allBindingsFit image args) f) there of in
         record {
           fills = λ t w fits match value.
               let x = crossed (h .derefs) w in
               let is = isVariant v x in
-              let row = matchFields fields (matchers image args) (partsOf x) in
+              let row = matchFields fields (matchers image (allAsTheRustReads args)) (partsOf x) in
               fills-entered scene word bindings M holds (h .number) (h .derefs) (variantPattern image (h .number) v (AdtPatternShape.Record fields (lowerings image bindings args))) t (h .ty) w
               (λ path y. bindAll bs (recordFields fields) (variantPath (tyOf image (h .ty) .shape) v path) y) (type-behind image pat (some t) fits)
               (fills-record scene word bindings M holds (h .number) fields cs v (h .ty) x (value-here image pat w t fits value) (record-fits image h (some t) fields args v fits .3) (and-left is row match)
               (and-right is row match));
         }
-    bound (Pat.Range h start end halfOpen) f there ref of =
+    bound (Pat.Range h start end halfOpen) f there of =
         let image = scene .image in
         let pat = Pat.Range h start end halfOpen in
         record {
@@ -146,43 +136,47 @@ module _ (scene : Scene) (word : ℕ) (bindings : List ℕ) (M : Mir) (holds : v
               fills-entered scene word bindings M holds (h .number) (h .derefs) (rangePattern image (h .number) (h .ty) start end) t (h .ty) w (λ path v. []) (type-behind image pat (some t) fits)
               (fills-range scene word bindings M (h .number) (h .ty) start end (PlaceTy.Ty (h .ty)) (crossed (h .derefs) w));
         }
-    bound (Pat.Slice h prefix rest suffix) f there ref of =
+    bound (Pat.Slice h prefix rest suffix) f there of =
         let image = scene .image in
         let pat = Pat.Slice h prefix rest suffix in
         let shape = tyOf image (h .ty) .shape in
-        let bs = binders image prefix in
-        let bs′ = binders image suffix in
+        let bs = binders image (allAsTheRustReads prefix) in
+        let bs′ = binders image (backwards (allAsTheRustReads suffix) nil) in
         let once = bindOnce image (boundIn image pat) in
         let front = allBindingsFit image prefix in
         let end = allBindingsFit image suffix in
+        let here = boundInAll image prefix in
         let middle = restBound? rest shape (h .ty) (patCount prefix + patCount suffix) in
-        let few = fewerThanTwo (patCount suffix) in
-        let as₁ = allAsTheReference prefix in
-        let as₂ = allAsTheReference suffix in
-        let cs = all-bound prefix (and-right once front (and-left (once && front) end f)) (local-left bindings (boundInAll image prefix) (middle ++ boundInAll image suffix) there)
-        (and-right few as₁ (and-left (few && as₁) as₂ ref)) (of .1) in
-        let cs′ = all-bound suffix (and-right (once && front) end f)
-        (local-right bindings middle (boundInAll image suffix) (local-right bindings (boundInAll image prefix) (middle ++ boundInAll image suffix) there)) (and-right (few && as₁) as₂ ref) (of .2) in
-        let fewer : length (matchers image suffix) < 2 =
-        let n = ltb-true (patCount suffix) 2 (and-left few as₁ (and-left (few && as₁) as₂ ref)) in omega (arith, matcher-count image suffix) in
+        let last = boundInAll image suffix in
+        let ends = and-right (once && front) end f in
+        let local = local-right bindings middle last (local-right bindings here (middle ++ last) there) in
+        let cs = all-bound prefix (and-right once front (and-left (once && front) end f)) (local-left bindings here (middle ++ last) there) (of .1) in
+        let cs′ = all-bound suffix ends local (of .2) in
+        let apart′ = separate image bindings suffix ends (once-right image middle last (once-right image here (middle ++ last) (and-left once front (and-left (once && front) end f)))) local in
+        let few : length (lowerings image bindings suffix) < 8192 = omega (arith, of .0, lowerings-count image bindings suffix) in
         record {
           fills = λ t w fits match value.
               let x = crossed (h .derefs) w in
               let vs = partsOf x in
-              let ms = matchers image prefix in
-              let ms′ = matchers image suffix in
+              let ms = matchers image (allAsTheRustReads prefix) in
+              let ms′ = matchers image (backwards (allAsTheRustReads suffix) nil) in
               let long = longEnough rest (length ms + length ms′) (length vs) in
               let m₁ = matchAll ms vs in
               let m₂ = matchAll ms′ (drop (length vs - length ms′) vs) in
               let facts = slice-fits image h (some t) prefix rest suffix fits in
-              fills-entered scene word bindings M holds (h .number) (h .derefs)
-              (sliceOn shape image bindings (h .number) (lowerings image bindings prefix) (restOf rest) (lowerings image bindings suffix)) t (h .ty) w
+              let l = sliceOn shape image bindings (h .number) (lowerings image bindings prefix) (restOf rest) (lowerings image bindings suffix) in
+              fills-entered scene word bindings M holds (h .number) (h .derefs) l t (h .ty) w
               (λ path v. bindAll bs (map (λ i. ProjectionElem.Index i) (upFrom 0 (length bs))) path v
               ++ (restBinds? rest (length bs) (length bs′) path v ++ bindAll bs′ (lastItems (length bs′)) path v)) (type-behind image pat (some t) fits)
-              (fills-slice scene word bindings M holds (h .number) cs cs′ rest (h .ty) x (value-here image pat w t fits value) (facts .3) (facts .4) fewer
-              (and-right long m₁ (and-left (long && m₁) m₂ match)) (and-right (long && m₁) m₂ match));
+              (subst (λ (ds : List Binder). FillsOn scene word bindings M l (PlaceTy.Ty (h .ty)) x
+              (λ path v. bindAll bs (map (λ i. ProjectionElem.Index i) (upFrom 0 (length bs))) path v
+              ++ (restBinds? rest (length bs) (length ds) path v ++ bindAll ds (lastItems (length ds)) path v)))
+              (sym (binders-backwards image (allAsTheRustReads suffix) nil))
+              (fills-slice scene word bindings M holds apart (h .number) cs cs′ apart′ few rest (h .ty) x (value-here image pat w t fits value) (facts .3) (facts .4)
+              (and-right long m₁ (and-left (long && m₁) m₂ match))
+              (subst (λ (ns : List (Value → Bool)). matchAll ns (drop (length vs - length ns) vs) ≡ true) (matchers-backwards image (allAsTheRustReads suffix) nil) (and-right (long && m₁) m₂ match))));
         }
-    bound (Pat.Path h target) f there ref of =
+    bound (Pat.Path h target) f there of =
         let image = scene .image in
         let pat = Pat.Path h target in
         record {
@@ -190,7 +184,7 @@ module _ (scene : Scene) (word : ℕ) (bindings : List ℕ) (M : Mir) (holds : v
               fills-entered scene word bindings M holds (h .number) (h .derefs) (pathPattern target image bindings (h .number) (h .ty)) t (h .ty) w (λ path v. []) (type-behind image pat (some t) fits)
               (fills-path scene word bindings M holds target (h .number) (h .ty) (crossed (h .derefs) w) (value-here image pat w t fits value) match);
         }
-    bound (Pat.Lit h operand) f there ref of =
+    bound (Pat.Lit h operand) f there of =
         let image = scene .image in
         let pat = Pat.Lit h operand in
         record {
@@ -198,88 +192,88 @@ module _ (scene : Scene) (word : ℕ) (bindings : List ℕ) (M : Mir) (holds : v
               fills-entered scene word bindings M holds (h .number) (h .derefs) (litBy (operand .kind) image (h .number) (h .ty) operand) t (h .ty) w (λ path v. []) (type-behind image pat (some t) fits)
               (fills-lit scene word bindings M (operand .kind) (h .number) (h .ty) operand (PlaceTy.Ty (h .ty)) (crossed (h .derefs) w));
         }
-    bound (Pat.Bind h b s how annotation) f there ref of =
+    bound (Pat.Bind h b s how annotation) f there of =
         let image = scene .image in
         let pat = Pat.Bind h b s how annotation in
         let own : BoundAt = record { binding = b; ty = h .ty; left = none } in
-        let c = bound? s (and-right (bindOnce image (own ∷ boundIn? image s)) (bindingsFit? image s) f) (local-right bindings (own ∷ []) (boundIn? image s) there) ref of in
+        let c = bound? s (and-right (bindOnce image (own ∷ boundIn? image s)) (bindingsFit? image s) f) (local-right bindings (own ∷ []) (boundIn? image s) there) of in
         record {
           fills = λ t w fits match value.
               let x = crossed (h .derefs) w in
               fills-entered scene word bindings M holds (h .number) (h .derefs) (bindPattern bindings (h .number) b how (lowering? image bindings s)) t (h .ty) w
-              (λ path v. binds? image s path v ++ (record { binding = b; what = boundAs how path v } ∷ [])) (type-behind image pat (some t) fits)
-              (fills-bind scene word bindings M (h .number) b how (lowering? image bindings s) (PlaceTy.Ty (h .ty)) x (λ path v. binds? image s path v)
+              (λ path v. binds? image (asTheRustReads? s) path v ++ (record { binding = b; what = boundAs how path v } ∷ [])) (type-behind image pat (some t) fits)
+              (fills-bind scene word bindings M (h .number) b how (lowering? image bindings s) (PlaceTy.Ty (h .ty)) x (λ path v. binds? image (asTheRustReads? s) path v)
               (c .fills (h .ty) x (bind-fits image h (some t) b s how annotation fits .1) match (value-here image pat w t fits value)));
         }
-    bound (Pat.TupleStruct h args ellipsis v) f there ref of =
+    bound (Pat.TupleStruct h args ellipsis v) f there of =
         let image = scene .image in
         let pat = Pat.TupleStruct h args ellipsis v in
-        let bs = binders image args in
+        let bs = binders image (allAsTheRustReads args) in
         let each = and-right (bindOnce image (boundInAll image args)) (allBindingsFit image args) f in
         let once = and-left (bindOnce image (boundInAll image args)) (allBindingsFit image args) f in
-        let cs = all-bound args each there ref of in
+        let cs = all-bound args each there of in
         record {
           fills = λ t w fits match value.
               let x = crossed (h .derefs) w in
               let is = isVariant v x in
-              let row = matchRow ellipsis (matchers image args) (partsOf x) in
+              let row = matchRow ellipsis (matchers image (allAsTheRustReads args)) (partsOf x) in
               fills-entered scene word bindings M holds (h .number) (h .derefs) (variantPattern image (h .number) v (AdtPatternShape.Tuple (lowerings image bindings args) ellipsis)) t (h .ty) w
               (λ path y. bindAll bs (rowFields ellipsis (length bs) (length (partsOf y))) (variantPath (tyOf image (h .ty) .shape) v path) y) (type-behind image pat (some t) fits)
               (fills-tuple-struct scene word bindings M holds apart (h .number) ellipsis cs (separate image bindings args each once there) v (h .ty) x (value-here image pat w t fits value)
               (tuple-struct-fits image h (some t) args ellipsis v fits .2) (and-left is row match) (and-right is row match));
         }
-    bound (Pat.Ref h s) f there ref of =
+    bound (Pat.Ref h s) f there of =
         let image = scene .image in
         let pat = Pat.Ref h s in
-        let c = bound s f there ref of in
+        let c = bound s f there of in
         record {
           fills = λ t w fits match value.
               let x = crossed (h .derefs) w in
               fills-entered scene word bindings M holds (h .number) (h .derefs) (refPattern image (h .number) (patternMatchInner image bindings s)) t (h .ty) w
-              (λ path v. binds image s (onto path ProjectionElem.Deref) (partAt ProjectionElem.Deref v)) (type-behind image pat (some t) fits)
-              (fills-ref scene word bindings M holds (h .number) (patternMatchInner image bindings s) (h .ty) x (λ path v. binds image s path v) (λ u is.
+              (λ path v. binds image (asTheRustReads s) (onto path ProjectionElem.Deref) (partAt ProjectionElem.Deref v)) (type-behind image pat (some t) fits)
+              (fills-ref scene word bindings M holds (h .number) (patternMatchInner image bindings s) (h .ty) x (λ path v. binds image (asTheRustReads s) path v) (λ u is.
               c .fills u (partAt ProjectionElem.Deref x) (referent-fits image s u (tyOf image (h .ty) .shape) is (ref-fits image h (some t) s fits .1)) match
               (deref-valued image (h .ty) x u is (value-here image pat w t fits value) .1)));
         }
-    bound (Pat.Expr h) f there ref of = record { fills = λ t w fits match value. absurd (false≢true match) }
-    bound (Pat.Box h) f there ref of = record { fills = λ t w fits match value. absurd (false≢true match) }
-    bound (Pat.Deref h) f there ref of = record { fills = λ t w fits match value. absurd (false≢true match) }
+    bound (Pat.Expr h) f there of = record { fills = λ t w fits match value. absurd (false≢true match) }
+    bound (Pat.Box h) f there of = record { fills = λ t w fits match value. absurd (false≢true match) }
+    bound (Pat.Deref h) f there of = record { fills = λ t w fits match value. absurd (false≢true match) }
 
     -- patterns in a row
-    all-bound : (qs : Pats) → allBindingsFit (scene .image) qs ≡ true → AllLocal bindings (boundInAll (scene .image) qs) → allAsTheReference qs ≡ true → AllOfImage (scene .image) qs →
-        AllCan scene word bindings M (lowerings (scene .image) bindings qs) (fitting (scene .image) qs) (matchers (scene .image) qs) (binders (scene .image) qs)
-    all-bound nil f there ref of = no-child
-    all-bound (cons q qs) f there ref of =
+    all-bound : (qs : Pats) → allBindingsFit (scene .image) qs ≡ true → AllLocal bindings (boundInAll (scene .image) qs) → AllOfImage (scene .image) qs →
+        AllCan scene word bindings M (lowerings (scene .image) bindings qs) (fitting (scene .image) qs) (matchers (scene .image) (allAsTheRustReads qs)) (binders (scene .image) (allAsTheRustReads qs))
+    all-bound nil f there of = no-child
+    all-bound (cons q qs) f there of =
         let image = scene .image in
-        child (bound q (and-left (bindingsFit image q) (allBindingsFit image qs) f) (local-left bindings (boundIn image q) (boundInAll image qs) there) (and-left (asTheReference q) (allAsTheReference qs) ref) (of .0))
+        child (bound q (and-left (bindingsFit image q) (allBindingsFit image qs) f) (local-left bindings (boundIn image q) (boundInAll image qs) there) (of .0))
         (all-bound qs (and-right (bindingsFit image q) (allBindingsFit image qs) f) (local-right bindings (boundIn image q) (boundInAll image qs) there)
-        (and-right (asTheReference q) (allAsTheReference qs) ref) (of .1))
+        (of .1))
 
-    -- alternatives, which bind the same ref the first
+    -- alternatives, which bind the same as the first
     alts-bound : (alts : Pats) → alternativesFit (scene .image) alts ≡ true → allBindingsFit (scene .image) alts ≡ true → AllLocal bindings (boundIn (scene .image) (Pat.Or (record { number = 0; ty = 0; derefs = 0 }) alts)) →
-        allAsTheReference alts ≡ true → AllOfImage (scene .image) alts →
-        AllCan scene word bindings M (lowerings (scene .image) bindings alts) (fitting (scene .image) alts) (matchers (scene .image) alts) (binders (scene .image) alts)
-    alts-bound nil first f there ref of = no-child
-    alts-bound (cons q qs) first f there ref of =
+        AllOfImage (scene .image) alts →
+        AllCan scene word bindings M (lowerings (scene .image) bindings alts) (fitting (scene .image) alts) (matchers (scene .image) (allAsTheRustReads alts)) (binders (scene .image) (allAsTheRustReads alts))
+    alts-bound nil first f there of = no-child
+    alts-bound (cons q qs) first f there of =
         let image = scene .image in
-        child (bound q (and-left (bindingsFit image q) (allBindingsFit image qs) f) there (and-left (asTheReference q) (allAsTheReference qs) ref) (of .0))
-        (others-bound qs (boundIn image q) first (and-right (bindingsFit image q) (allBindingsFit image qs) f) there (and-right (asTheReference q) (allAsTheReference qs) ref) (of .1))
+        child (bound q (and-left (bindingsFit image q) (allBindingsFit image qs) f) there (of .0))
+        (others-bound qs (boundIn image q) first (and-right (bindingsFit image q) (allBindingsFit image qs) f) there (of .1))
 
     -- those behind the first
-    others-bound : (alts : Pats) (xs : List BoundAt) → allBind (scene .image) xs alts ≡ true → allBindingsFit (scene .image) alts ≡ true → AllLocal bindings xs → allAsTheReference alts ≡ true → AllOfImage (scene .image) alts →
-        AllCan scene word bindings M (lowerings (scene .image) bindings alts) (fitting (scene .image) alts) (matchers (scene .image) alts) (binders (scene .image) alts)
-    others-bound nil xs all f there ref of = no-child
-    others-bound (cons q qs) xs all f there ref of =
+    others-bound : (alts : Pats) (xs : List BoundAt) → allBind (scene .image) xs alts ≡ true → allBindingsFit (scene .image) alts ≡ true → AllLocal bindings xs → AllOfImage (scene .image) alts →
+        AllCan scene word bindings M (lowerings (scene .image) bindings alts) (fitting (scene .image) alts) (matchers (scene .image) (allAsTheRustReads alts)) (binders (scene .image) (allAsTheRustReads alts))
+    others-bound nil xs all f there of = no-child
+    others-bound (cons q qs) xs all f there of =
         let image = scene .image in
         let same = sameBindings xs (boundIn image q) in
         child
         (bound q (and-left (bindingsFit image q) (allBindingsFit image qs) f) (local-same image bindings xs (boundIn image q) (and-left same (allBind image xs qs) all) there)
-        (and-left (asTheReference q) (allAsTheReference qs) ref) (of .0))
-        (others-bound qs xs (and-right same (allBind image xs qs) all) (and-right (bindingsFit image q) (allBindingsFit image qs) f) there (and-right (asTheReference q) (allAsTheReference qs) ref) (of .1))
+        (of .0))
+        (others-bound qs xs (and-right same (allBind image xs qs) all) (and-right (bindingsFit image q) (allBindingsFit image qs) f) there (of .1))
 
     -- a subpattern that may be absent
-    bound? : (s : PatOpt) → bindingsFit? (scene .image) s ≡ true → AllLocal bindings (boundIn? (scene .image) s) → asTheReference? s ≡ true → OfImage? (scene .image) s →
-        Can scene word bindings M (lowering? (scene .image) bindings s) (λ t. typesFit? (scene .image) s t) (λ v. matches? (scene .image) s v) (λ path v. binds? (scene .image) s path v)
-    bound? no f there ref of =
+    bound? : (s : PatOpt) → bindingsFit? (scene .image) s ≡ true → AllLocal bindings (boundIn? (scene .image) s) → OfImage? (scene .image) s →
+        Can scene word bindings M (lowering? (scene .image) bindings s) (λ t. typesFit? (scene .image) s t) (λ v. matches? (scene .image) (asTheRustReads? s) v) (λ path v. binds? (scene .image) (asTheRustReads? s) path v)
+    bound? no f there of =
         record { fills = λ t w fits match value. fills-nothing scene word bindings M passing (PlaceTy.Ty t) w (λ ctx c els place r e. ok-is e) }
-    bound? (sub s) f there ref of = bound s f there ref of
+    bound? (sub s) f there of = bound s f there of

@@ -1,5 +1,5 @@
--- The first half of demand 2: of a call's two walks the one in Check leads to the block that goes on where the pattern matches, and else to the else.
--- Assumes nothing.
+-- The first half of demand 2: of a call's two walks the one in Check leads to the block that goes on where the pattern that the Rust reads
+-- matches, and else to the else. Assumes nothing.
 use Prim.Native.Nat.{ℕ}
 use mathlib.Core.Path.{_≡_, refl}
 use mathlib.Core.Bool.{true}
@@ -23,6 +23,7 @@ use Rattle.meaning.specs.Matching.{matches, Bound}
 use Rattle.meaning.specs.Fitting.{typesFit}
 use Rattle.meaning.specs.Fit.{bindingsFit}
 use Rattle.meaning.specs.Fits.{fits, nothingRefused, localsDiffer}
+use Rattle.meaning.specs.Differences.{asTheRustReads}
 use Rattle.correctness.specs.Demand2.{pathOf, Handed, Fitting, Comes}
 use Rattle.correctness.proofs.Trails.{distinct-of}
 use Rattle.correctness.proofs.Walking.{rest, Walked, Lands}
@@ -57,13 +58,17 @@ fitting-types {image} {bindings} {ctx} {place} {t} {pat} f =
 pub check-half : (image bindings : List ℕ) (pat : Pat) (ctx : Ctx) (current : BasicBlockId) (els : OptBlock) (place : Place) (t : ℕ) (v : Value) (r : Out) (M : Mir) (env : Env) →
     Handed image bindings ctx current els place t → Fitting image bindings ctx place t pat v → OfImage image pat →
     patternMatchInner image bindings pat MatchingMode.Check ctx current els place ≡ ok r → GoesOn (mirOf (r .ctx .state)) M →
-    Lands (sceneOf image place v) bindings M ctx (current .0) env [] r (matches image pat v)
+    Lands (sceneOf image place v) bindings M ctx (current .0) env [] r (matches image (asTheRustReads pat) v)
 check-half image bindings pat ctx current els place t v r M env h f d is x =
-    checks {scene = sceneOf image place v} {bindings = bindings} {M = M} {word = rootWord ctx place} (f .image-valid) (f .image-bytes) pat d (f .shapes)
+    checks {scene = sceneOf image place v} {bindings = bindings} {M = M} {word = rootWord ctx place} (f .image-valid) (f .image-bytes) pat d
     .lands t (fitting-types f) ctx current els place v (handed-root h v) (handed-stands h v) (f .value) (h .starts) r is x env
 
 -- a walk as demand 2 says it
 pub comes : {image bindings : List ℕ} {M : Mir} {place : Place} {v : Value} {ctx ctx₁ : Ctx} {current : BasicBlockId} {env : Env} {bs : List Bound} {b : ℕ} {left : List Line} →
     Walked (sceneOf image place v) bindings M ctx (current .0) env bs ctx₁ b left → Comes image bindings M place v ctx current env bs b left
 unfolding rest
-comes {current} w = record { env′ = w .env′; entered = w .entered; run = w .run; once = distinct-of (current .0 ∷ w .entered) (w .trail .distinct); locals = w .locals }
+comes {current} w =
+    record {
+      stops = record { env′ = w .env′; entered = w .entered; run = w .run; once = distinct-of (current .0 ∷ w .entered) (w .trail .distinct) };
+      locals = w .locals;
+    }

@@ -1,3 +1,4 @@
+pub mod Reading
 pub mod Trails
 pub mod Walking
 pub mod Landing

@@ -96,13 +96,13 @@ none-bound (m ∷ ms) w = by (m w) (none-bound ms w)
     by true e = refl
     by false e = e
 
--- the ends of a range, as the Reference has them
-end-there : (image : List ℕ) (t : ℕ) (end : Option Operand) (halfOpen : Bool) (w : Value) → not (halfOpen && isThere end) ≡ true →
-    toEnd (operandValue? image t end) halfOpen w ≡ toEnd (operandValue? image t end) false w
+-- a range with an end is read as one that takes that end
+end-there : (image : List ℕ) (t : ℕ) (end : Option Operand) (halfOpen : Bool) (w : Value) →
+    toEnd (operandValue? image t end) (halfOpen && not (isThere end)) w ≡ toEnd (operandValue? image t end) false w
 unfolding toEnd
-end-there image t none halfOpen w e = refl
-end-there image t (some o) true w e = cc
-end-there image t (some o) false w e = refl
+end-there image t none halfOpen w = refl
+end-there image t (some o) true w = refl
+end-there image t (some o) false w = refl
 
 module _ {scene : Scene} {bindings : List ℕ} {M : Mir} {word : ℕ} where
   -- nothing to test
@@ -146,11 +146,11 @@ module _ {scene : Scene} {bindings : List ℕ} {M : Mir} {word : ℕ} where
       subst (λ (b : Bool). Lands scene bindings M ctx (c .0) env [] r b) (sym (and-all (both notAbove (scalarOf w) (scalarOf v)))) (lands-end p ctx c els u BinOp.Ge o v r h s worth is x env)
 
   -- a Range: one end after the other
-  pub looks-range : (p u : ℕ) (start end : Option Operand) (halfOpen : Bool) → EndIs (scene .image) u start → EndIs (scene .image) u end → not (halfOpen && isThere end) ≡ true →
+  pub looks-range : (p u : ℕ) (start end : Option Operand) (halfOpen : Bool) → EndIs (scene .image) u start → EndIs (scene .image) u end →
       Looks scene bindings M word (rangePattern (scene .image) p u start end)
-      (λ w. fromStart (operandValue? (scene .image) u start) w && toEnd (operandValue? (scene .image) u end) halfOpen w) u
+      (λ w. fromStart (operandValue? (scene .image) u start) w && toEnd (operandValue? (scene .image) u end) (halfOpen && not (isThere end)) w) u
   unfolding rangePattern
-  looks-range p u start end halfOpen first last closed =
+  looks-range p u start end halfOpen first last =
       record {
         lands = λ ctx c els place w root s fits h r is x env.
             walked (rangeEnd? (scene .image) p u BinOp.Le start ctx c els place) _ is (λ r₁ e₁ is₁.
@@ -158,7 +158,7 @@ module _ {scene : Scene} {bindings : List ℕ} {M : Mir} {word : ℕ} where
             let q′ : Leaves (r₁ .ctx .state) (r₁ .then) (r₁ .else) r = good-range-end (scene .image) p u BinOp.Ge end (r₁ .ctx) (r₁ .then) (r₁ .else) place .leaves (q .ready) r is₁ in
             lands-both r₁ r h q q′ (sharing-range-end (scene .image) p u BinOp.Le start ctx c els place .shares r₁ e₁)
             (start-lands p u start first ctx c els place (PlaceTy.Ty u) w s h r₁ e₁ (before r₁ r q q′ x) env)
-            (λ env _. subst (λ (b : Bool). Lands scene bindings M (r₁ .ctx) (r₁ .then .0) env [] r b) (sym (end-there (scene .image) u end halfOpen w closed))
+            (λ env _. subst (λ (b : Bool). Lands scene bindings M (r₁ .ctx) (r₁ .then .0) env [] r b) (sym (end-there (scene .image) u end halfOpen w))
             (end-lands p u end last (r₁ .ctx) (r₁ .then) (r₁ .else) place (PlaceTy.Ty u) w s (q .ready) r is₁ x env)));
       }
 

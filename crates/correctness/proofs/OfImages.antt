@@ -16,7 +16,7 @@ use Rattle.meaning.specs.Fit.{patCount}
 use Rattle.meaning.proofs.Cutting.{Bytes, little-small}
 use Rattle.correctness.proofs.Halving.{Drawn}
 
--- what patterns of an image have: their operands are drawn from it, a path's constant is an evaluated one, and a Slice has fewer than 2^64 items
+-- what patterns of an image have: their operands are drawn from it, a path's constant is an evaluated one, and a Slice has fewer than 8,192 items
 abbrev pub Drawn? : List ℕ → Option Operand → Type 0
 Drawn? image none = Unit {0}
 Drawn? image (some o) = Drawn image o
@@ -39,7 +39,7 @@ module _ (image : List ℕ) where
     OfImage (Pat.Or h alts) = AllOfImage alts
     OfImage (Pat.Record h fields args v) = AllOfImage args
     OfImage (Pat.Range h start end halfOpen) = Drawn? image start × Drawn? image end
-    OfImage (Pat.Slice h prefix rest suffix) = (patCount prefix + patCount suffix < 18446744073709551616) × AllOfImage prefix × AllOfImage suffix
+    OfImage (Pat.Slice h prefix rest suffix) = (patCount prefix + patCount suffix < 8192) × AllOfImage prefix × AllOfImage suffix
     OfImage (Pat.Path h target) = OfTarget image target
     OfImage (Pat.Lit h operand) = Drawn image operand
     OfImage (Pat.Bind h b s how annotation) = OfImage? s

@@ -47,6 +47,29 @@ LocalsApart bindings = (x y : ℕ) → getD bindings x 65535 ≢ 65535 → getD 
 abbrev pub Binder : Type 0
 Binder = Path → Value → List Bound
 
+-- what holds of all that each of the binders binds
+abbrev pub EachBinder : (Bound → Type 0) → List Binder → Type 0
+EachBinder P [] = Unit
+EachBinder P (b ∷ bs) = ((path : Path) (v : Value) → Each P (b path v)) × EachBinder P bs
+
+-- what follows from it holds too
+pub each-binder-map : (P Q : Bound → Type 0) (bs : List Binder) → ((b : Bound) → P b → Q b) → EachBinder P bs → EachBinder Q bs
+each-binder-map P Q [] f h = tt
+each-binder-map P Q (b ∷ bs) f h = ((λ path v. each-map P Q (b path v) f (h .0 path v)), each-binder-map P Q bs f (h .1))
+
+-- from the last binder on, before others
+pub each-binder-turned : (P : Bound → Type 0) (bs cs : List Binder) → EachBinder P bs → EachBinder P cs → EachBinder P (reverseAux bs cs)
+each-binder-turned P [] cs h k = k
+each-binder-turned P (b ∷ bs) cs h k = each-binder-turned P bs (b ∷ cs) (h .1) (h .0, k)
+
+-- at places one element on
+pub each-bound : (P : Bound → Type 0) (bs : List Binder) (elems : List ProjectionElem) (path : Path) (v : Value) → EachBinder P bs → Each P (bindAll bs elems path v)
+unfolding bindAll
+each-bound P [] elems path v h = tt
+each-bound P (b ∷ bs) [] path v h = tt
+each-bound P (b ∷ bs) (elem ∷ elems) path v h =
+    each-append P (b (onto path elem) (partAt elem v)) (bindAll bs elems path v) (h .0 (onto path elem) (partAt elem v)) (each-bound P bs elems path v (h .1))
+
 module _ (bindings : List ℕ) where
   -- the same after the one bindings as after the others
   pub record Same (bs cs : List Bound) : Type 0 where

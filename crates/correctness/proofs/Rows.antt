@@ -1,25 +1,25 @@
 -- Patterns on the elements that lead to their values: fields in a row, by number and from the end, as the Reference has them. Assumes nothing.
 use Prim.Native.Nat.{ℕ, zero, suc, _+_, _-_, _≤_}
-use native.Mathlib.Nat.{add-zero, zero-add, suc-add}
+use native.Mathlib.Nat.{add-zero, zero-add}
 use native.Mathlib.Numerals.{add-one}
 use native.Mathlib.Omega.{arith}
 use mathlib.Core.Path.{_≡_, refl, sym, ap, ap₂, _∙_}
 use mathlib.Core.Bool.{Bool, true, false, _&&_, true≢false, false≢true}
 use mathlib.Core.Option.{Option, none, some}
-use mathlib.Core.List.{List, [], _∷_, _++_, map, map-append, reverse, reverseAux, reverseAux-append}
+use mathlib.Core.List.{List, [], _∷_, _++_, map, map-append, reverse, reverseAux, reverseAux-append, reverse-reverse}
 use borrow.Author.Tests.{eqb-true, leb-true}
 use lib.Dec.{ltb}
-use lib.ListN.{length, getD, take, drop, length-take, length-drop, length-map}
+use lib.ListN.{length, getD, take, drop, length-take, length-drop, length-map, length-reverse}
 use lib.Seq.{drop-cons, take-length, drop-length}
 use Rattle.image.specs.Lists.{upFrom}
 use Rattle.image.proofs.Bools.{and-right}
 use Rattle.place.specs.declared.elems.ProjectionElem.{ProjectionElem}
 use Rattle.pattern_matching.specs.Variants.{fieldsUpTo, resolved}
 use Rattle.meaning.specs.Values.{Value, nothing, partsOf, partAt}
-use Rattle.meaning.specs.Matching.{matchAll, matchRow, matchFields, recordFields}
+use Rattle.meaning.specs.Matching.{matchAll, matchRow, matchFields, recordFields, lastItems}
 use Rattle.meaning.specs.Typing.{argumentsFit}
 use Rattle.meaning.specs.Fits.{fieldsThere}
-use Rattle.meaning.proofs.Children.{ellipsisPlace, fields-resolved}
+use Rattle.meaning.proofs.Children.{ellipsisPlace, from-append, length-from, fields-resolved}
 
 -- nothing is not something
 none-not-some : {A : Type 0} {a : A} → none ≡ some a → ⊥
@@ -83,20 +83,6 @@ field-is : (w : Value) (i : ℕ) → partAt (ProjectionElem.Field i) w ≡ getD 
 unfolding partAt
 field-is w i = refl
 
--- so many numbers from a on and then more
-from-append : (a m n : ℕ) → upFrom a (m + n) ≡ upFrom a m ++ upFrom (a + m) n
-unfolding upFrom
-from-append a zero n = rw (zero-add n, add-zero a)
-from-append a (suc m) n =
-    let e : a + 1 + m ≡ a + suc m = omega arith in
-    rw (suc-add m n) (ap (λ (xs : List ℕ). a ∷ xs) (from-append (a + 1) m n ∙ ap (λ (b : ℕ). upFrom (a + 1) m ++ upFrom b n) e))
-
--- they are so many
-pub length-from : (a n : ℕ) → length (upFrom a n) ≡ n
-unfolding upFrom
-length-from a zero = refl
-length-from a (suc n) = ap suc (length-from (a + 1) n)
-
 -- the last fields first, and then the others
 turned : (a m : ℕ) → reverse (fieldsUpTo (a + m)) ≡ reverseAux (map (λ i. ProjectionElem.Field i) (upFrom a m)) (reverse (fieldsUpTo a))
 turned a m =
@@ -114,6 +100,45 @@ zip-last a ms w e =
     ∙ ap (λ (b : Bool). zipMatch (map (λ i. ProjectionElem.Field i) (upFrom a (length ms))) ms w && b) (zip-none (reverse (fieldsUpTo a)) w)
     ∙ and-all (zipMatch (map (λ i. ProjectionElem.Field i) (upFrom a (length ms))) ms w)
     ∙ zip-numbered (λ i. ProjectionElem.Field i) a (length ms) ms w (field-is w) (omega arith) (omega arith)
+
+-- the items at the end from the last on, and then more: elements by their numbers from the end
+last-turned : (n m : ℕ) → reverseAux (lastItems n) (map (λ i. ProjectionElem.IndexFromEnd i) (upFrom n m)) ≡ map (λ i. ProjectionElem.IndexFromEnd i) (upFrom 0 (n + m))
+unfolding upFrom lastItems
+last-turned zero m = ap (λ (k : ℕ). map (λ i. ProjectionElem.IndexFromEnd i) (upFrom 0 k)) (sym (zero-add m))
+last-turned (suc n) m =
+    let more : n + suc m ≡ suc n + m = omega arith in
+    ap (λ (k : ℕ). reverseAux (lastItems n) (ProjectionElem.IndexFromEnd n ∷ map (λ i. ProjectionElem.IndexFromEnd i) (upFrom k m))) (sym (add-one n)) ∙ last-turned n (suc m)
+    ∙ ap (λ (k : ℕ). map (λ i. ProjectionElem.IndexFromEnd i) (upFrom 0 k)) more
+
+-- elements by their numbers from the end, turned round, are the items at the end
+pub last-items : (n : ℕ) → reverse (map (λ i. ProjectionElem.IndexFromEnd i) (upFrom 0 n)) ≡ lastItems n
+unfolding upFrom
+last-items n =
+    ap (λ (k : ℕ). reverse (map (λ i. ProjectionElem.IndexFromEnd i) (upFrom 0 k))) (sym (add-zero n)) ∙ ap reverse (sym (last-turned n 0)) ∙ reverse-reverse (lastItems n)
+
+-- patterns on the items at the end
+zip-items : (ms : List (Value → Bool)) (w : Value) → length ms ≤ length (partsOf w) → zipMatch (lastItems (length ms)) ms w ≡ matchAll ms (drop (length (partsOf w) - length ms) (partsOf w))
+unfolding zipMatch matchAll lastItems partAt
+zip-items [] w there = refl
+zip-items (m ∷ ms) w there =
+    let n = length (partsOf w) in
+    let k = length ms in
+    let here : n - 1 - k ≡ n - suc k = omega arith in
+    let onward : n - k ≡ suc (n - suc k) = omega arith in
+    ap₂ (λ (x y : Bool). x && y) (ap (λ (i : ℕ). m (getD (partsOf w) i nothing)) here) (zip-items ms w (omega arith) ∙ ap (λ (i : ℕ). matchAll ms (drop i (partsOf w))) onward)
+    ∙ ap (matchAll (m ∷ ms)) (sym (drop-cons (partsOf w) (n - suc k) nothing (omega arith)))
+
+-- patterns on elements by their numbers from the end: the last of them on the first of the items at the end
+pub zip-end : (ms : List (Value → Bool)) (w : Value) → length ms ≤ length (partsOf w) →
+    zipMatch (map (λ i. ProjectionElem.IndexFromEnd i) (upFrom 0 (length ms))) ms w ≡ matchAll (reverse ms) (drop (length (partsOf w) - length (reverse ms)) (partsOf w))
+unfolding zipMatch
+zip-end ms w there =
+    let elems = map (λ i. ProjectionElem.IndexFromEnd i) (upFrom 0 (length ms)) in
+    let n = length-reverse ms in
+    sym (and-all (zipMatch elems ms w))
+    ∙ sym (zip-reverse elems [] ms [] w (length-map (upFrom 0 (length ms)) (λ i. ProjectionElem.IndexFromEnd i) ∙ length-from 0 (length ms)))
+    ∙ ap (λ (es : List ProjectionElem). zipMatch es (reverse ms) w) (last-items (length ms) ∙ ap lastItems (sym n))
+    ∙ zip-items (reverse ms) w (omega arith)
 
 -- arguments in a row: those before the ellipsis on the first fields, and those behind it on the last ones, from the last on
 pub zip-row : (ellipsis : Option ℕ) (ms : List (Value → Bool)) (w : Value) → argumentsFit ellipsis (length ms) (length (partsOf w)) ≡ true →

@@ -7,7 +7,7 @@ use mathlib.Core.Option.{some}
 use mathlib.Core.List.{List, [], _∷_, _++_, append-nil, append-assoc}
 use borrow.Author.Tests.{ltb-true}
 use lib.Dec.{ltb}
-use lib.ListN.{length, getD, set, replicate, length-set, length-append, List·getD-append}
+use lib.ListN.{length, getD, set, length-set, length-append, List·getD-append}
 use Rattle.refusals.specs.declared.MirLowerError.{MirLowerError}
 use Rattle.refusals.specs.Refusals.{Result}
 use Rattle.refusals.specs.Refusals.{ok as done, refused as stopped}
@@ -166,11 +166,11 @@ deref-type image t u e = ap derefTy e
 
 -- references crossed: behind them lies what the pattern looks at
 pub crossing : {C : Type 0} {scene : Scene} {word : ℕ} {place : Place} {t : ℕ} {w : Value} (p n u : ℕ) (k : Place → Walk Out) (r : Out) → valid (scene .image) ≡ true →
-    Stands scene word place (PlaceTy.Ty t) w → behind (scene .image) (replicate n true) (some t) ≡ some u → derefed p place k n ≡ ok r →
+    Stands scene word place (PlaceTy.Ty t) w → behind (scene .image) n (some t) ≡ some u → derefed p place k n ≡ ok r →
     ((place′ : Place) → Stands scene word place′ (PlaceTy.Ty u) (crossed n w) → k place′ ≡ ok r → C) → C
 unfolding derefed behind crossed
 crossing {place} {t} p zero u k r holds s b e f = let same : t ≡ u = cc in f place (stands-as (ap PlaceTy.Ty same) s) e
 crossing {C} {scene} {place} {t} p (suc n) u k r holds s b e f =
-    let (x, q, rest) = behind-first (scene .image) (replicate n true) t u b in
+    let (x, q, rest) = behind-first (scene .image) n t u b in
     stepped p (project place ProjectionElem.Deref) (λ place′. derefed p place′ k n) e (λ place′ e₁ e₂.
     crossing p n u k r holds (stands-as (deref-type (scene .image) t x q) (stands-onward ProjectionElem.Deref place′ holds tt s e₁)) rest e₂ f)

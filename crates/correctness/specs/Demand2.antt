@@ -22,13 +22,13 @@ use Rattle.growth.specs.Opened.{Starts}
 use Rattle.meaning.specs.Values.{Value, valueFits}
 use Rattle.meaning.specs.Running.{Held, Env, Run}
 use Rattle.meaning.specs.Matching.{Bound}
-use Rattle.meaning.specs.Fits.{fits, asTheReference}
+use Rattle.meaning.specs.Fits.{fits}
 
 -- a place of the lowering, as MIR has it
 abbrev pub pathOf : Place → Path
 pathOf place = record { local = place .local .0; elems = projectionOf place }
 
--- the discriminant local is none of those handed in, or there is none
+-- the local l is not the discriminant's, or no discriminant local was handed in
 abbrev pub IsNotDiscr : DiscrTemp → ℕ → Type 0
 IsNotDiscr DiscrTemp.None l = Unit
 IsNotDiscr (DiscrTemp.Some d) l = l ≡ d .0 → ⊥
@@ -43,13 +43,12 @@ pub record Handed (image bindings : List ℕ) (ctx : Ctx) (current : BasicBlockI
   -- the type is one of the table
   pub named : t < typeCount image
 
--- pattern and value fit: a valid image, a pattern that fits outside the listed differences, and a value of the place's type
+-- pattern and value fit: a valid image, a pattern that fits, and a value of the place's type
 pub record Fitting (image bindings : List ℕ) (ctx : Ctx) (place : Place) (t : ℕ) (pat : Pat) (v : Value) : Type 0 where
   pub image-valid : valid image ≡ true
   -- an image is bytes
   pub image-bytes : (i : ℕ) → getD image i 0 < 256
   pub pattern : fits image bindings (place .local .0) (ctx .discr) t pat ≡ true
-  pub shapes : asTheReference pat ≡ true
   pub value : valueFits image v t ≡ true
 
 -- what a local holds after some bindings, if it held `held` before: what is bound to it last
@@ -57,20 +56,26 @@ unfoldable pub after : List ℕ → List Bound → ℕ → Held → Held
 after bindings [] l held = held
 after bindings (b ∷ bs) l held = after bindings bs l (cond (eqb l (getD bindings (b .binding) 65535)) (b .what) held)
 
--- no block stands in the list twice
+-- b stands nowhere in the list
 abbrev pub NoneIs : ℕ → List ℕ → Type 0
 NoneIs b [] = Unit
 NoneIs b (x ∷ xs) = (b ≡ x → ⊥) × NoneIs b xs
 
+-- no block stands in the list twice
 abbrev pub Distinct : List ℕ → Type 0
 Distinct [] = Unit
 Distinct (x ∷ xs) = NoneIs x xs × Distinct xs
 
--- A run in the body M on a value, from the block current behind the lines that there were in ctx, comes to the block b with `left` still to be looked at: it
--- enters no block twice, and every local handed in, but the discriminant's, holds what the bindings say or what it held.
-pub record Comes (image bindings : List ℕ) (M : Mir) (place : Place) (v : Value) (ctx : Ctx) (current : BasicBlockId) (env : Env) (bs : List Bound) (b : ℕ) (left : List Line) : Type 0 where
+-- a run in the body M on a value, from the block current behind the lines that there were in ctx, comes to the block b with `left` still to be looked at, and
+-- enters no block twice
+pub record Stops (image : List ℕ) (M : Mir) (place : Place) (v : Value) (ctx : Ctx) (current : BasicBlockId) (env : Env) (b : ℕ) (left : List Line) : Type 0 where
+  -- what the locals hold then
   pub env′ : Env
   pub entered : List ℕ
   pub run : Run (record { image = image; root = pathOf place; here = v }) M (current .0) (drop (length (ctx .state .statements)) (M .lines)) env b left env′ entered
   pub once : Distinct (current .0 ∷ entered)
-  pub locals : (l : ℕ) → l < length (ctx .state .locals) → IsNotDiscr (ctx .discr) l → env′ l ≡ after bindings bs l (env l)
+
+-- such a run, after which every local handed in, but the discriminant's, holds what the bindings say or what it held
+pub record Comes (image bindings : List ℕ) (M : Mir) (place : Place) (v : Value) (ctx : Ctx) (current : BasicBlockId) (env : Env) (bs : List Bound) (b : ℕ) (left : List Line) : Type 0 where
+  pub stops : Stops image M place v ctx current env b left
+  pub locals : (l : ℕ) → l < length (ctx .state .locals) → IsNotDiscr (ctx .discr) l → stops .env′ l ≡ after bindings bs l (env l)

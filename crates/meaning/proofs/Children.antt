@@ -61,12 +61,14 @@ ellipsisPlace (some at) n = at
 one-more : (n : ℕ) → 1 + n ≡ suc n
 one-more n = omega arith
 
-from-append : (a m n : ℕ) → upFrom a (m + n) ≡ upFrom a m ++ upFrom (a + m) n
+-- so many numbers from a on and then more
+pub from-append : (a m n : ℕ) → upFrom a (m + n) ≡ upFrom a m ++ upFrom (a + m) n
 unfolding upFrom
 from-append a zero n = rw (zero-add n, add-zero a)
 from-append a (suc m) n = let e : a + 1 + m ≡ a + suc m = omega arith in rw (suc-add m n) (ap (λ (xs : List ℕ). a ∷ xs) (from-append (a + 1) m n ∙ ap (λ (b : ℕ). upFrom (a + 1) m ++ upFrom b n) e))
 
-length-from : (a n : ℕ) → length (upFrom a n) ≡ n
+-- they are so many
+pub length-from : (a n : ℕ) → length (upFrom a n) ≡ n
 unfolding upFrom
 length-from a zero = refl
 length-from a (suc n) = ap suc (length-from (a + 1) n)

@@ -1,7 +1,7 @@
 -- References that are crossed, and places below the place handed in. Assumes nothing.
 use Prim.Native.Nat.{ℕ, zero, suc}
 use mathlib.Core.Path.{_≡_, refl, sym, ap, _∙_}
-use mathlib.Core.Bool.{Bool, true}
+use mathlib.Core.Bool.{true}
 use mathlib.Core.Option.{none, some}
 use mathlib.Core.List.{List, [], _∷_, _++_, append-nil, append-assoc}
 use native.Mathlib.Omega.{arith}
@@ -37,26 +37,26 @@ refers unknown e = absurd (none-some e)
 
 module _ (image : List ℕ) where
   -- behind no type there is none
-  pub behind-none : (ds : List Bool) → behind image ds none ≡ none
+  pub behind-none : (d : ℕ) → behind image d none ≡ none
   unfolding behind
-  behind-none [] = refl
-  behind-none (d ∷ ds) = refl
+  behind-none zero = refl
+  behind-none (suc d) = refl
 
   -- the first of some references
-  pub behind-first : (ds : List Bool) (t u : ℕ) → behind image (true ∷ ds) (some t) ≡ some u → (w : ℕ) × (tyOf image t .shape ≡ reference w) × (behind image ds (some w) ≡ some u)
+  pub behind-first : (d t u : ℕ) → behind image (suc d) (some t) ≡ some u → (w : ℕ) × (tyOf image t .shape ≡ reference w) × (behind image d (some w) ≡ some u)
   unfolding behind
-  behind-first ds t u e = by (referent (tyOf image t .shape)) refl e
+  behind-first d t u e = by (referent (tyOf image t .shape)) refl e
     where
-      by : (r : TypeNumber) → referent (tyOf image t .shape) ≡ r → behind image ds r ≡ some u → (w : ℕ) × (tyOf image t .shape ≡ reference w) × (behind image ds (some w) ≡ some u)
-      by none q b = absurd (none-some (sym (behind-none ds) ∙ b))
+      by : (r : TypeNumber) → referent (tyOf image t .shape) ≡ r → behind image d r ≡ some u → (w : ℕ) × (tyOf image t .shape ≡ reference w) × (behind image d (some w) ≡ some u)
+      by none q b = absurd (none-some (sym (behind-none d) ∙ b))
       by (some w) q b = (w, refers (tyOf image t .shape) q, b)
 
   -- what lies behind so many references fits the type that does
-  pub fits-crossed : (d : ℕ) (v : Value) (t u : ℕ) → behind image (replicate d true) (some t) ≡ some u → valueFits image v t ≡ true → valueFits image (crossed d v) u ≡ true
+  pub fits-crossed : (d : ℕ) (v : Value) (t u : ℕ) → behind image d (some t) ≡ some u → valueFits image v t ≡ true → valueFits image (crossed d v) u ≡ true
   unfolding crossed behind partAt derefed
   fits-crossed zero v t u b fits = let same : t ≡ u = cc in rw same at fits
   fits-crossed (suc d) v t u b fits =
-      let (w, e, rest) = behind-first (replicate d true) t u b in
+      let (w, e, rest) = behind-first d t u b in
       let (x, q, inner) = fits-reference image v t w e fits in
       fits-crossed d (derefed v) w u rest (rw q inner)
 

@@ -7,7 +7,7 @@ use mathlib.Core.List.{List}
 use native.Mathlib.Omega.{arith}
 use borrow.Author.Tests.{eqb-true, lt-ltb}
 use lib.Dec.{eqb}
-use lib.ListN.{length, getD, replicate}
+use lib.ListN.{length, getD}
 use Rattle.image.specs.declared.kinds.AdtKind.{AdtKind}
 use Rattle.image.specs.declared.kinds.BindingMode.{BindingMode}
 use Rattle.image.specs.declared.kinds.BindingAnnotation.{BindingAnnotation}
@@ -67,20 +67,20 @@ five : (a b c d f : Bool) → a && b && c && d && f ≡ true → (a ≡ true) ×
 five a b c d f e = let (x, z) = two (a && b && c && d) f e in let (p, q, r, s) = four a b c d x in (p, q, r, s, z)
 
 module _ (image : List ℕ) where
-  head-behind : (h : Head) (place : TypeNumber) → typeIsThePlaces image h place ≡ true → behind image (replicate (h .derefs) true) place ≡ some (h .ty)
+  head-behind : (h : Head) (place : TypeNumber) → typeIsThePlaces image h place ≡ true → behind image (h .derefs) place ≡ some (h .ty)
   unfolding typeIsThePlaces
-  head-behind h place e = by (behind image (replicate (h .derefs) true) place) e
+  head-behind h place e = by (behind image (h .derefs) place) e
     where
       by : (r : TypeNumber) → isType r (h .ty) ≡ true → r ≡ some (h .ty)
       by none q = absurd (false≢true q)
       by (some u) q = ap some (eqb-true u (h .ty) q)
 
   -- behind so many references of a type
-  behind-derefs : (d t u : ℕ) → behind image (replicate d true) (some t) ≡ some u → behindDerefs image (PlaceTy.Ty t) d ≡ PlaceTy.Ty u
+  behind-derefs : (d t u : ℕ) → behind image d (some t) ≡ some u → behindDerefs image (PlaceTy.Ty t) d ≡ PlaceTy.Ty u
   unfolding behind behindDerefs projectionTy tyProjection derefTy
   behind-derefs zero t u b = ap PlaceTy.Ty (let q : t ≡ u = cc in q)
   behind-derefs (suc d) t u b =
-      let (w, e, rest) = behind-first image (replicate d true) t u b in
+      let (w, e, rest) = behind-first image d t u b in
       ap (λ (s : Shape). behindDerefs image (derefTy s) d) e ∙ behind-derefs d w u rest
 
   module _ (h : Head) (place : TypeNumber) where
@@ -156,7 +156,7 @@ module _ (image : List ℕ) where
   head-fits (Pat.Deref h) place e = e
 
   -- the type behind its derefs is the head's
-  pub type-behind : (pat : Pat) (place : TypeNumber) → typesFit image pat place ≡ true → behind image (replicate (headOf pat .derefs) true) place ≡ some (headOf pat .ty)
+  pub type-behind : (pat : Pat) (place : TypeNumber) → typesFit image pat place ≡ true → behind image (headOf pat .derefs) place ≡ some (headOf pat .ty)
   type-behind pat place e = head-behind (headOf pat) place (head-fits pat place e)
 
   pub type-here : (pat : Pat) (t : ℕ) → typesFit image pat (some t) ≡ true → behindDerefs image (PlaceTy.Ty t) (headOf pat .derefs) ≡ PlaceTy.Ty (headOf pat .ty)
@@ -168,7 +168,7 @@ module _ (image : List ℕ) where
 
   -- nothing fits a place with no type
   pub no-type : (pat : Pat) → typesFit image pat none ≡ true → ⊥
-  no-type pat e = none-some (sym (behind-none image (replicate (headOf pat .derefs) true)) ∙ type-behind pat none e)
+  no-type pat e = none-some (sym (behind-none image (headOf pat .derefs)) ∙ type-behind pat none e)
 
   -- the field i of fields with these types
   field-there : (ts : List ℕ) (i : ℕ) → i < length ts → fieldOf ts i ≡ PlaceTy.Ty (getD ts i 0)

@@ -1,5 +1,5 @@
--- Document 01's "A pattern fits when ..": what is reached, the locals, and all clauses together; and the shapes that lie outside the proved meaning.
--- Its words stand in quotation marks. Assumes nothing: these are definitions.
+-- Document 01's "A pattern fits when ..": what is reached, the locals, and all clauses together. Its words stand in quotation marks.
+-- Assumes nothing: these are definitions.
 use Prim.Native.Nat.{ℕ}
 use mathlib.Core.Bool.{Bool, true, false, cond, _&&_, _||_, not}
 use mathlib.Core.Option.{Option, none, some}
@@ -14,7 +14,7 @@ use Rattle.lower.specs.declared.temps.DiscrTemp.{DiscrTemp}
 use Rattle.counting.specs.Reaching.{canFail}
 use Rattle.meaning.specs.Values.{kindNumber, hasValues}
 use Rattle.meaning.specs.Typing.{variantFields}
-use Rattle.meaning.specs.Fitting.{isThere, typesFit}
+use Rattle.meaning.specs.Fitting.{typesFit}
 use Rattle.meaning.specs.Fit.{patCount, bindingsFit}
 
 -- a struct or an enum that has the variant: not refused as 4, nor as 6 for want of a variant
@@ -134,38 +134,3 @@ localsDiffer bindings root discr = distinct (root ∷ (discrLocals discr ++ pres
 unfoldable pub fits : List ℕ → List ℕ → ℕ → DiscrTemp → ℕ → Pat → Bool
 fits image bindings root discr t pat =
     allTrue (typesFit image pat (some t) ∷ bindingsFit image pat ∷ nothingRefused image bindings pat ∷ localsDiffer bindings root discr ∷ [])
-
--- "The first two shapes lie outside the proved meaning": a half-open range with an end, and two or more items behind a rest, or at the end
-abbrev pub fewerThanTwo : ℕ → Bool
-fewerThanTwo n = ltb n 2
-
-unfoldable mutual
-  -- none of the listed differences of shape stands in the pattern
-  pub asTheReference : Pat → Bool
-  asTheReference (Pat.Missing h) = true
-  asTheReference (Pat.Rest h) = true
-  asTheReference (Pat.NotNull h) = true
-  asTheReference (Pat.Wild h) = true
-  asTheReference (Pat.Tuple h args ellipsis) = allAsTheReference args
-  asTheReference (Pat.Or h alts) = allAsTheReference alts
-  asTheReference (Pat.Record h fields args v) = allAsTheReference args
-  -- "`range_type` is ignored: a half-open range with an end takes that end."
-  asTheReference (Pat.Range h start end halfOpen) = not (halfOpen && isThere end)
-  -- "Suffix item i gets offset i from the end. Read with 0 as the last element, two or more run backwards."
-  asTheReference (Pat.Slice h prefix rest suffix) = fewerThanTwo (patCount suffix) && allAsTheReference prefix && allAsTheReference suffix
-  asTheReference (Pat.Path h target) = true
-  asTheReference (Pat.Lit h operand) = true
-  asTheReference (Pat.Bind h b s how annotation) = asTheReference? s
-  asTheReference (Pat.TupleStruct h args ellipsis v) = allAsTheReference args
-  asTheReference (Pat.Ref h s) = asTheReference s
-  asTheReference (Pat.Expr h) = true
-  asTheReference (Pat.Box h) = true
-  asTheReference (Pat.Deref h) = true
-
-  pub allAsTheReference : Pats → Bool
-  allAsTheReference nil = true
-  allAsTheReference (cons q qs) = asTheReference q && allAsTheReference qs
-
-  pub asTheReference? : PatOpt → Bool
-  asTheReference? no = true
-  asTheReference? (sub s) = asTheReference s

@@ -7,3 +7,4 @@ pub mod Typing
 pub mod Fitting
 pub mod Fit
 pub mod Fits
+pub mod Differences

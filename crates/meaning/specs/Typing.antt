@@ -1,11 +1,10 @@
 -- Document 01's "A pattern fits when ..", the clauses that hold down the whole tree, alternatives behind one that cannot fail included. Its words stand in
 -- quotation marks. Assumes nothing: these are definitions.
-use Prim.Native.Nat.{ℕ}
+use Prim.Native.Nat.{ℕ, zero, suc}
 use mathlib.Core.Bool.{Bool, true, false, cond}
 use mathlib.Core.Option.{Option, none, some}
 use mathlib.Core.List.{List, [], _∷_, map}
 use lib.Dec.{eqb, leb}
-use lib.ListN.{replicate}
 use Rattle.image.specs.declared.kinds.AdtKind.{AdtKind}
 use Rattle.image.specs.Lists.{member, distinct}
 use Rattle.image.specs.Integers.{inRange, integerValue}
@@ -17,7 +16,7 @@ use Rattle.meaning.specs.Values.{kindNumber}
 abbrev pub TypeNumber : Type 0
 TypeNumber = Option ℕ
 
--- what a reference refers to, behind so many: "derefs cross references"
+-- what a reference refers to
 unfoldable pub referent : Shape → TypeNumber
 referent (integer size signed) = none
 referent bool = none
@@ -30,10 +29,11 @@ referent (array t n) = none
 referent (slice t) = none
 referent unknown = none
 
-unfoldable pub behind : List ℕ → List Bool → TypeNumber → TypeNumber
-behind image [] t = t
-behind image (d ∷ ds) none = none
-behind image (d ∷ ds) (some t) = behind image ds (referent (tyOf image t .shape))
+-- the type behind so many references: "derefs cross references"
+unfoldable pub behind : List ℕ → ℕ → TypeNumber → TypeNumber
+behind image zero t = t
+behind image (suc d) none = none
+behind image (suc d) (some t) = behind image d (referent (tyOf image t .shape))
 
 abbrev pub isType : TypeNumber → ℕ → Bool
 isType none t = false
@@ -41,7 +41,7 @@ isType (some u) t = eqb u t
 
 -- "its type is, by number, the place's after its derefs"
 unfoldable pub typeIsThePlaces : List ℕ → Head → TypeNumber → Bool
-typeIsThePlaces image h place = isType (behind image (replicate (h .derefs) true) place) (h .ty)
+typeIsThePlaces image h place = isType (behind image (h .derefs) place) (h .ty)
 
 -- the types of the fields that a pattern's arguments stand for: those of a tuple, or of a variant that the ADT has
 unfoldable pub tupleFields : Shape → List ℕ
