@@ -1,4 +1,4 @@
 mod Halves
 mod Constants
-mod Operands
-mod Answers
+pub mod Operands
+pub mod Answers

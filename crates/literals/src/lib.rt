@@ -27,7 +27,7 @@ pub enum LoweredOperand {
 }
 
 // The number of `count` bytes from `at` on, the lowest first.
-fn half(bytes: &[u8], at: usize, count: usize) -> u64
+pub fn half(bytes: &[u8], at: usize, count: usize) -> u64
     requires { ⌜ (at + count ≤ length (now bytes)) × (count ≤ 8) ⌝ }
     ensures { λ r. ⌜ r ≡ littleEndian (take count (drop at (now (bytes .entry)))) ⌝ }
 {

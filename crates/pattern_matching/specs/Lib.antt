@@ -1,3 +1,4 @@
+pub mod Modes
 pub mod Walking
 pub mod Tests
 pub mod Variants

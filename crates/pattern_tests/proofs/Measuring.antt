@@ -1,0 +1,114 @@
+-- The length of a slice, by the ways through the code. Assumes nothing.
+use mathlib.Core.Path.{_≡_, refl}
+use mathlib.Core.Bool.{Bool, true, false}
+use mathlib.Core.List.{List}
+use Prim.Native.Nat.{ℕ, _*_, _<_}
+use lib.ListN.{length}
+use Rattle.refusals.specs.declared.MirLowerError.{MirLowerError}
+use Rattle.refusals.specs.Refusals.{Result}
+use Rattle.image.specs.declared.PatId.{PatId}
+use Rattle.row_tables.specs.Rows.{stored}
+use Rattle.place.specs.declared.LocalId.{LocalId}
+use Rattle.place.specs.declared.Place.{Place}
+use Rattle.mir.specs.declared.BasicBlockId.{BasicBlockId}
+use Rattle.mir.specs.declared.Counts.{Counts}
+use Rattle.mir.specs.declared.scopes.Counted.{Counted}
+use Rattle.mir.specs.declared.blocks.NewBlock.{NewBlock}
+use Rattle.mir.specs.declared.blocks.Terminator.{Terminator}
+use Rattle.mir.specs.declared.rvalues.Constant.{Constant}
+use Rattle.mir.specs.declared.rvalues.BinOp.{BinOp}
+use Rattle.mir.specs.declared.rvalues.Left.{Left}
+use Rattle.mir.specs.declared.rvalues.PlaceRvalue.{PlaceRvalue}
+use Rattle.mir.specs.Blocks.{termRow, newBlock}
+use Rattle.mir.specs.Rvalues.{placeRvalueRow}
+use Rattle.mir.specs.Statements.{newStatement, statementsAfter}
+use Rattle.state.specs.State.{State}
+use Rattle.state.specs.declared.Stepped.{Stepped}
+use Rattle.state.proofs.RowLengths.{place-rvalue-length}
+use Rattle.state.proofs.Calls.{set-answers}
+use Rattle.lower.specs.declared.temps.NewTemp.{NewTemp}
+use Rattle.lower.specs.declared.temps.DiscrTemp.{DiscrTemp}
+use Rattle.lower.specs.declared.merging.OptBlock.{OptBlock}
+use Rattle.lower.specs.Temps.{temp}
+use Rattle.lower.specs.Promises.{Makes}
+use Rattle.pattern_matching.specs.Walking.{Ctx, Out, Walk, localPlace}
+use Rattle.pattern_matching.specs.Slices.{lengthConstant}
+use Rattle.walks.specs.declared.Lowered.{Lowered}
+use Rattle.walks.specs.Answers.{Lent, lent, Primed, Begins, Lowers}
+use Rattle.walks.proofs.Following.{answers-by}
+use Rattle.pattern_tests.specs.Testing.{elseMade, compareStep, lengthEnd, lengthSwitch, lengthTestBy, Steps}
+use Rattle.pattern_tests.proofs.Branching.{loweredBy, else-full, else-then-full, else-then-made, else-then-ends, grown-to}
+use Rattle.pattern_tests.proofs.Assigning.{making, assign-no-local, assign-full, assign-then}
+
+-- `length_end`, with a rest or without
+module _ (image : List ℕ) (c : Counts) (l : LocalId) (n : ℕ) (current on other : BasicBlockId) {rest : Bool} where
+  -- the length is n
+  pub end-exact : (bl₀ s lo e : List ℕ) {bl : List ℕ} → rest ≡ false → bl ≡ stored bl₀ (12 * current .0) (termRow (Terminator.Switch l n 0 on other)) → current .0 < c .blocks →
+      Steps (λ st. lengthEnd image l n rest st current on other) c current (lent bl₀ s lo e) (Stepped.Now c) (lent bl s lo e)
+  unfolding lengthEnd
+  end-exact bl₀ s lo e is set h = rw is (λ sc R. set-answers bl₀ s lo sc e c current (Terminator.Switch l n 0 on other) set h R)
+
+  least : {constant : Constant} {place : Place} → rest ≡ true → constant ≡ lengthConstant n → place ≡ localPlace l → (st : State) →
+      compareStep image BinOp.Le (Left.Constant constant) place st current on other ≡ lengthEnd image l n rest st current on other
+  unfolding lengthEnd
+  least is k at st = rw (is, k, at) refl
+
+  -- the length is at least n
+  pub end-least : {constant : Constant} {place : Place} (t t′ : Lent) (r : Stepped) → rest ≡ true → constant ≡ lengthConstant n → place ≡ localPlace l →
+      Steps (λ st. compareStep image BinOp.Le (Left.Constant constant) place st current on other) c current t r t′ →
+      Steps (λ st. lengthEnd image l n rest st current on other) c current t r t′
+  end-least t t′ r is k at E sc R = answers-by (least is k at _) (E sc R)
+
+-- `length_switch`; t lies in the tables at entry
+module _ (image : List ℕ) (t : Lent) (c : Counts) (discr : DiscrTemp) (p : PatId) (l : LocalId) (n : ℕ) (rest : Bool) (current : BasicBlockId) (els : OptBlock) where
+  abbrev Switched : Lowered → Lent → Type 0
+  Switched = Lowers (λ ctx. lengthSwitch image (p .0) l n rest ctx current els) c discr current els t
+
+  abbrev ends : State → BasicBlockId → BasicBlockId → Result State
+  ends st on other = lengthEnd image l n rest st current on other
+
+  -- there is no room for an else
+  pub length-full : NewBlock.Full ≡ elseMade c els → Switched (Lowered.Refused MirLowerError.Limit p) t
+  unfolding lengthSwitch
+  length-full full = else-full p ends els t c discr current full
+
+  module _ {c₁ : Counts} {other : BasicBlockId} (made : NewBlock.Block c₁ other ≡ elseMade c els) where
+    -- nor for the block that goes on
+    pub length-then-full : NewBlock.Full ≡ newBlock c₁ → Switched (Lowered.Refused MirLowerError.Limit p) t
+    unfolding lengthSwitch
+    length-then-full full = else-then-full p ends els t c discr current made full
+
+    -- both are made, and the block goes on by the length
+    pub length-ends : {c₂ : Counts} {on : BasicBlockId} {t′ : Lent} (r : Stepped) → NewBlock.Block c₂ on ≡ newBlock c₁ → Primed t c → Begins c current els → Steps (λ st. ends st on other) c₂ current t r t′ →
+        Switched (loweredBy discr p on other r) t′
+    unfolding lengthSwitch
+    length-ends {on = on} r is P h E = else-then-ends p ends els t c discr current made is r h (grown-to (λ st. ends st on other) r (else-then-made made is P h .0) E) E
+
+-- `length_test`; bl₀, s₀, l₀ and e₀ are the tables at entry
+module _ (image bl₀ s₀ l₀ e₀ : List ℕ) (c : Counts) (discr : DiscrTemp) (p : PatId) (n : ℕ) (rest : Bool) (current : BasicBlockId) (els : OptBlock) (place : Place) where
+  abbrev Measured : Lowered → Lent → Type 0
+  Measured = Lowers (λ ctx. lengthTestBy rest image (p .0) n ctx current els place) c discr current els (lent bl₀ s₀ l₀ e₀)
+
+  abbrev row : LocalId → List ℕ
+  row m = placeRvalueRow current m PlaceRvalue.Len place
+
+  abbrev switches : LocalId → Ctx → Walk Out
+  switches m ctx = lengthSwitch image (p .0) m n rest ctx current els
+
+  -- there is no local
+  pub measure-no-temp : {err : MirLowerError} {s l e : List ℕ} → Makes (λ st. temp image st 257 current) c current s₀ l₀ e₀ (NewTemp.Refused err) s l e → Measured (Lowered.Refused err p) (lent bl₀ s l e)
+  unfolding lengthTestBy
+  measure-no-temp M = assign-no-local bl₀ p els row switches (making image 257 discr M)
+
+  module _ {c₁ : Counts} {m : LocalId} {s₁ s l e : List ℕ} (long : length (place .elems) ≡ 16) (M : Makes (λ st. temp image st 257 current) c current s₀ l₀ e₀ (NewTemp.Local c₁ m) s₁ l e)
+      (after : s ≡ statementsAfter c₁ s₁ (row m)) where
+    -- there is no room for the statement
+    pub measure-full : Counted.Full ≡ newStatement c₁ → Measured (Lowered.Refused MirLowerError.Limit p) (lent bl₀ s l e)
+    unfolding lengthTestBy
+    measure-full full = assign-full bl₀ p els row switches (making image 257 discr M) (place-rvalue-length current m PlaceRvalue.Len place long) after full
+
+    -- the block goes on by the local
+    pub measure-switches : {c₂ : Counts} {r : Lowered} {t : Lent} → Counted.Now c₂ ≡ newStatement c₁ → Primed (lent bl₀ s₀ l₀ e₀) c → Begins c current els → Lowers (switches m) c₂ discr current els (lent bl₀ s l e) r t →
+        Measured r t
+    unfolding lengthTestBy
+    measure-switches is P h L = assign-then bl₀ p els row switches (making image 257 discr M) (place-rvalue-length current m PlaceRvalue.Len place long) after is P h L

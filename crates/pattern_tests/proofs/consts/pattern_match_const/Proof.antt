@@ -1,0 +1,55 @@
+use borrow.Author.Needs.{needs}
+use Rattle.pattern_tests.proofs.consts.pattern_match_const.Statement.{statement}
+use Rattle.pattern_tests.proofs.consts.pattern_match_const.Tie as tie
+use Rattle.pattern_tests.proofs.consts.pattern_match_const.Reads as reads
+use Rattle.pattern_tests.proofs.consts.pattern_match_const.Lts as lts
+use Rattle.mir.proofs.blocks.new_basic_block.Reads as new-basic-block-reads
+use Rattle.pattern_tests.proofs.switching.compare.Reads as compare-reads
+use Rattle.pattern_tests.proofs.switching.else_block.Reads as else-block-reads
+use mathlib.Core.Path.{sym, _∙_}
+use Rattle.state.specs.declared.Stepped.{Stepped}
+use Rattle.pattern_tests.proofs.Branching.{then-else-made}
+use Rattle.pattern_tests.proofs.Constants.{const-full, const-else-full, const-ends}
+
+compare-requires : tie.Need-compare-requires
+compare-requires c κs =
+    let M = then-else-made (sym (c .before .before .before .before .before .before .before .before .before .c1 .given .1) ∙ c .before .before .before .before .before .before .before .before .before .before .before .new-basic-block .ensures) (sym (c .before .before .before .before .before .c2 .given .1) ∙ c .before .before .before .before .before .before .before .else-block .ensures) (c .before .before .before .before .before .before .before .before .before .before .before .before .before .before .before .before .before .pre .1) (c .before .before .before .before .before .before .before .before .before .before .before .before .before .before .before .before .before .pre .2) in
+    (c .before .before .before .before .before .before .before .before .before .before .before .before .before .before .before .before .before .pre .0, M .0, M .1)
+
+returns : tie.Need-returns
+returns c = const-full _ _ _ _ _ _ _ _ _ (sym (c .enum-told .given .1) ∙ c .before .before .new-basic-block .ensures)
+
+returns-2 : tie.Need-returns-2
+returns-2 c = const-else-full _ _ _ _ _ _ _ _ _ (sym (c .before .before .before .before .c1 .given .1) ∙ c .before .before .before .before .before .before .new-basic-block .ensures) (sym (c .enum-told2 .given .1) ∙ c .before .before .else-block .ensures)
+
+returns-3 : tie.Need-returns-3
+returns-3 c = const-ends _ _ _ _ _ _ _ _ _ (sym (c .before .before .before .before .before .before .before .before .before .before .before .before .before .before .before .before .before .before .before .before .before .c1 .given .1) ∙ c .before .before .before .before .before .before .before .before .before .before .before .before .before .before .before .before .before .before .before .before .before .before .before .new-basic-block .ensures) (Stepped.Refused _) (sym (c .before .before .before .before .before .before .before .before .before .before .before .before .before .before .before .before .before .c2 .given .1) ∙ c .before .before .before .before .before .before .before .before .before .before .before .before .before .before .before .before .before .before .before .else-block .ensures) (c .before .before .before .before .before .before .before .before .before .before .before .before .before .before .before .before .before .before .before .before .before .before .before .before .before .before .before .before .before .pre .1) (c .before .before .before .before .before .before .before .before .before .before .before .before .before .before .before .before .before .before .before .before .before .before .before .before .before .before .before .before .before .pre .2) (rw (c .before .e .given .1) at (c .before .before .before .before .before .before .before .before .before .before .before .compare .ensures))
+
+returns-4 : tie.Need-returns-4
+returns-4 c = const-ends _ _ _ _ _ _ _ _ _ (sym (c .before .before .before .before .before .before .before .before .before .before .before .before .before .before .before .before .before .before .before .before .before .c1 .given .1) ∙ c .before .before .before .before .before .before .before .before .before .before .before .before .before .before .before .before .before .before .before .before .before .before .before .new-basic-block .ensures) (Stepped.Now _) (sym (c .before .before .before .before .before .before .before .before .before .before .before .before .before .before .before .before .before .c2 .given .1) ∙ c .before .before .before .before .before .before .before .before .before .before .before .before .before .before .before .before .before .before .before .else-block .ensures) (c .before .before .before .before .before .before .before .before .before .before .before .before .before .before .before .before .before .before .before .before .before .before .before .before .before .before .before .before .before .pre .1) (c .before .before .before .before .before .before .before .before .before .before .before .before .before .before .before .before .before .before .before .before .before .before .before .before .before .before .before .before .before .pre .2) (rw (c .before .c3 .given .1) at (c .before .before .before .before .before .before .before .before .before .before .before .compare .ensures))
+
+pub pattern-match-const-spec : {M : Type 1} → statement M
+pattern-match-const-spec =
+    tie.close
+    (tie.spec
+    (λ c κs. search needs)
+    (λ c. search needs)
+    (λ c. search needs)
+    (λ c κs. search needs)
+    (λ c. search needs)
+    (λ c. search needs)
+    compare-requires
+    (λ c. search needs)
+    (λ c. search needs)
+    returns
+    returns-2
+    (λ c. search needs)
+    (λ c. search needs)
+    (λ c. search needs)
+    (λ c. search needs)
+    returns-3
+    (λ c. search needs)
+    (λ c. search needs)
+    (λ c. search needs)
+    (λ c. search needs)
+    returns-4)

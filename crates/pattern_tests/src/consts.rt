@@ -1,0 +1,267 @@
+// Literals and constants.
+use super::switching::compare;
+use super::switching::else_block;
+use super::switching::then_switch;
+use image::PatId;
+use image::Tables;
+use image::kinds::OperandKind;
+use image::kinds::operand_kind;
+use image::rows::operand_at;
+use literals::LoweredOperand;
+use literals::lower_const_to_operand;
+use literals::lower_literal_to_operand;
+use lower::merging::OptBlock;
+use lower::temps::DiscrTemp;
+use lower::temps::NewTemp;
+use lower::temps::temp;
+use mir::BasicBlockId;
+use mir::Counts;
+use mir::blocks::NewBlock;
+use mir::blocks::new_basic_block;
+use mir::locals::BOOL;
+use mir::rvalues::BinOp;
+use mir::rvalues::Constant;
+use mir::rvalues::Left;
+use mir::rvalues::push_binary_assignment;
+use mir::rvalues::push_constant_assignment;
+use mir::scopes::Counted;
+use pattern_matching::MatchingMode;
+use pattern_matching::is_check;
+use place::LocalId;
+use place::Place;
+use refusals::MirLowerError;
+use state::Stepped;
+use walks::Lowered;
+ghost use mathlib.Core.Path.{_≡_};
+ghost use mathlib.Core.Bool.{true};
+ghost use Prim.Native.Nat.{_<_};
+ghost use Rattle.image.specs.declared.kinds.OperandKind.{OperandKind};
+ghost use Rattle.image.specs.Tables.{Whole, typeCount};
+ghost use Rattle.image.specs.Operands.{operandHolds};
+ghost use Rattle.image.specs.Types.{operandOf};
+ghost use Rattle.image.specs.Valid.{valid};
+ghost use Rattle.pattern_matching.specs.Tests.{patternMatchConst, litBy, constantPath};
+ghost use Rattle.walks.specs.Answers.{lent, Primed, Begins, Lowers};
+ghost use Rattle.pattern_tests.specs.Testing.{isLiteral, constantCompared};
+
+// A place is compared with a constant; the block that goes on is made before an else.
+pub fn pattern_match_const(
+    image: &[u8],
+    tables: Tables,
+    blocks: &mut [u16],
+    statements: &mut [u16],
+    locals: &mut [u16],
+    entries: &mut [u16],
+    counts: Counts,
+    discr: DiscrTemp,
+    p: PatId,
+    constant: Constant,
+    current: BasicBlockId,
+    els: OptBlock,
+    place: Place,
+) -> Lowered
+    requires { ⌜ Whole (now image) tables × Primed (lent (now blocks) (now statements) (now locals) (now entries)) counts × Begins counts current els ⌝ }
+    ensures { λ r. ⌜ Lowers (λ ctx. patternMatchConst (now (image .entry)) (p .0) constant ctx current els place) counts discr current els (lent (now (blocks .entry)) (now (statements .entry)) (now (locals .entry)) (now (entries .entry))) r (lent (now (blocks .exit)) (now (statements .exit)) (now (locals .exit)) (now (entries .exit))) ⌝ }
+{
+    match new_basic_block(counts) {
+        NewBlock::Full => Lowered::Refused(MirLowerError::Limit, p),
+        NewBlock::Block(c1, then) => match else_block(c1, els) {
+            NewBlock::Full => Lowered::Refused(MirLowerError::Limit, p),
+            NewBlock::Block(c2, other) => match compare(
+                image,
+                tables,
+                blocks,
+                statements,
+                locals,
+                entries,
+                c2,
+                BinOp::Eq,
+                Left::Constant(constant),
+                place,
+                current,
+                then,
+                other,
+            ) {
+                Stepped::Refused(e) => Lowered::Refused(e, p),
+                Stepped::Now(c3) => Lowered::Done(c3, discr, then, OptBlock::Some(other)),
+            },
+        },
+    }
+}
+
+// An operand of these kinds is a literal.
+fn is_literal(kind: OperandKind) -> bool
+    ensures { λ r. ⌜ r ≡ isLiteral kind ⌝ }
+{
+    match kind {
+        OperandKind::Int => true,
+        OperandKind::Uint => true,
+        OperandKind::Char => true,
+        OperandKind::Bool => true,
+        OperandKind::Str => true,
+        OperandKind::CStr => true,
+        OperandKind::ByteStr => true,
+        OperandKind::Constant => false,
+        OperandKind::Float => true,
+        OperandKind::Other => false,
+        OperandKind::Unknown => false,
+    }
+}
+
+// A literal pattern of the type ty, whose operand begins at the word o of the list: it tests in Check, and what is no literal is refused in every mode.
+pub fn pattern_match_lit(
+    image: &[u8],
+    tables: Tables,
+    blocks: &mut [u16],
+    statements: &mut [u16],
+    locals: &mut [u16],
+    entries: &mut [u16],
+    counts: Counts,
+    discr: DiscrTemp,
+    mode: MatchingMode,
+    p: PatId,
+    ty: u16,
+    o: u16,
+    current: BasicBlockId,
+    els: OptBlock,
+    place: Place,
+) -> Lowered
+    requires { ⌜ (valid (now image) ≡ true) × Whole (now image) tables × (ty < typeCount (now image)) × (operandHolds (now image) o ≡ true) ⌝ }
+    requires { ⌜ Primed (lent (now blocks) (now statements) (now locals) (now entries)) counts × Begins counts current els ⌝ }
+    ensures { λ r. ⌜ Lowers (λ ctx. litBy (operandOf (now (image .entry)) o .kind) (now (image .entry)) (p .0) ty (operandOf (now (image .entry)) o) mode ctx current els place) counts discr current els (lent (now (blocks .entry)) (now (statements .entry)) (now (locals .entry)) (now (entries .entry))) r (lent (now (blocks .exit)) (now (statements .exit)) (now (locals .exit)) (now (entries .exit))) ⌝ }
+{
+    if !is_literal(operand_kind(operand_at(image, tables, o).kind)) {
+        return Lowered::Refused(MirLowerError::NotSupported, p);
+    }
+    if !is_check(mode) {
+        return Lowered::Done(counts, discr, current, els);
+    }
+    match lower_literal_to_operand(image, tables, ty, o) {
+        LoweredOperand::Refused(e) => Lowered::Refused(e, p),
+        LoweredOperand::Constant(constant) => pattern_match_const(
+            image,
+            tables,
+            blocks,
+            statements,
+            locals,
+            entries,
+            counts,
+            discr,
+            p,
+            constant,
+            current,
+            els,
+            place,
+        ),
+    }
+}
+
+// A constant that lies in the local l is compared with a place; the block that goes on is made before an else.
+fn constant_compared(
+    image: &[u8],
+    tables: Tables,
+    blocks: &mut [u16],
+    statements: &mut [u16],
+    locals: &mut [u16],
+    entries: &mut [u16],
+    counts: Counts,
+    discr: DiscrTemp,
+    p: PatId,
+    l: LocalId,
+    current: BasicBlockId,
+    els: OptBlock,
+    place: Place,
+) -> Lowered
+    requires { ⌜ Whole (now image) tables × Primed (lent (now blocks) (now statements) (now locals) (now entries)) counts × Begins counts current els ⌝ }
+    ensures { λ r. ⌜ Lowers (λ ctx. constantCompared (now (image .entry)) (p .0) l ctx current els place) counts discr current els (lent (now (blocks .entry)) (now (statements .entry)) (now (locals .entry)) (now (entries .entry))) r (lent (now (blocks .exit)) (now (statements .exit)) (now (locals .exit)) (now (entries .exit))) ⌝ }
+{
+    match temp(
+        image,
+        tables,
+        statements,
+        locals,
+        entries,
+        counts,
+        BOOL,
+        current,
+    ) {
+        NewTemp::Refused(e) => Lowered::Refused(e, p),
+        NewTemp::Local(c1, test) => match push_binary_assignment(
+            statements,
+            c1,
+            current,
+            test,
+            BinOp::Eq,
+            Left::Local(l),
+            place,
+        ) {
+            Counted::Full => Lowered::Refused(MirLowerError::Limit, p),
+            Counted::Now(c2) => then_switch(blocks, c2, discr, p, test, 1, 0, current, els),
+        },
+    }
+}
+
+// A path of the type ty that names the evaluated constant whose operand begins at the word o of the list: in Check the constant is copied to a temporary and
+// compared.
+pub fn constant_path(
+    image: &[u8],
+    tables: Tables,
+    blocks: &mut [u16],
+    statements: &mut [u16],
+    locals: &mut [u16],
+    entries: &mut [u16],
+    counts: Counts,
+    discr: DiscrTemp,
+    mode: MatchingMode,
+    p: PatId,
+    ty: u16,
+    o: u16,
+    current: BasicBlockId,
+    els: OptBlock,
+    place: Place,
+) -> Lowered
+    requires { ⌜ Whole (now image) tables × (operandHolds (now image) o ≡ true) × (operandOf (now image) o .kind ≡ OperandKind.Constant) ⌝ }
+    requires { ⌜ Primed (lent (now blocks) (now statements) (now locals) (now entries)) counts × Begins counts current els ⌝ }
+    ensures { λ r. ⌜ Lowers (λ ctx. constantPath (now (image .entry)) (p .0) ty (operandOf (now (image .entry)) o) mode ctx current els place) counts discr current els (lent (now (blocks .entry)) (now (statements .entry)) (now (locals .entry)) (now (entries .entry))) r (lent (now (blocks .exit)) (now (statements .exit)) (now (locals .exit)) (now (entries .exit))) ⌝ }
+{
+    if !is_check(mode) {
+        return Lowered::Done(counts, discr, current, els);
+    }
+    let constant = lower_const_to_operand(image, tables, ty, o);
+    match temp(
+        image,
+        tables,
+        statements,
+        locals,
+        entries,
+        counts,
+        ty,
+        current,
+    ) {
+        NewTemp::Refused(e) => Lowered::Refused(e, p),
+        NewTemp::Local(c1, l) => match push_constant_assignment(
+            statements,
+            c1,
+            current,
+            l,
+            constant,
+        ) {
+            Counted::Full => Lowered::Refused(MirLowerError::Limit, p),
+            Counted::Now(c2) => constant_compared(
+                image,
+                tables,
+                blocks,
+                statements,
+                locals,
+                entries,
+                c2,
+                discr,
+                p,
+                l,
+                current,
+                els,
+                place,
+            ),
+        },
+    }
+}
