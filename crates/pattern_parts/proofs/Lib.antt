@@ -1,0 +1,5 @@
+mod Typing
+pub mod Needed
+pub mod Visiting
+mod Filling
+mod Resting

@@ -1,0 +1,161 @@
+-- What a walk does besides testing, cut where the code is cut, and what the functions promise. Assumes nothing: these are definitions.
+use Prim.Native.Nat.{ℕ, zero, suc, _+_}
+use mathlib.Core.Bool.{Bool, true, false, cond}
+use mathlib.Core.Option.{Option, none, some}
+use mathlib.Core.List.{List}
+use lib.Dec.{ltb}
+use lib.ListN.{length}
+use Rattle.image.specs.declared.kinds.AdtKind.{AdtKind}
+use Rattle.image.specs.declared.kinds.BindingMode.{BindingMode}
+use Rattle.image.specs.declared.kinds.PatKind.{PatKind}
+use Rattle.image.specs.Lists.{allIn, member}
+use Rattle.image.specs.Rules.{listed}
+use Rattle.image.specs.Types.{Shape, integer, bool, char, str, tuple, adt, reference, array, slice, unknown}
+use Rattle.refusals.specs.declared.MirLowerError.{MirLowerError}
+use Rattle.refusals.specs.Refusals.{Result, ok, refused, andThen}
+use Rattle.place.specs.declared.Place.{Place}
+use Rattle.place.specs.declared.Projected.{Projected}
+use Rattle.place.specs.declared.elems.ProjectionElem.{ProjectionElem}
+use Rattle.place.specs.declared.place_ty.PlaceTy.{PlaceTy}
+use Rattle.mir.specs.declared.BasicBlockId.{BasicBlockId}
+use Rattle.mir.specs.declared.Counts.{Counts}
+use Rattle.lower.specs.declared.temps.DiscrTemp.{DiscrTemp}
+use Rattle.lower.specs.declared.merging.OptBlock.{OptBlock}
+use Rattle.pattern_matching.specs.Walking.{Ctx, Out, Walk, step, project}
+use Rattle.pattern_matching.specs.Tests.{patternMatchBinding}
+use Rattle.walks.specs.declared.Lowered.{Lowered}
+use Rattle.walks.specs.Answers.{lent, Primed, Lowers}
+use Rattle.pattern_parts.specs.declared.adts.NeededTy.{NeededTy}
+use Rattle.pattern_parts.specs.declared.adts.TupleAt.{TupleAt}
+use Rattle.pattern_parts.specs.declared.adts.ReferenceAt.{ReferenceAt}
+use Rattle.pattern_parts.specs.declared.adts.AdtAt.{AdtAt}
+
+-- a word of the visits' table, raised by one: it holds at most 65535
+unfoldable pub oneMore : ℕ → ℕ
+oneMore n = cond (ltb n 65535) (n + 1) n
+
+-- a projected place, as the definitions have it
+abbrev pub projectedResult : Projected → Result Place
+projectedResult r = cond (r .ok) (ok (r .place)) (refused MirLowerError.Limit)
+
+-- the place so many derefs on
+unfoldable pub derefsOf : Place → ℕ → Result Place
+derefsOf place zero = ok place
+derefsOf place (suc n) = andThen (project place ProjectionElem.Deref) (λ onward. derefsOf onward n)
+
+-- the type of the table at a place
+unfoldable pub neededTy : PlaceTy → NeededTy
+neededTy (PlaceTy.Ty t) = NeededTy.Ty t
+neededTy (PlaceTy.Variant e v) = NeededTy.Ty e
+neededTy (PlaceTy.Part t) = NeededTy.Other
+neededTy PlaceTy.Bool = NeededTy.Other
+neededTy PlaceTy.Usize = NeededTy.Other
+neededTy PlaceTy.I128 = NeededTy.Other
+neededTy PlaceTy.Inapplicable = NeededTy.Inapplicable
+
+-- how many fields the tuple at a place has
+unfoldable pub tupleAt : Option Shape → Result ℕ
+tupleAt none = refused MirLowerError.PlaceType
+tupleAt (some (integer size signed)) = refused (MirLowerError.TypeError 1)
+tupleAt (some bool) = refused (MirLowerError.TypeError 1)
+tupleAt (some char) = refused (MirLowerError.TypeError 1)
+tupleAt (some str) = refused (MirLowerError.TypeError 1)
+tupleAt (some (tuple fields)) = ok (length fields)
+tupleAt (some (adt kind variants)) = refused (MirLowerError.TypeError 1)
+tupleAt (some (reference t)) = refused (MirLowerError.TypeError 1)
+tupleAt (some (array t n)) = refused (MirLowerError.TypeError 1)
+tupleAt (some (slice t)) = refused (MirLowerError.TypeError 1)
+tupleAt (some unknown) = refused (MirLowerError.TypeError 1)
+
+abbrev pub tupleResult : TupleAt → Result ℕ
+tupleResult (TupleAt.Fields n) = ok n
+tupleResult (TupleAt.Refused e) = refused e
+
+-- whether a reference is at a place
+unfoldable pub referenceAt : Option Shape → Result Bool
+referenceAt none = refused MirLowerError.PlaceType
+referenceAt (some (integer size signed)) = refused (MirLowerError.TypeError 3)
+referenceAt (some bool) = refused (MirLowerError.TypeError 3)
+referenceAt (some char) = refused (MirLowerError.TypeError 3)
+referenceAt (some str) = refused (MirLowerError.TypeError 3)
+referenceAt (some (tuple fields)) = refused (MirLowerError.TypeError 3)
+referenceAt (some (adt kind variants)) = refused (MirLowerError.TypeError 3)
+referenceAt (some (reference t)) = ok true
+referenceAt (some (array t n)) = refused (MirLowerError.TypeError 3)
+referenceAt (some (slice t)) = refused (MirLowerError.TypeError 3)
+referenceAt (some unknown) = refused (MirLowerError.TypeError 3)
+
+abbrev pub referenceResult : ReferenceAt → Result Bool
+referenceResult ReferenceAt.Reference = ok true
+referenceResult (ReferenceAt.Refused e) = refused e
+
+-- a struct or an enum; a union is refused
+unfoldable pub adtTaken : AdtKind → Result AdtKind
+adtTaken AdtKind.Struct = ok AdtKind.Struct
+adtTaken AdtKind.Enum = ok AdtKind.Enum
+adtTaken AdtKind.Union = refused (MirLowerError.TypeError 6)
+adtTaken AdtKind.Unknown = refused (MirLowerError.TypeError 6)
+
+-- one that has the variant v
+unfoldable pub adtHas : AdtKind → List ℕ → ℕ → Result AdtKind
+adtHas kind variants v = cond (member v variants) (adtTaken kind) (refused (MirLowerError.TypeError 5))
+
+-- the ADT at a place
+unfoldable pub adtAt : Option Shape → ℕ → Result AdtKind
+adtAt none v = refused MirLowerError.PlaceType
+adtAt (some (integer size signed)) v = refused (MirLowerError.TypeError 4)
+adtAt (some bool) v = refused (MirLowerError.TypeError 4)
+adtAt (some char) v = refused (MirLowerError.TypeError 4)
+adtAt (some str) v = refused (MirLowerError.TypeError 4)
+adtAt (some (tuple fields)) v = refused (MirLowerError.TypeError 4)
+adtAt (some (adt kind variants)) v = adtHas kind variants v
+adtAt (some (reference t)) v = refused (MirLowerError.TypeError 4)
+adtAt (some (array t n)) v = refused (MirLowerError.TypeError 4)
+adtAt (some (slice t)) v = refused (MirLowerError.TypeError 4)
+adtAt (some unknown) v = refused (MirLowerError.TypeError 4)
+
+abbrev pub adtResult : AdtAt → Result AdtKind
+adtResult AdtAt.Struct = ok AdtKind.Struct
+adtResult AdtAt.Enum = ok AdtKind.Enum
+adtResult (AdtAt.Refused e) = refused e
+
+-- each field of a Record is below the count of fields
+unfoldable pub fieldsThere : List ℕ → ℕ → ℕ → ℕ → Bool
+fieldsThere image from count fields = allIn (λ w. ltb w fields) (listed image 2 from count)
+
+-- a Bind
+unfoldable pub isBind : PatKind → Bool
+isBind PatKind.Missing = false
+isBind PatKind.Rest = false
+isBind PatKind.NotNull = false
+isBind PatKind.Wild = false
+isBind PatKind.Tuple = false
+isBind PatKind.Or = false
+isBind PatKind.Record = false
+isBind PatKind.Range = false
+isBind PatKind.Slice = false
+isBind PatKind.Path = false
+isBind PatKind.Lit = false
+isBind PatKind.Bind = true
+isBind PatKind.TupleStruct = false
+isBind PatKind.Ref = false
+isBind PatKind.Expr = false
+isBind PatKind.Box = false
+isBind PatKind.Deref = false
+isBind PatKind.Unknown = false
+
+-- a rest that binds, beyond Check
+unfoldable pub restFilled : List ℕ → ℕ → ℕ → ℕ → BindingMode → ℕ → ℕ → Ctx → BasicBlockId → OptBlock → Place → Walk Out
+restFilled bindings p q b how front end ctx current els place =
+    step p (project place (ProjectionElem.Subslice front end)) (λ part. patternMatchBinding bindings p q b how ctx current els part)
+
+-- what a step of the walk that touches the statements alone promises, whatever lies in the other tables
+abbrev pub Assigns : (Ctx → Walk Out) → Counts → DiscrTemp → BasicBlockId → OptBlock → List ℕ → Lowered → List ℕ → Type 0
+Assigns defined c discr current els statements₀ r statements =
+    (blocks locals entries : List ℕ) → Lowers defined c discr current els (lent blocks statements₀ locals entries) r (lent blocks statements locals entries)
+
+-- the same for one that touches the statements and the entries, where the tables are ready
+abbrev pub Fills : (Ctx → Walk Out) → Counts → DiscrTemp → BasicBlockId → OptBlock → List ℕ → List ℕ → Lowered → List ℕ → List ℕ → Type 0
+Fills defined c discr current els statements₀ entries₀ r statements entries =
+    (blocks locals : List ℕ) → Primed (lent blocks statements₀ locals entries₀) c →
+    Lowers defined c discr current els (lent blocks statements₀ locals entries₀) r (lent blocks statements locals entries)
