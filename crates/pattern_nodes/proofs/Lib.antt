@@ -1,0 +1,11 @@
+pub mod Known
+pub mod Numbers
+pub mod Nodes
+pub mod Branches
+pub mod There
+pub mod Each
+pub mod Rows
+pub mod Arguments
+pub mod Shapes
+pub mod Slices
+pub mod Alternatives

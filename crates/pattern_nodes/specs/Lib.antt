@@ -1,0 +1,4 @@
+pub mod Leaves
+pub mod Modes
+pub mod Arguments
+pub mod Nodes
