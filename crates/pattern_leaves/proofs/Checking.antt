@@ -1,0 +1,64 @@
+-- What a walk does in Check and beyond it, by the ways through the code. Assumes nothing.
+use mathlib.Core.Path.{_≡_, refl}
+use mathlib.Core.Bool.{true, false, true≢false, false≢true}
+use mathlib.Core.List.{List}
+use Prim.Native.Nat.{ℕ}
+use Rattle.image.specs.declared.PatId.{PatId}
+use Rattle.image.specs.declared.kinds.BindingMode.{BindingMode}
+use Rattle.refusals.specs.declared.MirLowerError.{MirLowerError}
+use Rattle.place.specs.declared.Place.{Place}
+use Rattle.mir.specs.declared.BasicBlockId.{BasicBlockId}
+use Rattle.mir.specs.declared.Counts.{Counts}
+use Rattle.lower.specs.declared.temps.DiscrTemp.{DiscrTemp}
+use Rattle.lower.specs.declared.merging.OptBlock.{OptBlock}
+use Rattle.pattern_matching.specs.declared.MatchingMode.{MatchingMode}
+use Rattle.pattern_matching.specs.Modes.{isCheck}
+use Rattle.pattern_matching.specs.Walking.{Ctx, Out, Walk, refused, out, inCheck}
+use Rattle.pattern_matching.specs.Tests.{patternMatchBinding}
+use Rattle.pattern_nodes.specs.Modes.{bound}
+use Rattle.pattern_parts.specs.Parts.{Fills}
+use Rattle.pattern_tests.proofs.Cutting.{in-check, not-in-check}
+use Rattle.walks.specs.declared.Lowered.{Lowered}
+use Rattle.walks.specs.Answers.{Lent, Begins, Lowers}
+use Rattle.walks.proofs.Sequences.{lowers-skips, lowers-refuses, lowers-by}
+use Rattle.pattern_leaves.specs.Modes.{otherPath}
+
+-- `other_path`, as the code answers it
+module _ (c : Counts) (discr : DiscrTemp) (p : PatId) (current : BasicBlockId) (els : OptBlock) where
+  pub other-refused : (mode : MatchingMode) → isCheck mode ≡ true → Lowered.Refused MirLowerError.NotSupported p ≡ otherPath c discr mode p current els
+  unfolding isCheck otherPath
+  other-refused MatchingMode.Check e = refl
+  other-refused MatchingMode.Bind e = absurd (false≢true e)
+  other-refused MatchingMode.Assign e = absurd (false≢true e)
+
+  pub other-done : (mode : MatchingMode) → isCheck mode ≡ false → Lowered.Done c discr current els ≡ otherPath c discr mode p current els
+  unfolding isCheck otherPath
+  other-done MatchingMode.Check e = absurd (true≢false e)
+  other-done MatchingMode.Bind e = refl
+  other-done MatchingMode.Assign e = refl
+
+  -- and what it promises, where t lies in the tables
+  pub other-lowers : (t : Lent) (mode : MatchingMode) → Begins c current els →
+      Lowers (λ ctx. inCheck mode (refused MirLowerError.NotSupported (p .0)) (out ctx current els)) c discr current els t (otherPath c discr mode p current els) t
+  unfolding otherPath
+  other-lowers t MatchingMode.Check h = lowers-refuses (λ ctx. refl)
+  other-lowers t MatchingMode.Bind h = lowers-skips (λ ctx. refl) h
+  other-lowers t MatchingMode.Assign h = lowers-skips (λ ctx. refl) h
+
+-- `bind`; s₀ and e₀ are the tables at entry
+module _ (bindings s₀ e₀ : List ℕ) (c : Counts) (discr : DiscrTemp) (mode : MatchingMode) (p : PatId) (b : ℕ) (how : BindingMode) (current : BasicBlockId) (els : OptBlock) (place : Place) where
+  abbrev Bound : Lowered → List ℕ → List ℕ → Type 0
+  Bound = Fills (λ ctx. bound bindings (p .0) b how mode ctx current els place) c discr current els s₀ e₀
+
+  abbrev filled : Ctx → Walk Out
+  filled ctx = patternMatchBinding bindings (p .0) (p .0) b how ctx current els place
+
+  -- nothing is bound in Check
+  pub bind-skips : isCheck mode ≡ true → Begins c current els → Bound (Lowered.Done c discr current els) s₀ e₀
+  unfolding bound
+  bind-skips check h bl lo P = lowers-skips (λ ctx. in-check mode (out ctx current els) (filled ctx) check) h
+
+  -- the binding is filled beyond it
+  pub bind-fills : {r : Lowered} {s e : List ℕ} → isCheck mode ≡ false → Fills filled c discr current els s₀ e₀ r s e → Bound r s e
+  unfolding bound
+  bind-fills beyond F bl lo P = lowers-by (λ ctx. not-in-check mode (out ctx current els) (filled ctx) beyond) (F bl lo P)

@@ -1,0 +1,138 @@
+-- The patterns that have no subpattern, by the ways through the code. Assumes nothing.
+use mathlib.Core.Path.{_≡_, refl, ap, _∙_}
+use mathlib.Core.Bool.{true, _&&_}
+use mathlib.Core.List.{List}
+use Prim.Native.Nat.{ℕ, _<_}
+use borrow.Author.Tests.{ltb-true, eqb-true}
+use lib.Dec.{eqb}
+use Rattle.refusals.specs.declared.MirLowerError.{MirLowerError}
+use Rattle.image.specs.declared.PatId.{PatId}
+use Rattle.image.specs.declared.kinds.OperandKind.{OperandKind}
+use Rattle.image.specs.declared.kinds.PatKind.{PatKind}
+use Rattle.image.specs.declared.kinds.PathKind.{PathKind}
+use Rattle.image.specs.declared.rows.PatRow.{PatRow}
+use Rattle.image.specs.Kinds.{patKind, pathKind, operandKind}
+use Rattle.image.specs.Operands.{operandHolds}
+use Rattle.image.specs.Patterns.{operandOrAbsent, pathHolds, patternShapeHolds}
+use Rattle.image.specs.Rows.{operandAt}
+use Rattle.image.specs.Rules.{isFlag}
+use Rattle.image.specs.Tables.{bindingCount}
+use Rattle.image.specs.Types.{operandOf}
+use Rattle.image.proofs.Bools.{and-left, and-right}
+use Rattle.place.specs.declared.Place.{Place}
+use Rattle.mir.specs.declared.BasicBlockId.{BasicBlockId}
+use Rattle.mir.specs.declared.Counts.{Counts}
+use Rattle.lower.specs.declared.temps.DiscrTemp.{DiscrTemp}
+use Rattle.lower.specs.declared.merging.OptBlock.{OptBlock}
+use Rattle.pattern_matching.specs.declared.MatchingMode.{MatchingMode}
+use Rattle.pattern_matching.specs.Walking.{Lowering}
+use Rattle.pattern_matching.specs.Tests.{constantPath, localPath}
+use Rattle.pattern_matching.specs.Patterns.{refusing, passing, pathPattern}
+use Rattle.pattern_nodes.specs.Leaves.{pathLeaf, leafPattern}
+use Rattle.pattern_parts.specs.Parts.{Assigns}
+use Rattle.walks.specs.declared.Lowered.{Lowered}
+use Rattle.walks.specs.Answers.{Lent, lent, Begins, Lowers}
+use Rattle.walks.proofs.Sequences.{lowers-skips, lowers-refuses, lowers-by}
+use Rattle.pattern_leaves.specs.Modes.{otherPath}
+use Rattle.pattern_leaves.proofs.Checking.{other-lowers}
+
+-- what holds of a path's word
+module _ (image : List ℕ) (b : ℕ) {kind : PathKind} (holds : pathHolds kind image b ≡ true) where
+  -- it is a binding
+  pub path-binding : {n : ℕ} → kind ≡ PathKind.Local → n ≡ bindingCount image → b < n
+  unfolding pathHolds
+  path-binding is n = rw n (ltb-true b (bindingCount image) (rw is at holds))
+
+  -- or an operand, of the kind of constants
+  module _ (is : kind ≡ PathKind.Constant) where
+    both : operandHolds image b && eqb (operandAt image b .kind) 8 ≡ true
+    unfolding pathHolds
+    both = rw is at holds
+
+    pub path-operand : operandHolds image b ≡ true
+    path-operand = and-left (operandHolds image b) (eqb (operandAt image b .kind) 8) both
+
+    pub path-constant : operandOf image b .kind ≡ OperandKind.Constant
+    unfolding operandOf
+    path-constant = ap operandKind (eqb-true (operandAt image b .kind) 8 (and-right (operandHolds image b) (eqb (operandAt image b .kind) 8) both))
+
+-- `path_leaf`; t lies in the tables at entry
+module _ (image bindings : List ℕ) (t : Lent) (c : Counts) (discr : DiscrTemp) (mode : MatchingMode) (p : PatId) (ty b : ℕ) (current : BasicBlockId) (els : OptBlock) (place : Place) where
+  abbrev Path : PathKind → Lowered → Lent → Type 0
+  Path kind = Lowers (λ ctx. pathLeaf kind image bindings (p .0) ty b mode ctx current els place) c discr current els t
+
+  -- a path that names nothing, or a variant
+  pub path-unresolved : {kind : PathKind} → kind ≡ PathKind.Unresolved → Path kind (Lowered.Refused MirLowerError.UnresolvedName p) t
+  unfolding pathLeaf pathPattern
+  path-unresolved is = lowers-refuses (λ ctx. rw is refl)
+
+  pub path-variant : {kind : PathKind} → kind ≡ PathKind.Variant → Path kind (Lowered.Refused MirLowerError.IncompletePattern p) t
+  unfolding pathLeaf
+  path-variant is = lowers-refuses (λ ctx. rw is refl)
+
+  -- a constant
+  pub path-compared : {kind : PathKind} {r : Lowered} {t′ : Lent} → kind ≡ PathKind.Constant → Lowers (λ ctx. constantPath image (p .0) ty (operandOf image b) mode ctx current els place) c discr current els t r t′ → Path kind r t′
+  unfolding pathLeaf pathPattern
+  path-compared is L = rw is L
+
+  -- something else
+  pub path-other : {kind : PathKind} {r : Lowered} → kind ≡ PathKind.Other → Begins c current els → r ≡ otherPath c discr mode p current els → Path kind r t
+  unfolding pathLeaf pathPattern
+  path-other is h same = rw (is, same) (other-lowers c discr p current els t mode h)
+
+  pub path-unknown : {kind : PathKind} {r : Lowered} → kind ≡ PathKind.Unknown → Begins c current els → r ≡ otherPath c discr mode p current els → Path kind r t
+  unfolding pathLeaf pathPattern
+  path-unknown is h same = rw (is, same) (other-lowers c discr p current els t mode h)
+
+-- a local: bl, lo and e are the tables that it leaves alone
+pub path-local : (image bindings bl lo e : List ℕ) {s₀ s : List ℕ} {c : Counts} {discr : DiscrTemp} (mode : MatchingMode) (p : PatId) (ty b : ℕ) {current : BasicBlockId} {els : OptBlock} (place : Place) {kind : PathKind} {r : Lowered} →
+    kind ≡ PathKind.Local → Assigns (λ ctx. localPath bindings (p .0) b mode ctx current els place) c discr current els s₀ r s →
+    Lowers (λ ctx. pathLeaf kind image bindings (p .0) ty b mode ctx current els place) c discr current els (lent bl s₀ lo e) r (lent bl s lo e)
+unfolding pathLeaf pathPattern
+path-local image bindings bl lo e mode p ty b place is A = rw is (A bl lo e)
+
+-- what holds of a row, by the kind that is read
+module _ (image : List ℕ) (row : PatRow) {kind : PatKind} (read : kind ≡ patKind (row .kind)) (holds : patternShapeHolds (patKind (row .kind)) image row ≡ true) where
+  by-kind : patternShapeHolds kind image row ≡ true
+  by-kind = ap (λ (k : PatKind). patternShapeHolds k image row) read ∙ holds
+
+  -- both ends of a range
+  pub range-holds : kind ≡ PatKind.Range → (operandOrAbsent image (row .a) ≡ true) × (operandOrAbsent image (row .b) ≡ true)
+  unfolding patternShapeHolds
+  range-holds is =
+      let ends = and-left (operandOrAbsent image (row .a) && operandOrAbsent image (row .b)) (isFlag (row .c)) (rw is at by-kind) in
+      (and-left (operandOrAbsent image (row .a)) (operandOrAbsent image (row .b)) ends, and-right (operandOrAbsent image (row .a)) (operandOrAbsent image (row .b)) ends)
+
+  -- a path
+  pub path-holds : {path : PathKind} → kind ≡ PatKind.Path → path ≡ pathKind (row .a) → pathHolds path image (row .b) ≡ true
+  unfolding patternShapeHolds
+  path-holds is named = rw named (rw is at by-kind)
+
+  -- a literal
+  pub literal-holds : kind ≡ PatKind.Lit → operandHolds image (row .a) ≡ true
+  unfolding patternShapeHolds
+  literal-holds is = rw is at by-kind
+
+-- `pattern_match_leaf`, by the kind that is read; t lies in the tables at entry
+module _ (image bindings : List ℕ) (t : Lent) (c : Counts) (discr : DiscrTemp) (mode : MatchingMode) (p : PatId) (row : PatRow) (current : BasicBlockId) (els : OptBlock) (place : Place)
+    {kind : PatKind} (read : kind ≡ patKind (row .kind)) where
+  abbrev Leaf : Lowered → Lent → Type 0
+  Leaf = Lowers (λ ctx. leafPattern (patKind (row .kind)) image bindings (p .0) row mode ctx current els place) c discr current els t
+
+  -- a pattern that is lowered as `defined`
+  pub leaf-lowers : (defined : Lowering) {r : Lowered} {t′ : Lent} → defined ≡ leafPattern kind image bindings (p .0) row → Lowers (λ ctx. defined mode ctx current els place) c discr current els t r t′ → Leaf r t′
+  leaf-lowers defined is L = lowers-by (λ ctx. ap (λ (f : Lowering). f mode ctx current els place) (is ∙ ap (λ (k : PatKind). leafPattern k image bindings (p .0) row) read)) L
+
+  -- one that is refused
+  pub leaf-refused : {e : MirLowerError} → refusing e (p .0) ≡ leafPattern kind image bindings (p .0) row → Leaf (Lowered.Refused e p) t
+  leaf-refused {e = e} is = leaf-lowers (refusing e (p .0)) is (lowers-refuses (λ ctx. refl))
+
+  -- one that has nothing to do
+  pub leaf-passed : passing ≡ leafPattern kind image bindings (p .0) row → Begins c current els → Leaf (Lowered.Done c discr current els) t
+  leaf-passed is h = leaf-lowers passing is (lowers-skips (λ ctx. refl) h)
+
+  -- a path, by what it names
+  pub leaf-path : {path : PathKind} {r : Lowered} {t′ : Lent} → kind ≡ PatKind.Path → path ≡ pathKind (row .a) →
+      Lowers (λ ctx. pathLeaf path image bindings (p .0) (row .ty) (row .b) mode ctx current els place) c discr current els t r t′ → Leaf r t′
+  unfolding leafPattern
+  leaf-path {path = path} is named L = leaf-lowers (pathLeaf path image bindings (p .0) (row .ty) (row .b)) (rw is (ap (λ (k : PathKind). pathLeaf k image bindings (p .0) (row .ty) (row .b)) named)) L

@@ -1,0 +1,4 @@
+mod Checking
+pub mod Leafing
+mod Ending
+mod Sequencing

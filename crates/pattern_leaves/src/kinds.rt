@@ -1,0 +1,239 @@
+// The patterns that have no subpattern, by their kinds.
+use image::BindingId;
+use image::PatId;
+use image::Tables;
+use image::kinds::PatKind;
+use image::kinds::PathKind;
+use image::kinds::pat_kind;
+use image::kinds::path_kind;
+use image::rows::PatRow;
+use lower::merging::OptBlock;
+use lower::temps::DiscrTemp;
+use mir::BasicBlockId;
+use mir::Counts;
+use pattern_matching::MatchingMode;
+use pattern_matching::is_check;
+use pattern_parts::bindings::local_path;
+use pattern_tests::consts::constant_path;
+use pattern_tests::consts::pattern_match_lit;
+use pattern_tests::ranges::pattern_match_range;
+use place::Place;
+use refusals::MirLowerError;
+use walks::Lowered;
+ghost use mathlib.Core.Path.{_≡_};
+ghost use mathlib.Core.Bool.{true};
+ghost use Prim.Native.Nat.{_<_};
+ghost use lib.ListN.{length};
+ghost use Rattle.image.specs.Tables.{Whole, typeCount, bindingCount};
+ghost use Rattle.image.specs.Kinds.{patKind, pathKind};
+ghost use Rattle.image.specs.Patterns.{pathHolds, patternShapeHolds};
+ghost use Rattle.image.specs.Valid.{valid};
+ghost use Rattle.walks.specs.Answers.{lent, Primed, Begins, Lowers};
+ghost use Rattle.pattern_nodes.specs.Leaves.{isLeaf, pathLeaf, leafPattern};
+ghost use Rattle.pattern_leaves.specs.Modes.{otherPath};
+
+// A pattern of this kind has no subpattern; a path is told by what it names, and one that names a variant is none.
+pub fn is_leaf(kind: PatKind, path: PathKind) -> bool
+    ensures { λ r. ⌜ r ≡ isLeaf kind path ⌝ }
+{
+    match kind {
+        PatKind::Missing => true,
+        PatKind::Rest => true,
+        PatKind::NotNull => true,
+        PatKind::Wild => true,
+        PatKind::Tuple => false,
+        PatKind::Or => false,
+        PatKind::Record => false,
+        PatKind::Range => true,
+        PatKind::Slice => false,
+        PatKind::Path => match path {
+            PathKind::Unresolved => true,
+            PathKind::Variant => false,
+            PathKind::Local => true,
+            PathKind::Constant => true,
+            PathKind::Other => true,
+            PathKind::Unknown => true,
+        },
+        PatKind::Lit => true,
+        PatKind::Bind => false,
+        PatKind::TupleStruct => false,
+        PatKind::Ref => false,
+        PatKind::Expr => true,
+        PatKind::Box => true,
+        PatKind::Deref => true,
+        PatKind::Unknown => true,
+    }
+}
+
+// A path of the type ty that names no variant: its word b is a binding or an operand.
+fn path_leaf(
+    image: &[u8],
+    tables: Tables,
+    bindings: &[u16],
+    blocks: &mut [u16],
+    statements: &mut [u16],
+    locals: &mut [u16],
+    entries: &mut [u16],
+    counts: Counts,
+    discr: DiscrTemp,
+    mode: MatchingMode,
+    p: PatId,
+    ty: u16,
+    kind: PathKind,
+    b: u16,
+    current: BasicBlockId,
+    els: OptBlock,
+    place: Place,
+) -> Lowered
+    requires { ⌜ Whole (now image) tables × (pathHolds kind (now image) b ≡ true) × (length (now bindings) ≡ bindingCount (now image)) ⌝ }
+    requires { ⌜ Primed (lent (now blocks) (now statements) (now locals) (now entries)) counts × Begins counts current els ⌝ }
+    ensures { λ r. ⌜ Lowers (λ ctx. pathLeaf kind (now (image .entry)) (now (bindings .entry)) (p .0) ty b mode ctx current els place) counts discr current els (lent (now (blocks .entry)) (now (statements .entry)) (now (locals .entry)) (now (entries .entry))) r (lent (now (blocks .exit)) (now (statements .exit)) (now (locals .exit)) (now (entries .exit))) ⌝ }
+{
+    match kind {
+        PathKind::Unresolved => Lowered::Refused(MirLowerError::UnresolvedName, p),
+        PathKind::Variant => Lowered::Refused(MirLowerError::IncompletePattern, p),
+        PathKind::Local => local_path(
+            bindings,
+            statements,
+            counts,
+            discr,
+            mode,
+            p,
+            BindingId(b),
+            current,
+            els,
+            place,
+        ),
+        PathKind::Constant => constant_path(
+            image,
+            tables,
+            blocks,
+            statements,
+            locals,
+            entries,
+            counts,
+            discr,
+            mode,
+            p,
+            ty,
+            b,
+            current,
+            els,
+            place,
+        ),
+        PathKind::Other => other_path(counts, discr, mode, p, current, els),
+        PathKind::Unknown => other_path(counts, discr, mode, p, current, els),
+    }
+}
+
+// A path that names something else is refused in Check.
+fn other_path(
+    counts: Counts,
+    discr: DiscrTemp,
+    mode: MatchingMode,
+    p: PatId,
+    current: BasicBlockId,
+    els: OptBlock,
+) -> Lowered
+    ensures { λ r. ⌜ r ≡ otherPath counts discr mode p current els ⌝ }
+{
+    if is_check(mode) {
+        return Lowered::Refused(MirLowerError::NotSupported, p);
+    }
+    Lowered::Done(counts, discr, current, els)
+}
+
+// The pattern p, whose row is given, at a place behind its derefs.
+pub fn pattern_match_leaf(
+    image: &[u8],
+    tables: Tables,
+    bindings: &[u16],
+    blocks: &mut [u16],
+    statements: &mut [u16],
+    locals: &mut [u16],
+    entries: &mut [u16],
+    counts: Counts,
+    discr: DiscrTemp,
+    mode: MatchingMode,
+    p: PatId,
+    row: PatRow,
+    current: BasicBlockId,
+    els: OptBlock,
+    place: Place,
+) -> Lowered
+    requires { ⌜ (valid (now image) ≡ true) × Whole (now image) tables × (row .ty < typeCount (now image)) × (patternShapeHolds (patKind (row .kind)) (now image) row ≡ true) × (length (now bindings) ≡ bindingCount (now image)) ⌝ }
+    requires { ⌜ Primed (lent (now blocks) (now statements) (now locals) (now entries)) counts × Begins counts current els ⌝ }
+    ensures { λ r. ⌜ Lowers (λ ctx. leafPattern (patKind (row .kind)) (now (image .entry)) (now (bindings .entry)) (p .0) row mode ctx current els place) counts discr current els (lent (now (blocks .entry)) (now (statements .entry)) (now (locals .entry)) (now (entries .entry))) r (lent (now (blocks .exit)) (now (statements .exit)) (now (locals .exit)) (now (entries .exit))) ⌝ }
+{
+    match pat_kind(row.kind) {
+        PatKind::Missing => Lowered::Refused(MirLowerError::IncompletePattern, p),
+        PatKind::Rest => Lowered::Refused(MirLowerError::IncompletePattern, p),
+        PatKind::NotNull => Lowered::Refused(MirLowerError::IncompletePattern, p),
+        PatKind::Wild => Lowered::Done(counts, discr, current, els),
+        PatKind::Tuple => Lowered::Refused(MirLowerError::IncompletePattern, p),
+        PatKind::Or => Lowered::Refused(MirLowerError::IncompletePattern, p),
+        PatKind::Record => Lowered::Refused(MirLowerError::IncompletePattern, p),
+        PatKind::Range => pattern_match_range(
+            image,
+            tables,
+            blocks,
+            statements,
+            locals,
+            entries,
+            counts,
+            discr,
+            mode,
+            p,
+            row.ty,
+            row.a,
+            row.b,
+            current,
+            els,
+            place,
+        ),
+        PatKind::Slice => Lowered::Refused(MirLowerError::IncompletePattern, p),
+        PatKind::Path => path_leaf(
+            image,
+            tables,
+            bindings,
+            blocks,
+            statements,
+            locals,
+            entries,
+            counts,
+            discr,
+            mode,
+            p,
+            row.ty,
+            path_kind(row.a),
+            row.b,
+            current,
+            els,
+            place,
+        ),
+        PatKind::Lit => pattern_match_lit(
+            image,
+            tables,
+            blocks,
+            statements,
+            locals,
+            entries,
+            counts,
+            discr,
+            mode,
+            p,
+            row.ty,
+            row.a,
+            current,
+            els,
+            place,
+        ),
+        PatKind::Bind => Lowered::Refused(MirLowerError::IncompletePattern, p),
+        PatKind::TupleStruct => Lowered::Refused(MirLowerError::IncompletePattern, p),
+        PatKind::Ref => Lowered::Refused(MirLowerError::IncompletePattern, p),
+        PatKind::Expr => Lowered::Refused(MirLowerError::Expr, p),
+        PatKind::Box => Lowered::Refused(MirLowerError::NotSupported, p),
+        PatKind::Deref => Lowered::Refused(MirLowerError::NotSupported, p),
+        PatKind::Unknown => Lowered::Refused(MirLowerError::IncompletePattern, p),
+    }
+}

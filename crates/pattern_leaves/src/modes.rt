@@ -1,0 +1,218 @@
+// What a pattern with subpatterns does itself: an enum's and a slice's test in Check, a binding and the end of alternatives beyond it.
+use image::BindingId;
+use image::PatId;
+use image::Tables;
+use image::kinds::BindingMode;
+use image::kinds::TypeKind;
+use image::kinds::type_kind;
+use image::rows::type_at;
+use lower::merging::OptBlock;
+use lower::temps::DiscrTemp;
+use mir::BasicBlockId;
+use mir::Counts;
+use mir::blocks::NewBlock;
+use mir::blocks::Terminator;
+use mir::blocks::set_goto;
+use mir::blocks::set_terminator;
+use pattern_matching::MatchingMode;
+use pattern_matching::is_check;
+use pattern_parts::bindings::pattern_match_binding;
+use pattern_tests::discriminants::discriminant_test;
+use pattern_tests::lengths::length_test;
+use pattern_tests::switching::else_block;
+use place::Place;
+use refusals::MirLowerError;
+use walks::Lowered;
+ghost use mathlib.Core.Path.{_≡_};
+ghost use mathlib.Core.Bool.{true};
+ghost use Prim.Native.Nat.{_<_, _≤_};
+ghost use lib.ListN.{length};
+ghost use Rattle.image.specs.Tables.{Whole, typeCount, variantCount};
+ghost use Rattle.image.specs.Types.{tyOf};
+ghost use Rattle.image.specs.Tree.{tree, tree?};
+ghost use Rattle.pattern_matching.specs.Patterns.{restOf};
+ghost use Rattle.image.specs.Valid.{valid};
+ghost use Rattle.pattern_parts.specs.Parts.{Fills};
+ghost use Rattle.walks.specs.Answers.{lent, Primed, Begins, Lowers};
+ghost use Rattle.pattern_nodes.specs.Modes.{enumTest, sliceTest, bound, alternativesLeft};
+ghost use Rattle.pattern_leaves.specs.Modes.{sequenceBy, Ends};
+
+// In Check what lies at the place is tested to have the variant v.
+pub fn enum_test(
+    image: &[u8],
+    tables: Tables,
+    blocks: &mut [u16],
+    statements: &mut [u16],
+    locals: &mut [u16],
+    entries: &mut [u16],
+    counts: Counts,
+    discr: DiscrTemp,
+    mode: MatchingMode,
+    p: PatId,
+    v: u16,
+    current: BasicBlockId,
+    els: OptBlock,
+    place: Place,
+) -> Lowered
+    requires { ⌜ (valid (now image) ≡ true) × Whole (now image) tables × (v < variantCount (now image)) ⌝ }
+    requires { ⌜ Primed (lent (now blocks) (now statements) (now locals) (now entries)) counts × Begins counts current els ⌝ }
+    ensures { λ r. ⌜ Lowers (λ ctx. enumTest (now (image .entry)) (p .0) v mode ctx current els place) counts discr current els (lent (now (blocks .entry)) (now (statements .entry)) (now (locals .entry)) (now (entries .entry))) r (lent (now (blocks .exit)) (now (statements .exit)) (now (locals .exit)) (now (entries .exit))) ⌝ }
+{
+    if !is_check(mode) {
+        return Lowered::Done(counts, discr, current, els);
+    }
+    discriminant_test(
+        image,
+        tables,
+        blocks,
+        statements,
+        locals,
+        entries,
+        counts,
+        discr,
+        p,
+        v,
+        current,
+        els,
+        place,
+    )
+}
+
+// What a Slice pattern's type is.
+pub enum Sequence {
+    Array,
+    Slice,
+    Other,
+}
+
+fn sequence_of(kind: TypeKind) -> Sequence
+    ensures { λ r. ⌜ r ≡ sequenceBy kind ⌝ }
+{
+    match kind {
+        TypeKind::Integer => Sequence::Other,
+        TypeKind::Bool => Sequence::Other,
+        TypeKind::Char => Sequence::Other,
+        TypeKind::Str => Sequence::Other,
+        TypeKind::Tuple => Sequence::Other,
+        TypeKind::Adt => Sequence::Other,
+        TypeKind::Reference => Sequence::Other,
+        TypeKind::Array => Sequence::Array,
+        TypeKind::Slice => Sequence::Slice,
+        TypeKind::Unknown => Sequence::Other,
+    }
+}
+
+// A Slice pattern of the type ty, which has n items besides the pattern `rest`, if there is one: in Check a slice's length is tested, an array's never; any other type is refused.
+pub fn slice_test(
+    image: &[u8],
+    tables: Tables,
+    blocks: &mut [u16],
+    statements: &mut [u16],
+    locals: &mut [u16],
+    entries: &mut [u16],
+    counts: Counts,
+    discr: DiscrTemp,
+    mode: MatchingMode,
+    p: PatId,
+    ty: u16,
+    n: u16,
+    rest: u16,
+    current: BasicBlockId,
+    els: OptBlock,
+    place: Place,
+) -> Lowered
+    requires { ⌜ Whole (now image) tables × (ty < typeCount (now image)) ⌝ }
+    requires { ⌜ Primed (lent (now blocks) (now statements) (now locals) (now entries)) counts × Begins counts current els ⌝ }
+    ensures { λ r. ⌜ Lowers (λ ctx. sliceTest (tyOf (now (image .entry)) ty .shape) (now (image .entry)) (p .0) n (restOf (tree? (tree (now (image .entry))) rest)) mode ctx current els place) counts discr current els (lent (now (blocks .entry)) (now (statements .entry)) (now (locals .entry)) (now (entries .entry))) r (lent (now (blocks .exit)) (now (statements .exit)) (now (locals .exit)) (now (entries .exit))) ⌝ }
+{
+    match sequence_of(type_kind(type_at(image, tables, ty).kind)) {
+        Sequence::Other => Lowered::Refused(MirLowerError::TypeError(2), p),
+        Sequence::Array => Lowered::Done(counts, discr, current, els),
+        Sequence::Slice => {
+            if !is_check(mode) {
+                return Lowered::Done(counts, discr, current, els);
+            }
+            length_test(
+                image,
+                tables,
+                blocks,
+                statements,
+                locals,
+                entries,
+                counts,
+                discr,
+                p,
+                n,
+                rest != 65535,
+                current,
+                els,
+                place,
+            )
+        }
+    }
+}
+
+// Beyond Check the binding b is filled.
+pub fn bind(
+    bindings: &[u16],
+    statements: &mut [u16],
+    entries: &mut [u16],
+    counts: Counts,
+    discr: DiscrTemp,
+    mode: MatchingMode,
+    p: PatId,
+    b: BindingId,
+    how: BindingMode,
+    current: BasicBlockId,
+    els: OptBlock,
+    place: Place,
+) -> Lowered
+    requires { ⌜ (b .0 < length (now bindings)) × (length (now statements) ≡ 50176) × (length (now entries) ≡ 1024) × Begins counts current els ⌝ }
+    ensures { λ r. ⌜ Fills (λ ctx. bound (now (bindings .entry)) (p .0) (b .0) how mode ctx current els place) counts discr current els (now (statements .entry)) (now (entries .entry)) r (now (statements .exit)) (now (entries .exit)) ⌝ }
+{
+    if is_check(mode) {
+        return Lowered::Done(counts, discr, current, els);
+    }
+    pattern_match_binding(
+        bindings,
+        statements,
+        entries,
+        counts,
+        discr,
+        p,
+        p,
+        b,
+        how,
+        current,
+        els,
+        place,
+    )
+}
+
+// All alternatives can fail, and `left` is where the last of them does not match: it goes on at the else in Check, and cannot be reached beyond it. What matched
+// goes on at `join`.
+pub fn alternatives_end(
+    blocks: &mut [u16],
+    counts: Counts,
+    discr: DiscrTemp,
+    mode: MatchingMode,
+    p: PatId,
+    left: BasicBlockId,
+    join: BasicBlockId,
+    els: OptBlock,
+) -> Lowered
+    requires { ⌜ (length (now blocks) ≡ 6144) × (counts .blocks ≤ 512) × Begins counts left els × (join .0 < counts .blocks) ⌝ }
+    ensures { λ r. ⌜ Ends (λ ctx. alternativesLeft (p .0) mode ctx left join els) counts discr left join els (now (blocks .entry)) r (now (blocks .exit)) ⌝ }
+{
+    if !is_check(mode) {
+        set_terminator(blocks, left, Terminator::Unreachable);
+        return Lowered::Done(counts, discr, join, els);
+    }
+    match else_block(counts, els) {
+        NewBlock::Full => Lowered::Refused(MirLowerError::Limit, p),
+        NewBlock::Block(c1, other) => {
+            set_goto(blocks, left, other);
+            Lowered::Done(c1, discr, join, OptBlock::Some(other))
+        }
+    }
+}

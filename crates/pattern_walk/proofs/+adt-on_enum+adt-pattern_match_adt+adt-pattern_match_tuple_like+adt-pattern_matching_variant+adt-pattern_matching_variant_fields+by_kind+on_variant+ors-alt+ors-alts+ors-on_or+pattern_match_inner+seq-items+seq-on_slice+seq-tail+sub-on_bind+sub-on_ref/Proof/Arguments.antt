@@ -1,0 +1,113 @@
+-- `pattern_match_adt`: what its contract needs is answered. Assumes nothing.
+use Prim.Native.Nat.{ℕ}
+use Rattle.pattern_walk.proofs.adt.pattern_match_adt.Reads as adt·pattern-match-adt
+use Rattle.pattern_walk.proofs.+adt-on_enum+adt-pattern_match_adt+adt-pattern_match_tuple_like+adt-pattern_matching_variant+adt-pattern_matching_variant_fields+by_kind+on_variant+ors-alt+ors-alts+ors-on_or+pattern_match_inner+seq-items+seq-on_slice+seq-tail+sub-on_bind+sub-on_ref.Lts-adt-pattern_match_adt as lts
+use Rattle.pattern_rows.proofs.argument_elem.Reads as argument-elem-reads
+use Rattle.place.proofs.project.Reads as project-reads
+use Rattle.pattern_rows.proofs.argument_pat.Reads as argument-pat-reads
+use Rattle.pattern_walk.proofs.pattern_match_inner.Reads as pattern-match-inner
+use Rattle.pattern_walk.proofs.+adt-on_enum+adt-pattern_match_adt+adt-pattern_match_tuple_like+adt-pattern_matching_variant+adt-pattern_matching_variant_fields+by_kind+on_variant+ors-alt+ors-alts+ors-on_or+pattern_match_inner+seq-items+seq-on_slice+seq-tail+sub-on_bind+sub-on_ref.Proof.Measures.{adt·pattern-match-adt-at, pattern-match-inner-below}
+use mathlib.Core.Path.{sym, _∙_}
+use Prim.Native.Nat.{_-_}
+use native.Mathlib.Omega.{arith}
+use borrow.Author.Needs.{needs}
+use borrow.Author.Tests.{not-true, not-false}
+use Rattle.walks.specs.Answers.{lent}
+use Rattle.pattern_nodes.proofs.Each.{argument-lies, argument-at}
+use Rattle.walking.proofs.Asking.{walkable-at}
+use Rattle.walking.proofs.Looking.{projected-reaches}
+use Rattle.walking.proofs.Arguments.{arguments-end, argument-full, argument-stops, argument-fits, ArgumentsGoing, arguments-begin, arguments-again}
+
+-- what it may use of the functions that it calls
+abbrev pub calls : ℕ → lts.Claims
+calls t = (argument-elem-reads.Asked, argument-elem-reads.Learnt, project-reads.Asked, project-reads.Learnt, argument-pat-reads.Asked, argument-pat-reads.Learnt, pattern-match-inner-below t, pattern-match-inner.Post)
+
+abbrev pub Inv-loop : lts.InvT-loop
+Inv-loop image tables bindings blocks₀ statements₀ locals₀ entries₀ visits₀ mode p row from fields count place c₀ d₀ here₀ other₀ i₀ blocks statements locals entries visits c d here other i = ArgumentsGoing row image tables bindings p from fields count mode place c₀ d₀ here₀ other₀ (lent blocks₀ statements₀ locals₀ entries₀) visits₀ c d here other (lent blocks statements locals entries) visits i
+
+abbrev pub μ-loop : lts.MeasureT-loop
+μ-loop image tables bindings blocks₀ statements₀ locals₀ entries₀ visits₀ mode p row from fields count place c₀ d₀ here₀ other₀ i₀ blocks statements locals entries visits c d here other i = count - i
+
+pub loop-holds : (t : ℕ) → lts.Need-loop-holds (calls t) (adt·pattern-match-adt-at t) adt·pattern-match-adt.Post Inv-loop μ-loop
+loop-holds t c = arguments-begin (c .before .before .before .before .before .before .before .args .row) _ _ _ _ _ _ _ _ _ _ _ _ _ _ _ (c .before .before .before .before .before .before .before .pre .1 .0)
+
+pub argument-elem-requires : (t : ℕ) → lts.Need-argument-elem-requires (calls t) (adt·pattern-match-adt-at t) adt·pattern-match-adt.Post Inv-loop μ-loop
+argument-elem-requires t c κs = ((c .before .before .before .before .before .before .before .before .before .pre .1 .0 .image-valid), c .before .before .before .before .before .before .before .before .before .pre .1 .0 .whole, argument-at (c .before .before .before .before .before .before .before .before .before .args .image .now) (c .before .before .before .before .before .before .before .before .before .args .p .0) (c .before .before .before .before .before .before .before .before .before .args .from) (c .before .before .before .before .before .before .before .before .before .args .fields) (c .before .before .before .before .before .before .before .before .before .args .count) (c .before .loop .i) (c .loop-test .taken) (c .before .before .before .before .before .before .before .before .before .args .row) (c .before .before .before .before .before .before .before .before .before .pre .1 .1 .1))
+
+pub project-requires : (t : ℕ) → lts.Need-project-requires (calls t) (adt·pattern-match-adt-at t) adt·pattern-match-adt.Post Inv-loop μ-loop
+project-requires t c κs = argument-fits _ _ _ _ _ (c .argument-elem .ensures)
+
+pub same-length : (t : ℕ) → lts.Need-same-length (calls t) (adt·pattern-match-adt-at t) adt·pattern-match-adt.Post Inv-loop μ-loop
+same-length t c = c .before .before .before .before .before .loop .inv .walkable .primed .blocks ∙ sym (c .before .before .before .before .before .before .before .before .before .before .before .before .before .pre .1 .0 .primed .blocks)
+
+pub same-length-2 : (t : ℕ) → lts.Need-same-length-2 (calls t) (adt·pattern-match-adt-at t) adt·pattern-match-adt.Post Inv-loop μ-loop
+same-length-2 t c = c .before .before .before .before .before .loop .inv .walkable .primed .statements ∙ sym (c .before .before .before .before .before .before .before .before .before .before .before .before .before .pre .1 .0 .primed .statements)
+
+pub same-length-3 : (t : ℕ) → lts.Need-same-length-3 (calls t) (adt·pattern-match-adt-at t) adt·pattern-match-adt.Post Inv-loop μ-loop
+same-length-3 t c = c .before .before .before .before .before .loop .inv .walkable .primed .locals ∙ sym (c .before .before .before .before .before .before .before .before .before .before .before .before .before .pre .1 .0 .primed .locals)
+
+pub same-length-4 : (t : ℕ) → lts.Need-same-length-4 (calls t) (adt·pattern-match-adt-at t) adt·pattern-match-adt.Post Inv-loop μ-loop
+same-length-4 t c = c .before .before .before .before .before .loop .inv .walkable .primed .entries ∙ sym (c .before .before .before .before .before .before .before .before .before .before .before .before .before .pre .1 .0 .primed .entries)
+
+pub same-length-5 : (t : ℕ) → lts.Need-same-length-5 (calls t) (adt·pattern-match-adt-at t) adt·pattern-match-adt.Post Inv-loop μ-loop
+same-length-5 t c = c .before .before .before .before .before .loop .inv .walkable .visits-sized ∙ sym (c .before .before .before .before .before .before .before .before .before .before .before .before .before .pre .1 .0 .visits-sized)
+
+pub returns : (t : ℕ) → lts.Need-returns (calls t) (adt·pattern-match-adt-at t) adt·pattern-match-adt.Post Inv-loop μ-loop
+returns t c = (c .before .before .before .before .before .loop .inv) .rest (argument-full (c .before .before .before .before .before .before .before .before .before .before .before .before .before .args .row) (c .before .before .before .before .before .before .before .before .before .before .before .before .before .args .image .now) (c .before .before .before .before .before .before .before .before .before .before .before .before .before .args .bindings .now) (c .before .before .before .before .before .before .before .before .before .before .before .before .before .args .p) (c .before .before .before .before .before .before .before .before .before .before .before .before .before .args .from) (c .before .before .before .before .before .before .before .before .before .before .before .before .before .args .fields) (c .before .before .before .before .before .before .before .before .before .before .before .before .before .args .count) (c .before .before .before .before .before .before .before .before .before .before .before .before .before .args .mode) (c .before .before .before .before .before .before .before .before .before .before .before .before .before .args .place) (c .before .before .before .before .before .loop .i) (c .before .before .before .before .before .loop .c) (c .before .before .before .before .before .loop .d) (c .before .before .before .before .before .loop .here) (c .before .before .before .before .before .loop .other) _ _ (c .before .before .before .before .loop-test .taken) (c .before .before .project .result) (c .before .before .before .argument-elem .ensures) (c .before .before .project .ensures) (not-true _ (c .if1 .taken)))
+
+pub argument-pat-requires : (t : ℕ) → lts.Need-argument-pat-requires (calls t) (adt·pattern-match-adt-at t) adt·pattern-match-adt.Post Inv-loop μ-loop
+argument-pat-requires t c κs = ((c .before .before .before .before .before .before .before .before .before .before .before .before .before .pre .1 .0 .image-valid), c .before .before .before .before .before .before .before .before .before .before .before .before .before .pre .1 .0 .whole, argument-lies (c .before .before .before .before .before .before .before .before .before .before .before .before .before .args .image .now) (c .before .before .before .before .before .before .before .before .before .before .before .before .before .args .p .0) (c .before .before .before .before .before .before .before .before .before .before .before .before .before .args .from) (c .before .before .before .before .before .before .before .before .before .before .before .before .before .args .fields) (c .before .before .before .before .before .before .before .before .before .before .before .before .before .args .count) (c .before .before .before .before .before .loop .i) (c .before .before .before .before .loop-test .taken) (c .before .before .before .before .before .before .before .before .before .before .before .before .before .args .row) (c .before .before .before .before .before .before .before .before .before .before .before .before .before .pre .1 .1 .1))
+
+pub pattern-match-inner-requires : (t : ℕ) → lts.Need-pattern-match-inner-requires (calls t) (adt·pattern-match-adt-at t) adt·pattern-match-adt.Post Inv-loop μ-loop
+pattern-match-inner-requires t c κs = (omega (arith, c .before .before .before .before .before .before .before .before .before .before .before .before .before .before .before .before .before .before .before .pre .0, c .before .before .before .before .before .argument-pat .ensures, (c .before .before .before .before .before .before .before .before .before .before .before .before .before .before .before .before .before .before .before .pre .1 .1 .1) .below (c .before .before .before .before .before .before .before .before .before .before .before .loop .i) (c .before .before .before .before .before .before .before .before .before .before .loop-test .taken)), (walkable-at ((c .before .before .before .before .before .before .before .before .before .before .before .loop .inv) .walkable) (projected-reaches _ _ (c .before .before .before .before .before .before .before .before .project .ensures) (not-false _ (c .before .before .before .before .before .before .if1 .left))), omega (arith, c .before .before .before .before .before .argument-pat .ensures, (c .before .before .before .before .before .before .before .before .before .before .before .before .before .before .before .before .before .before .before .pre .1 .1 .1) .below (c .before .before .before .before .before .before .before .before .before .before .before .loop .i) (c .before .before .before .before .before .before .before .before .before .before .loop-test .taken), (c .before .before .before .before .before .before .before .before .before .before .before .before .before .before .before .before .before .before .before .pre .1 .1 .0))))
+
+pub enum-known-e : (t : ℕ) → lts.Need-enum-known-e (calls t) (adt·pattern-match-adt-at t) adt·pattern-match-adt.Post Inv-loop μ-loop
+enum-known-e t c = search needs
+
+pub same-length-6 : (t : ℕ) → lts.Need-same-length-6 (calls t) (adt·pattern-match-adt-at t) adt·pattern-match-adt.Post Inv-loop μ-loop
+same-length-6 t c = c .before .before .before .before .before .before .before .before .before .before .before .before .before .pattern-match-inner .kept .1 .1 .1 .0 ∙ c .before .before .before .before .before .before .before .before .before .before .before .before .before .before .before .before .before .before .before .before .before .before .before .before .before .loop .inv .walkable .primed .blocks ∙ sym (c .before .before .before .before .before .before .before .before .before .before .before .before .before .before .before .before .before .before .before .before .before .before .before .before .before .before .before .before .before .before .before .before .before .pre .1 .0 .primed .blocks)
+
+pub same-length-7 : (t : ℕ) → lts.Need-same-length-7 (calls t) (adt·pattern-match-adt-at t) adt·pattern-match-adt.Post Inv-loop μ-loop
+same-length-7 t c = c .before .before .before .before .before .before .before .before .before .before .before .before .before .pattern-match-inner .kept .1 .1 .1 .1 .0 ∙ c .before .before .before .before .before .before .before .before .before .before .before .before .before .before .before .before .before .before .before .before .before .before .before .before .before .loop .inv .walkable .primed .statements ∙ sym (c .before .before .before .before .before .before .before .before .before .before .before .before .before .before .before .before .before .before .before .before .before .before .before .before .before .before .before .before .before .before .before .before .before .pre .1 .0 .primed .statements)
+
+pub same-length-8 : (t : ℕ) → lts.Need-same-length-8 (calls t) (adt·pattern-match-adt-at t) adt·pattern-match-adt.Post Inv-loop μ-loop
+same-length-8 t c = c .before .before .before .before .before .before .before .before .before .before .before .before .before .pattern-match-inner .kept .1 .1 .1 .1 .1 .0 ∙ c .before .before .before .before .before .before .before .before .before .before .before .before .before .before .before .before .before .before .before .before .before .before .before .before .before .loop .inv .walkable .primed .locals ∙ sym (c .before .before .before .before .before .before .before .before .before .before .before .before .before .before .before .before .before .before .before .before .before .before .before .before .before .before .before .before .before .before .before .before .before .pre .1 .0 .primed .locals)
+
+pub same-length-9 : (t : ℕ) → lts.Need-same-length-9 (calls t) (adt·pattern-match-adt-at t) adt·pattern-match-adt.Post Inv-loop μ-loop
+same-length-9 t c = c .before .before .before .before .before .before .before .before .before .before .before .before .before .pattern-match-inner .kept .1 .1 .1 .1 .1 .1 .0 ∙ c .before .before .before .before .before .before .before .before .before .before .before .before .before .before .before .before .before .before .before .before .before .before .before .before .before .loop .inv .walkable .primed .entries ∙ sym (c .before .before .before .before .before .before .before .before .before .before .before .before .before .before .before .before .before .before .before .before .before .before .before .before .before .before .before .before .before .before .before .before .before .pre .1 .0 .primed .entries)
+
+pub same-length-10 : (t : ℕ) → lts.Need-same-length-10 (calls t) (adt·pattern-match-adt-at t) adt·pattern-match-adt.Post Inv-loop μ-loop
+same-length-10 t c = c .before .before .before .before .before .before .before .before .before .before .before .before .before .pattern-match-inner .kept .1 .1 .1 .1 .1 .1 .1 .0 ∙ c .before .before .before .before .before .before .before .before .before .before .before .before .before .before .before .before .before .before .before .before .before .before .before .before .before .loop .inv .walkable .visits-sized ∙ sym (c .before .before .before .before .before .before .before .before .before .before .before .before .before .before .before .before .before .before .before .before .before .before .before .before .before .before .before .before .before .before .before .before .before .pre .1 .0 .visits-sized)
+
+pub returns-2 : (t : ℕ) → lts.Need-returns-2 (calls t) (adt·pattern-match-adt-at t) adt·pattern-match-adt.Post Inv-loop μ-loop
+returns-2 t c = (c .before .before .before .before .before .before .before .before .before .before .before .before .before .before .before .before .before .before .before .before .before .before .before .before .before .loop .inv) .rest (argument-stops (c .before .before .before .before .before .before .before .before .before .before .before .before .before .before .before .before .before .before .before .before .before .before .before .before .before .before .before .before .before .before .before .before .before .args .row) (c .before .before .before .before .before .before .before .before .before .before .before .before .before .before .before .before .before .before .before .before .before .before .before .before .before .before .before .before .before .before .before .before .before .args .image .now) (c .before .before .before .before .before .before .before .before .before .before .before .before .before .before .before .before .before .before .before .before .before .before .before .before .before .before .before .before .before .before .before .before .before .args .bindings .now) (c .before .before .before .before .before .before .before .before .before .before .before .before .before .before .before .before .before .before .before .before .before .before .before .before .before .before .before .before .before .before .before .before .before .args .p) (c .before .before .before .before .before .before .before .before .before .before .before .before .before .before .before .before .before .before .before .before .before .before .before .before .before .before .before .before .before .before .before .before .before .args .from) (c .before .before .before .before .before .before .before .before .before .before .before .before .before .before .before .before .before .before .before .before .before .before .before .before .before .before .before .before .before .before .before .before .before .args .fields) (c .before .before .before .before .before .before .before .before .before .before .before .before .before .before .before .before .before .before .before .before .before .before .before .before .before .before .before .before .before .before .before .before .before .args .count) (c .before .before .before .before .before .before .before .before .before .before .before .before .before .before .before .before .before .before .before .before .before .before .before .before .before .before .before .before .before .before .before .before .before .args .mode) (c .before .before .before .before .before .before .before .before .before .before .before .before .before .before .before .before .before .before .before .before .before .before .before .before .before .before .before .before .before .before .before .before .before .args .place) (c .before .before .before .before .before .before .before .before .before .before .before .before .before .before .before .before .before .before .before .before .before .before .before .before .before .loop .i) (c .before .before .before .before .before .before .before .before .before .before .before .before .before .before .before .before .before .before .before .before .before .before .before .before .before .loop .c) (c .before .before .before .before .before .before .before .before .before .before .before .before .before .before .before .before .before .before .before .before .before .before .before .before .before .loop .d) (c .before .before .before .before .before .before .before .before .before .before .before .before .before .before .before .before .before .before .before .before .before .before .before .before .before .loop .here) (c .before .before .before .before .before .before .before .before .before .before .before .before .before .before .before .before .before .before .before .before .before .before .before .before .before .loop .other) _ _ (c .before .before .before .before .before .before .before .before .before .before .before .before .before .before .before .before .before .before .before .before .before .before .before .before .loop-test .taken) (c .before .before .before .before .before .before .before .before .before .before .before .before .before .before .before .before .before .before .before .before .before .before .project .result) (c .before .before .before .before .before .before .before .before .before .before .before .before .before .before .before .before .before .before .before .before .before .before .before .argument-elem .ensures) (c .before .before .before .before .before .before .before .before .before .before .before .before .before .before .before .before .before .before .before .before .before .before .project .ensures) (not-false _ (c .before .before .before .before .before .before .before .before .before .before .before .before .before .before .before .before .before .before .before .before .if1 .left)) (c .before .before .before .before .before .before .before .before .before .before .before .before .before .before .before .before .before .before .before .argument-pat .result) (c .before .before .before .before .before .before .before .before .before .before .before .before .before .before .before .before .before .before .before .argument-pat .ensures) (rw (c .before .e .given .1) at (c .before .before .before .before .before .before .before .before .before .before .before .before .before .pattern-match-inner .ensures)))
+
+pub enum-known-c1 : (t : ℕ) → lts.Need-enum-known-c1 (calls t) (adt·pattern-match-adt-at t) adt·pattern-match-adt.Post Inv-loop μ-loop
+enum-known-c1 t c = search needs
+
+pub add-i : (t : ℕ) → lts.Need-add-i (calls t) (adt·pattern-match-adt-at t) adt·pattern-match-adt.Post Inv-loop μ-loop
+add-i t c = omega (arith, (c .before .before .before .before .before .before .before .before .before .before .before .before .before .before .before .before .before .before .before .before .before .before .before .before .loop-test .taken), c .before .before .before .before .before .before .before .before .before .before .before .before .before .before .before .before .before .before .before .before .before .before .before .before .before .before .before .before .before .before .before .before .before .fits .count)
+
+pub loop-less : (t : ℕ) → lts.Need-loop-less (calls t) (adt·pattern-match-adt-at t) adt·pattern-match-adt.Post Inv-loop μ-loop
+loop-less t c = omega (arith, (c .before .before .before .before .before .before .before .before .before .before .before .before .before .before .before .before .before .before .before .before .before .before .before .before .loop-test .taken))
+
+pub loop-again : (t : ℕ) → lts.Need-loop-again (calls t) (adt·pattern-match-adt-at t) adt·pattern-match-adt.Post Inv-loop μ-loop
+loop-again t c = arguments-again (c .before .before .before .before .before .before .before .before .before .before .before .before .before .before .before .before .before .before .before .before .before .before .before .before .before .loop .inv) (c .before .before .before .before .before .before .before .before .before .before .before .before .before .before .before .before .before .before .before .before .before .before .before .before .loop-test .taken) (c .before .before .before .before .before .before .before .before .before .before .before .before .before .before .before .before .before .before .before .before .before .before .project .result) (c .before .before .before .before .before .before .before .before .before .before .before .before .before .before .before .before .before .before .before .before .before .before .before .argument-elem .ensures) (c .before .before .before .before .before .before .before .before .before .before .before .before .before .before .before .before .before .before .before .before .before .before .project .ensures) (not-false _ (c .before .before .before .before .before .before .before .before .before .before .before .before .before .before .before .before .before .before .before .before .if1 .left)) (c .before .before .before .before .before .before .before .before .before .before .before .before .before .before .before .before .before .before .before .argument-pat .result) (c .before .before .before .before .before .before .before .before .before .before .before .before .before .before .before .before .before .before .before .argument-pat .ensures) (c .before .before .before .before .before .before .before .before .before .before .before .before .before .pattern-match-inner .kept .1 .1 .1 .1 .1 .1 .1 .0) (rw (c .before .c1 .given .1) at (c .before .before .before .before .before .before .before .before .before .before .before .before .before .pattern-match-inner .ensures))
+
+pub same-length-11 : (t : ℕ) → lts.Need-same-length-11 (calls t) (adt·pattern-match-adt-at t) adt·pattern-match-adt.Post Inv-loop μ-loop
+same-length-11 t c = c .before .loop .inv .walkable .primed .blocks ∙ sym (c .before .before .before .before .before .before .before .before .before .pre .1 .0 .primed .blocks)
+
+pub same-length-12 : (t : ℕ) → lts.Need-same-length-12 (calls t) (adt·pattern-match-adt-at t) adt·pattern-match-adt.Post Inv-loop μ-loop
+same-length-12 t c = c .before .loop .inv .walkable .primed .statements ∙ sym (c .before .before .before .before .before .before .before .before .before .pre .1 .0 .primed .statements)
+
+pub same-length-13 : (t : ℕ) → lts.Need-same-length-13 (calls t) (adt·pattern-match-adt-at t) adt·pattern-match-adt.Post Inv-loop μ-loop
+same-length-13 t c = c .before .loop .inv .walkable .primed .locals ∙ sym (c .before .before .before .before .before .before .before .before .before .pre .1 .0 .primed .locals)
+
+pub same-length-14 : (t : ℕ) → lts.Need-same-length-14 (calls t) (adt·pattern-match-adt-at t) adt·pattern-match-adt.Post Inv-loop μ-loop
+same-length-14 t c = c .before .loop .inv .walkable .primed .entries ∙ sym (c .before .before .before .before .before .before .before .before .before .pre .1 .0 .primed .entries)
+
+pub same-length-15 : (t : ℕ) → lts.Need-same-length-15 (calls t) (adt·pattern-match-adt-at t) adt·pattern-match-adt.Post Inv-loop μ-loop
+same-length-15 t c = c .before .loop .inv .walkable .visits-sized ∙ sym (c .before .before .before .before .before .before .before .before .before .pre .1 .0 .visits-sized)
+
+pub returns-3 : (t : ℕ) → lts.Need-returns-3 (calls t) (adt·pattern-match-adt-at t) adt·pattern-match-adt.Post Inv-loop μ-loop
+returns-3 t c = (c .before .loop .inv) .rest (arguments-end (c .before .before .before .before .before .before .before .before .before .args .row) (c .before .before .before .before .before .before .before .before .before .args .image .now) (c .before .before .before .before .before .before .before .before .before .args .bindings .now) (c .before .before .before .before .before .before .before .before .before .args .p) (c .before .before .before .before .before .before .before .before .before .args .from) (c .before .before .before .before .before .before .before .before .before .args .fields) (c .before .before .before .before .before .before .before .before .before .args .count) (c .before .before .before .before .before .before .before .before .before .args .mode) (c .before .before .before .before .before .before .before .before .before .args .place) (c .before .loop .i) (c .before .loop .c) (c .before .loop .d) (c .before .loop .here) (c .before .loop .other) _ _ (c .loop-test .left) ((c .before .loop .inv) .walkable .begins))

@@ -1,0 +1,314 @@
+// The walk over patterns: the lowering of a pattern, of a variant, of fields and of arguments call each other. With each call a pair falls: the pattern's number, and
+// behind it the rank of the function. The tables are lent, the counts go in and come out by value, and the first refusal stops the walk.
+pub mod adt; // adt.rt: variants, fields and arguments
+pub mod ors; // ors.rt: Or patterns
+pub mod seq; // seq.rt: Slice patterns
+pub mod sub; // sub.rt: patterns with one subpattern
+
+use adt::pattern_match_tuple_like;
+use adt::pattern_matching_variant;
+use image::PatId;
+use image::Tables;
+use image::kinds::pat_kind;
+use image::kinds::path_kind;
+use image::rows::PatRow;
+use image::rows::pat_at;
+use lower::merging::OptBlock;
+use lower::temps::DiscrTemp;
+use mir::BasicBlockId;
+use mir::Counts;
+use ors::on_or;
+use pattern_leaves::kinds::is_leaf;
+use pattern_leaves::kinds::pattern_match_leaf;
+use pattern_matching::MatchingMode;
+use pattern_parts::adts::TupleAt;
+use pattern_parts::adts::place_ty;
+use pattern_parts::adts::tuple_at;
+use pattern_parts::entering::deref_place;
+use pattern_parts::entering::visit;
+use pattern_rows::CompoundKind;
+use pattern_rows::compound_kind;
+use pattern_rows::variant_shape;
+use pattern_rows::variant_word;
+use place::Place;
+use refusals::MirLowerError;
+use seq::on_slice;
+use sub::on_bind;
+use sub::on_ref;
+use walks::Lowered;
+ghost use mathlib.Core.Path.{_≡_};
+ghost use Prim.Native.Nat.{_<_};
+ghost use mathlib.Core.Bool.{false};
+ghost use Rattle.image.specs.Tables.{patternCount};
+ghost use Rattle.image.specs.Kinds.{patKind, pathKind};
+ghost use Rattle.image.specs.Rows.{patAt};
+ghost use Rattle.image.specs.Tree.{tree, word?};
+ghost use Rattle.pattern_matching.specs.Variants.{variantPattern};
+ghost use Rattle.pattern_matching.specs.Patterns.{patternMatchInner};
+ghost use Rattle.pattern_nodes.specs.Leaves.{isLeaf};
+ghost use Rattle.walks.specs.Answers.{lent, Walks};
+ghost use Rattle.pattern_nodes.specs.Arguments.{shapeOf, NamesVariant};
+ghost use Rattle.pattern_nodes.specs.Nodes.{kindPattern};
+ghost use Rattle.walking.specs.Walk.{Walkable};
+ghost use Rattle.pattern_rows.specs.Rows.{variantWord, variantShape};
+
+// The pattern p: it is visited once more, and its derefs are appended to the place before its kind is looked at.
+pub fn pattern_match_inner(
+    image: &[u8],
+    tables: Tables,
+    bindings: &[u16],
+    blocks: &mut [u16],
+    statements: &mut [u16],
+    locals: &mut [u16],
+    entries: &mut [u16],
+    visits: &mut [u16],
+    counts: Counts,
+    discr: DiscrTemp,
+    mode: MatchingMode,
+    p: PatId,
+    current: BasicBlockId,
+    els: OptBlock,
+    place: Place,
+) -> Lowered
+    requires { ⌜ Walkable (now image) tables (now bindings) (lent (now blocks) (now statements) (now locals) (now entries)) (now visits) counts current els place ⌝ }
+    requires { ⌜ p .0 < patternCount (now image) ⌝ }
+    ensures { λ r. ⌜ Walks (λ ctx. patternMatchInner (now (image .entry)) (now (bindings .entry)) (tree (now (image .entry)) (p .0)) mode ctx current els place) counts discr current els (lent (now (blocks .entry)) (now (statements .entry)) (now (locals .entry)) (now (entries .entry))) (now (visits .entry)) r (lent (now (blocks .exit)) (now (statements .exit)) (now (locals .exit)) (now (entries .exit))) (now (visits .exit)) ⌝ }
+{
+    visit(visits, p);
+    let row = pat_at(image, tables, p);
+    let behind = deref_place(place, row.derefs);
+    if !behind.ok {
+        return Lowered::Refused(MirLowerError::Limit, p);
+    }
+    if is_leaf(pat_kind(row.kind), path_kind(row.a)) {
+        return pattern_match_leaf(
+            image,
+            tables,
+            bindings,
+            blocks,
+            statements,
+            locals,
+            entries,
+            counts,
+            discr,
+            mode,
+            p,
+            row,
+            current,
+            els,
+            behind.place,
+        );
+    }
+    by_kind(
+        image,
+        tables,
+        bindings,
+        blocks,
+        statements,
+        locals,
+        entries,
+        visits,
+        counts,
+        discr,
+        mode,
+        p,
+        row,
+        current,
+        els,
+        behind.place,
+    )
+}
+
+// A pattern that has subpatterns or names a variant, at a place behind its derefs: p, whose row is given.
+pub fn by_kind(
+    image: &[u8],
+    tables: Tables,
+    bindings: &[u16],
+    blocks: &mut [u16],
+    statements: &mut [u16],
+    locals: &mut [u16],
+    entries: &mut [u16],
+    visits: &mut [u16],
+    counts: Counts,
+    discr: DiscrTemp,
+    mode: MatchingMode,
+    p: PatId,
+    row: PatRow,
+    current: BasicBlockId,
+    els: OptBlock,
+    place: Place,
+) -> Lowered
+    requires { ⌜ Walkable (now image) tables (now bindings) (lent (now blocks) (now statements) (now locals) (now entries)) (now visits) counts current els place ⌝ }
+    requires { ⌜ (p .0 < patternCount (now image)) × (row ≡ patAt (now image) (p .0)) × (isLeaf (patKind (row .kind)) (pathKind (row .a)) ≡ false) ⌝ }
+    ensures { λ r. ⌜ Walks (λ ctx. kindPattern (patKind (row .kind)) (now (image .entry)) (now (bindings .entry)) (p .0) row mode ctx current els place) counts discr current els (lent (now (blocks .entry)) (now (statements .entry)) (now (locals .entry)) (now (entries .entry))) (now (visits .entry)) r (lent (now (blocks .exit)) (now (statements .exit)) (now (locals .exit)) (now (entries .exit))) (now (visits .exit)) ⌝ }
+{
+    match compound_kind(pat_kind(row.kind)) {
+        CompoundKind::Tuple => match tuple_at(
+            image,
+            tables,
+            place_ty(image, tables, locals, place),
+        ) {
+            TupleAt::Refused(e) => Lowered::Refused(e, p),
+            TupleAt::Fields(fields) => pattern_match_tuple_like(
+                image,
+                tables,
+                bindings,
+                blocks,
+                statements,
+                locals,
+                entries,
+                visits,
+                counts,
+                discr,
+                mode,
+                p,
+                row.a,
+                row.b,
+                row.c,
+                fields,
+                current,
+                els,
+                place,
+            ),
+        },
+        CompoundKind::Or => on_or(
+            image,
+            tables,
+            bindings,
+            blocks,
+            statements,
+            locals,
+            entries,
+            visits,
+            counts,
+            discr,
+            mode,
+            p,
+            row.a,
+            row.b,
+            current,
+            els,
+            place,
+        ),
+        CompoundKind::Slice => on_slice(
+            image,
+            tables,
+            bindings,
+            blocks,
+            statements,
+            locals,
+            entries,
+            visits,
+            counts,
+            discr,
+            mode,
+            p,
+            row,
+            current,
+            els,
+            place,
+        ),
+        CompoundKind::Bind => on_bind(
+            image,
+            tables,
+            bindings,
+            blocks,
+            statements,
+            locals,
+            entries,
+            visits,
+            counts,
+            discr,
+            mode,
+            p,
+            row,
+            current,
+            els,
+            place,
+        ),
+        CompoundKind::Ref => on_ref(
+            image,
+            tables,
+            bindings,
+            blocks,
+            statements,
+            locals,
+            entries,
+            visits,
+            counts,
+            discr,
+            mode,
+            p,
+            PatId(row.a),
+            current,
+            els,
+            place,
+        ),
+        CompoundKind::Variant => on_variant(
+            image,
+            tables,
+            bindings,
+            blocks,
+            statements,
+            locals,
+            entries,
+            visits,
+            counts,
+            discr,
+            mode,
+            p,
+            row,
+            current,
+            els,
+            place,
+        ),
+    }
+}
+
+// A Record, a TupleStruct or a path that names a variant; one without a variant is refused.
+pub fn on_variant(
+    image: &[u8],
+    tables: Tables,
+    bindings: &[u16],
+    blocks: &mut [u16],
+    statements: &mut [u16],
+    locals: &mut [u16],
+    entries: &mut [u16],
+    visits: &mut [u16],
+    counts: Counts,
+    discr: DiscrTemp,
+    mode: MatchingMode,
+    p: PatId,
+    row: PatRow,
+    current: BasicBlockId,
+    els: OptBlock,
+    place: Place,
+) -> Lowered
+    requires { ⌜ Walkable (now image) tables (now bindings) (lent (now blocks) (now statements) (now locals) (now entries)) (now visits) counts current els place ⌝ }
+    requires { ⌜ (p .0 < patternCount (now image)) × NamesVariant (now image) (p .0) row ⌝ }
+    ensures { λ r. ⌜ Walks (λ ctx. variantPattern (now (image .entry)) (p .0) (word? (variantWord row)) (shapeOf (now (image .entry)) (now (bindings .entry)) (variantShape row)) mode ctx current els place) counts discr current els (lent (now (blocks .entry)) (now (statements .entry)) (now (locals .entry)) (now (entries .entry))) (now (visits .entry)) r (lent (now (blocks .exit)) (now (statements .exit)) (now (locals .exit)) (now (entries .exit))) (now (visits .exit)) ⌝ }
+{
+    let v = variant_word(row);
+    if v == 65535 {
+        return Lowered::Refused(MirLowerError::NotSupported, p);
+    }
+    pattern_matching_variant(
+        image,
+        tables,
+        bindings,
+        blocks,
+        statements,
+        locals,
+        entries,
+        visits,
+        counts,
+        discr,
+        mode,
+        p,
+        v,
+        variant_shape(row),
+        current,
+        els,
+        place,
+    )
+}

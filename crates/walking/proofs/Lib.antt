@@ -1,0 +1,9 @@
+pub mod Asking
+pub mod Looking
+pub mod Entering
+pub mod References
+pub mod Arguments
+pub mod Variants
+pub mod Slices
+pub mod Trying
+pub mod Alternatives

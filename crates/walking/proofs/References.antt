@@ -1,0 +1,110 @@
+-- `pattern_match_ref` and `pattern_match_bind`: a law for each way through them. Assumes nothing.
+use mathlib.Core.Path.{_≡_, refl, sym, ap, _∙_}
+use mathlib.Core.Bool.{true, false}
+use mathlib.Core.List.{List}
+use Prim.Native.Nat.{ℕ}
+use lib.ListN.{getD}
+use Rattle.refusals.specs.declared.MirLowerError.{MirLowerError}
+use Rattle.image.specs.declared.PatId.{PatId}
+use Rattle.image.specs.declared.kinds.BindingMode.{BindingMode}
+use Rattle.image.specs.Tree.{tree, tree?}
+use Rattle.place.specs.declared.Place.{Place}
+use Rattle.place.specs.declared.Projected.{Projected}
+use Rattle.place.specs.declared.elems.ProjectionElem.{ProjectionElem}
+use Rattle.place.specs.declared.place_ty.PlaceTy.{PlaceTy}
+use Rattle.place.specs.Places.{projectionOf, Projects}
+use Rattle.place.specs.PlaceTypes.{multiProjectionTy}
+use Rattle.mir.specs.declared.BasicBlockId.{BasicBlockId}
+use Rattle.mir.specs.declared.Counts.{Counts}
+use Rattle.mir.specs.Locals.{localTy}
+use Rattle.lower.specs.declared.temps.DiscrTemp.{DiscrTemp}
+use Rattle.lower.specs.declared.merging.OptBlock.{OptBlock}
+use Rattle.pattern_matching.specs.declared.MatchingMode.{MatchingMode}
+use Rattle.pattern_matching.specs.Walking.{Ctx, Out, Walk, Lowering, next, step, project}
+use Rattle.pattern_matching.specs.Variants.{placeTy, shapeOf, refPattern}
+use Rattle.pattern_matching.specs.Patterns.{passing, bindPattern, patternMatchInner, lowering?}
+use Rattle.walks.specs.declared.Lowered.{Lowered}
+use Rattle.walks.specs.Answers.{Lent, lent, Primed, Placed, Walks}
+use Rattle.walks.proofs.Sequences.{walks-by, walks-stops, walks-then, primed-after}
+use Rattle.pattern_parts.specs.declared.adts.ReferenceAt.{ReferenceAt}
+use Rattle.pattern_parts.specs.Parts.{referenceAt, referenceResult, Fills}
+use Rattle.pattern_parts.proofs.Visiting.{project-stops, project-goes}
+use Rattle.pattern_parts.proofs.Needed.{reference-needed}
+use Rattle.pattern_nodes.specs.Modes.{bound}
+use Rattle.pattern_nodes.proofs.Branches.{no-subpattern, with-subpattern}
+use Rattle.walking.proofs.Looking.{looks-stops, looks-then, fills-walks, place-ty-now}
+
+-- `pattern_match_ref`
+module _ (image : List ℕ) (p : PatId) (sub : Lowering) (mode : MatchingMode) (c : Counts) (discr : DiscrTemp) (current : BasicBlockId) (els : OptBlock) (place : Place) (t : Lent) (v : List ℕ) where
+  -- what it promises
+  abbrev Ref : Lowered → Lent → List ℕ → Type 0
+  Ref = Walks (λ ctx. refPattern image (p .0) sub mode ctx current els place) c discr current els t v
+
+  -- the subpattern on what the reference refers to
+  abbrev referent : Ctx → Walk Out
+  referent ctx = step (p .0) (project place ProjectionElem.Deref) (λ onward. sub mode ctx current els onward)
+
+  ref-looks : (ctx : Ctx) → refPattern image (p .0) sub mode ctx current els place ≡ step (p .0) (referenceAt (shapeOf image (placeTy image (ctx .state) place))) (λ there. referent ctx)
+  unfolding refPattern
+  ref-looks ctx = reference-needed (p .0) mode ctx current els place (shapeOf image (placeTy image (ctx .state) place)) sub
+
+  module _ {ty : PlaceTy} (P : Placed image t c place) (is : ty ≡ multiProjectionTy image (localTy (getD (t .locals) (place .local .0) 0)) (projectionOf place)) where
+    -- there is no reference
+    pub ref-refused : {x : MirLowerError} → referenceResult (ReferenceAt.Refused x) ≡ referenceAt (shapeOf image ty) → Ref (Lowered.Refused x p) t v
+    ref-refused n =
+        looks-stops p (λ ctx. referenceAt (shapeOf image (placeTy image (ctx .state) place))) (λ there ctx. referent ctx) ref-looks
+        (λ scopes visits. n ∙ ap (λ (s : PlaceTy). referenceAt (shapeOf image s)) (place-ty-now image t c place P is scopes))
+
+    module _ (n : referenceResult ReferenceAt.Reference ≡ referenceAt (shapeOf image ty)) {b : Projected} (Q : Projects place ProjectionElem.Deref b) where
+      ref-there : {r : Lowered} {t₁ : Lent} {v₁ : List ℕ} → Walks referent c discr current els t v r t₁ v₁ → Ref r t₁ v₁
+      ref-there W =
+          looks-then p (λ ctx. referenceAt (shapeOf image (placeTy image (ctx .state) place))) (λ there ctx. referent ctx) ref-looks
+          (λ scopes visits. n ∙ ap (λ (s : PlaceTy). referenceAt (shapeOf image s)) (place-ty-now image t c place P is scopes)) W
+
+      -- there is no room for the deref
+      pub ref-stops : b .ok ≡ false → Ref (Lowered.Refused MirLowerError.Limit p) t v
+      ref-stops e =
+          ref-there (looks-stops p (λ ctx. project place ProjectionElem.Deref) (λ onward ctx. sub mode ctx current els onward) (λ ctx. refl) (λ scopes visits. project-stops place ProjectionElem.Deref Q e))
+
+      -- the subpattern
+      pub ref-goes : {r : Lowered} {t₁ : Lent} {v₁ : List ℕ} → b .ok ≡ true → Walks (λ ctx. sub mode ctx current els (b .place)) c discr current els t v r t₁ v₁ → Ref r t₁ v₁
+      ref-goes e W =
+          ref-there (looks-then p (λ ctx. project place ProjectionElem.Deref) (λ onward ctx. sub mode ctx current els onward) (λ ctx. refl) (λ scopes visits. project-goes place ProjectionElem.Deref Q e) W)
+
+-- `pattern_match_bind`: q is the word of the subpattern
+module _ (image bindings : List ℕ) (p : PatId) (b q : ℕ) (how : BindingMode) (mode : MatchingMode) (c : Counts) (discr : DiscrTemp) (current : BasicBlockId) (els : OptBlock) (place : Place) where
+  -- what it promises
+  abbrev Bind : Lent → List ℕ → Lowered → Lent → List ℕ → Type 0
+  Bind = Walks (λ ctx. bindPattern bindings (p .0) b how (lowering? image bindings (tree? (tree image) q)) mode ctx current els place) c discr current els
+
+  -- the binding, behind the subpattern
+  abbrev behindSub : Out → Walk Out
+  behindSub r = bound bindings (p .0) b how mode (r .ctx) (r .then) (r .else) place
+
+  bind-as : (sub : Lowering) (ctx : Ctx) → bindPattern bindings (p .0) b how sub mode ctx current els place ≡ next (sub mode ctx current els place) behindSub
+  unfolding bindPattern bound
+  bind-as sub ctx = refl
+
+  -- no subpattern
+  pub bind-alone : {bl s l e s₁ e₁ v : List ℕ} {r : Lowered} → q ≡ 65535 → Primed (lent bl s l e) c →
+      Fills (λ ctx. bound bindings (p .0) b how mode ctx current els place) c discr current els s e r s₁ e₁ → Bind (lent bl s l e) v r (lent bl s₁ l e₁) v
+  bind-alone {v = v} none P F =
+      walks-by (λ ctx. sym (ap (λ (sub : Lowering). bindPattern bindings (p .0) b how sub mode ctx current els place) (no-subpattern image bindings q none) ∙ bind-as passing ctx)) (fills-walks v P F)
+
+  module _ (some : q ≡ 65535 → ⊥) where
+    bind-with : (ctx : Ctx) →
+        next (patternMatchInner image bindings (tree image q) mode ctx current els place) behindSub
+        ≡ bindPattern bindings (p .0) b how (lowering? image bindings (tree? (tree image) q)) mode ctx current els place
+    bind-with ctx =
+        sym (ap (λ (sub : Lowering). bindPattern bindings (p .0) b how sub mode ctx current els place) (with-subpattern image bindings q some) ∙ bind-as (patternMatchInner image bindings (tree image q)) ctx)
+
+    -- the subpattern is refused
+    pub bind-stops : {t t₁ : Lent} {v v₁ : List ℕ} {x : MirLowerError} {at : PatId} →
+        Walks (λ ctx. patternMatchInner image bindings (tree image q) mode ctx current els place) c discr current els t v (Lowered.Refused x at) t₁ v₁ → Bind t v (Lowered.Refused x at) t₁ v₁
+    bind-stops W = walks-by bind-with (walks-stops behindSub W)
+
+    -- the binding behind it
+    pub bind-then : {t : Lent} {v : List ℕ} {c₁ : Counts} {d₁ : DiscrTemp} {then : BasicBlockId} {other : OptBlock} {bl s l e s₁ e₁ v₁ : List ℕ} {r : Lowered} → Primed t c →
+        Walks (λ ctx. patternMatchInner image bindings (tree image q) mode ctx current els place) c discr current els t v (Lowered.Done c₁ d₁ then other) (lent bl s l e) v₁ →
+        Fills (λ ctx. bound bindings (p .0) b how mode ctx then other place) c₁ d₁ then other s e r s₁ e₁ → Bind t v r (lent bl s₁ l e₁) v₁
+    bind-then {v₁ = v₁} P W F = walks-by bind-with (walks-then W P behindSub (fills-walks v₁ (primed-after W P) F))
