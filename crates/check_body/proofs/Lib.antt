@@ -1,4 +1,4 @@
-mod Loops
+pub mod Loops
 mod BlockKinds
 mod RowWords
 pub mod Checked

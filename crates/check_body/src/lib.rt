@@ -1,7 +1,7 @@
 // Whether a body and its scopes may be handed in: the tables have their sizes, the counts are within the limits, and the rows in use name nothing that is
 // missing.
 pub mod rows; // rows.rt: the rows of locals, scopes and entries, and of blocks
-mod statement; // statement.rt: the rows of statements
+pub mod statement; // statement.rt: the rows of statements
 
 use mir::Counts;
 use rows::block_holds;

@@ -10,7 +10,7 @@ ghost use Rattle.image.specs.Lists.{allBelow};
 ghost use Rattle.check_body.specs.Bodies.{elemHolds, elemAtHolds, placeHolds, constantHolds, leftHolds, rvalueHolds, statementHolds};
 
 // An element of a known kind; a Downcast names a variant that there is.
-fn elem_holds(variants: u16, elem: ProjectionElem) -> bool
+pub fn elem_holds(variants: u16, elem: ProjectionElem) -> bool
     ensures { λ r. ⌜ r ≡ elemHolds variants elem ⌝ }
 {
     match elem {

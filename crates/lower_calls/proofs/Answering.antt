@@ -41,7 +41,7 @@ use Rattle.lower_calls.proofs.Clearing.{Cleared, held, counted}
 use Rattle.lower_calls.proofs.Restoring.{kept-below, put-back, all-kept}
 
 -- words below n, of tables that are the same there
-same-word : (n : ℕ) (t t₁ : List ℕ) (i : ℕ) → take n t₁ ≡ take n t → i < n → getD t₁ i 0 ≡ getD t i 0
+pub same-word : (n : ℕ) (t t₁ : List ℕ) (i : ℕ) → take n t₁ ≡ take n t → i < n → getD t₁ i 0 ≡ getD t i 0
 same-word n t t₁ i e h = sym (getD-take n t₁ i 0 h) ∙ ap (λ (l : List ℕ). getD l i 0) e ∙ getD-take n t i 0 h
 
 -- what a body that is taken names, its tables still name when zeros stand above the counts

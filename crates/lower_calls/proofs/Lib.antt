@@ -1,5 +1,5 @@
 mod RowWords
-mod Clearing
-mod Restoring
-mod Prologue
-mod Answering
+pub mod Clearing
+pub mod Restoring
+pub mod Prologue
+pub mod Answering

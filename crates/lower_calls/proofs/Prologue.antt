@@ -29,7 +29,7 @@ use Rattle.lower_calls.specs.Sizes.{Sized, Taken}
 
 module _ (image : List ℕ) where
   -- an image that is read is valid
-  read-valid : (tables : Tables) → Read.Image tables ≡ readOf image → (valid image ≡ true) × (tables ≡ tablesOf image)
+  pub read-valid : (tables : Tables) → Read.Image tables ≡ readOf image → (valid image ≡ true) × (tables ≡ tablesOf image)
   unfolding readOf
   read-valid tables e = go (valid image) refl e
     where
@@ -38,7 +38,7 @@ module _ (image : List ℕ) where
       go false f q = absurd (let z : _≡_ {A = ℕ} 0 1 = cc in omega arith)
 
   -- and one that is refused is not
-  read-refused : Read.Refused ≡ readOf image → valid image ≡ false
+  pub read-refused : Read.Refused ≡ readOf image → valid image ≡ false
   unfolding readOf
   read-refused e = go (valid image) e
     where
@@ -47,7 +47,7 @@ module _ (image : List ℕ) where
       go false q = refl
 
   -- a valid image's tables lie within it
-  whole-of : valid image ≡ true → Whole image (tablesOf image)
+  pub whole-of : valid image ≡ true → Whole image (tablesOf image)
   unfolding valid framed allTrue frameOf
   whole-of v =
       let frame : framed image ≡ true =
@@ -84,7 +84,7 @@ module _ (image : List ℕ) (b : Body) (c : Counts) where
       rw (v .0, taken-by tables (v .1) is ∙ t)
 
   -- what its answers say
-  not-valid : Opened.BadImage ≡ openedOf image b c → valid image ≡ false
+  pub not-valid : Opened.BadImage ≡ openedOf image b c → valid image ≡ false
   unfolding openedOf
   not-valid e = go (valid image) (bodyTaken image b c) e
     where
@@ -93,7 +93,7 @@ module _ (image : List ℕ) (b : Body) (c : Counts) where
       go true false q = absurd (let z : _≡_ {A = ℕ} 0 1 = cc in omega arith)
       go false t q = refl
 
-  not-taken : Opened.BadCall ≡ openedOf image b c → (valid image ≡ true) × (bodyTaken image b c ≡ false)
+  pub not-taken : Opened.BadCall ≡ openedOf image b c → (valid image ≡ true) × (bodyTaken image b c ≡ false)
   unfolding openedOf
   not-taken e = go (valid image) (bodyTaken image b c) e
     where

@@ -1,0 +1,4 @@
+pub mod Starting
+pub mod Walking
+pub mod Stepping
+pub mod Opening
