@@ -30,8 +30,9 @@ use Rattle.meaning.specs.Running.{Env}
 use Rattle.meaning.specs.Matching.{matches}
 use Rattle.meaning.specs.Binding.{binds}
 use Rattle.meaning.specs.Fits.{fits}
-use Rattle.correctness.specs.Demand2.{pathOf, Handed, Fitting, Comes}
-use Rattle.correctness.proofs.Demand.{if-it-matches, if-not}
+use Rattle.meaning.specs.Differences.{asTheReference, asTheRustReads}
+use Rattle.correctness.specs.Demand2.{pathOf, Handed, Fitting, Stops, Comes}
+use Rattle.correctness.proofs.Demand.{if-the-rust-matches, if-the-rust-does-not, stops-at-then-or-else, if-it-matches, if-not}
 use Rattle.fitted.specs.OnlyLimits.{OnlyLimits}
 use Rattle.fitted.proofs.Refusing.{fit-refused}
 use Rattle.growth.proofs.OpenBlocks.{only-those-open, those-open, inner-keeps}
@@ -39,20 +40,40 @@ use Rattle.audit.specs.Started.{Row, answerBy}
 use Rattle.audit.proofs.Proved as proved
 use Rattle.audit.specs.Call.{lowering, Accepted}
 
--- Demand 2, for the pattern p of an image: a pattern that fits, outside the listed differences (`asTheReference`), and a value that fits; in every body M that
--- goes on from the accepted one, whatever the locals hold before.
+-- Demand 2, for the pattern p of an image: a pattern that fits, outside the listed differences, and a value that fits; in every body M that goes on from the
+-- accepted one, whatever the locals hold before.
 module _ (image bindings : List ℕ) (p : ℕ) (ctx : Ctx) (current : BasicBlockId) (els : OptBlock) (place : Place) (t : ℕ) (v : Value) (r : Out) (M : Mir) (env : Env)
     (there : p < patternCount image) (handed : Handed image bindings ctx current els place t) (fitting : Fitting image bindings ctx place t (tree image p) v)
-    (gives : lowering image bindings (tree image p) ctx current els place ≡ ok r) (goes-on : GoesOn (mirOf (r .ctx .state)) M) where
+    (gives : lowering image bindings (tree image p) ctx current els place ≡ ok r) (goes-on : GoesOn (mirOf (r .ctx .state)) M) (unlisted : asTheReference (tree image p) ≡ true) where
   -- "the blocks lead a value to the then block when the Reference says it matches, with the bindings it says": to the end of then, every other local handed in but
-  -- the discriminant's unchanged; and, for these patterns, demand 3's "the run enters no block twice and stops at then or else"
+  -- the discriminant's unchanged
   pub a-value-that-matches-comes-to-then : matches image (tree image p) v ≡ true →
       Comes image bindings M place v ctx current env (binds image (tree image p) (pathOf place) v) (r .then .0) (drop (length (r .ctx .state .statements)) (M .lines))
-  a-value-that-matches-comes-to-then = if-it-matches image bindings p ctx current els place t v there handed fitting r gives M goes-on env
+  a-value-that-matches-comes-to-then = if-it-matches image bindings p ctx current els place t v there handed fitting r gives M goes-on env unlisted
 
   -- "and otherwise to the else block": on reaching it, with nothing bound
   pub any-other-value-comes-to-else : matches image (tree image p) v ≡ false → (e : BasicBlockId) × (r .else ≡ OptBlock.Some e) × Comes image bindings M place v ctx current env [] (e .0) (M .lines)
-  any-other-value-comes-to-else = if-not image bindings p ctx current els place t v there handed fitting r gives M goes-on env
+  any-other-value-comes-to-else = if-not image bindings p ctx current els place t v there handed fitting r gives M goes-on env unlisted
+
+-- Demand 3 on runs, for every fitting pattern p of an image, the listed differences included, and every fitting value; and what the blocks mean in place of these
+-- differences.
+module _ (image bindings : List ℕ) (p : ℕ) (ctx : Ctx) (current : BasicBlockId) (els : OptBlock) (place : Place) (t : ℕ) (v : Value) (r : Out) (M : Mir) (env : Env)
+    (there : p < patternCount image) (handed : Handed image bindings ctx current els place t) (fitting : Fitting image bindings ctx place t (tree image p) v)
+    (gives : lowering image bindings (tree image p) ctx current els place ≡ ok r) (goes-on : GoesOn (mirOf (r .ctx .state)) M) where
+  -- "For every fitting pattern and every fitting value, the run enters no block twice and stops at then or else."
+  pub the-run-enters-no-block-twice-and-stops-at-then-or-else : Stops image M place v ctx current env (r .then .0) (drop (length (r .ctx .state .statements)) (M .lines))
+      ⊎ ((e : BasicBlockId) × (r .else ≡ OptBlock.Some e) × Stops image M place v ctx current env (e .0) (M .lines))
+  the-run-enters-no-block-twice-and-stops-at-then-or-else = stops-at-then-or-else image bindings p ctx current els place t v there handed fitting r gives M goes-on env
+
+  -- In place of the listed differences the blocks mean what the Reference says of the pattern that the Rust reads: a value that this one matches comes to then ..
+  pub a-value-that-matches-as-the-Rust-reads-comes-to-then : matches image (asTheRustReads (tree image p)) v ≡ true →
+      Comes image bindings M place v ctx current env (binds image (asTheRustReads (tree image p)) (pathOf place) v) (r .then .0) (drop (length (r .ctx .state .statements)) (M .lines))
+  a-value-that-matches-as-the-Rust-reads-comes-to-then = if-the-rust-matches image bindings p ctx current els place t v there handed fitting r gives M goes-on env
+
+  -- .. and any other to the else block
+  pub any-other-value-as-the-Rust-reads-comes-to-else : matches image (asTheRustReads (tree image p)) v ≡ false →
+      (e : BasicBlockId) × (r .else ≡ OptBlock.Some e) × Comes image bindings M place v ctx current env [] (e .0) (M .lines)
+  any-other-value-as-the-Rust-reads-comes-to-else = if-the-rust-does-not image bindings p ctx current els place t v there handed fitting r gives M goes-on env
 
 -- Demand 3, for every call of `pattern_match` that is accepted, whether its pattern fits or not.
 module _ (image bindings : List ℕ) (pat : Pat) (ctx : Ctx) (current : BasicBlockId) (els : OptBlock) (place : Place) (r : Out)

@@ -14,9 +14,10 @@ mod Inside
 mod Leaves
 pub mod Trees
 mod Bounds
-mod Tallies
+pub mod Tallies
 mod Numbers
 mod Within
 pub mod Once
+pub mod Ors
 pub mod Whole
 pub mod Visits

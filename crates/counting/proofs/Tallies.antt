@@ -32,7 +32,7 @@ hit-or n x = go (eqb x n) refl
     go false e = inr (eqb-false x n e)
 
 -- which of two numbers is less
-le-or-lt : (m x : ℕ) → (m ≤ x) ⊎ (x < m)
+pub le-or-lt : (m x : ℕ) → (m ≤ x) ⊎ (x < m)
 le-or-lt m x = go (ltb x m) refl
   where
     go : (t : Bool) → ltb x m ≡ t → (m ≤ x) ⊎ (x < m)

@@ -64,26 +64,38 @@ module _ (image : List ℕ) (root : Pat) (ctx : Ctx) (els : OptBlock) (place : P
         else = s .else;
       }
 
--- The theorem: every call of `pattern_match` that is accepted is counted, on a place whose words are 16.
-pub counted : (image bindings : List ℕ) (root : Pat) (ctx : Ctx) (current : BasicBlockId) (els : OptBlock) (place : Place) (r : Out) → place .local .0 < length (ctx .state .locals) →
-    length (place .elems) ≡ 16 → patternMatch image bindings root ctx current els place ≡ ok r → Counted image root ctx els place r
-unfolding patternMatch
-counted image bindings root ctx current els place r rooted whole accepted = walked .at r accepted
-  where
-    ty : PlaceTy
-    ty = placeTy image (ctx .state) place
+-- what both passes of an accepted call of `pattern_match` add, on a place whose words are 16
+module _ (image bindings : List ℕ) (root : Pat) (ctx : Ctx) (current : BasicBlockId) (els : OptBlock) (place : Place) (r : Out) (rooted : place .local .0 < length (ctx .state .locals))
+    (whole : length (place .elems) ≡ 16) (accepted : patternMatch image bindings root ctx current els place ≡ ok r) where
+  abbrev ty : PlaceTy
+  ty = placeTy image (ctx .state) place
 
-    rs : List Reached
-    rs = reachedFrom image root ty
+  abbrev rs : List Reached
+  rs = reachedFrom image root ty
 
-    on : On image ctx place ty
-    on = record { rooted = rooted; whole = whole; typed = refl }
+  abbrev Added : Out → Type 0
+  Added r = Steps ctx els r (canFail image root ty) (someEnum rs) (λ w. 0) (λ w. total (tested w) rs + total (bound w) rs) × AllSmall rs
 
-    bindsFrom : Out → Walk Out
-    bindsFrom r₁ = patternMatchInner image bindings root MatchingMode.Bind (r₁ .ctx) (r₁ .then) (r₁ .else) place
+  added : Added r
+  unfolding patternMatch
+  added = walked .at r accepted
+    where
+      on : On image ctx place ty
+      on = record { rooted = rooted; whole = whole; typed = refl }
 
-    walked : Holds (λ r. Counted image root ctx els place r) (patternMatch image bindings root ctx current els place)
-    walked =
-        holds-next (patternMatchInner image bindings root MatchingMode.Check ctx current els place) bindsFrom (counts image bindings root .goes checks ctx current els place ty 0 false on tt) (λ r₁ a.
-        holds-as (λ r₂ b. counted-by image root ctx els place r₂ (both-passes a b) (a .small))
-        (counts image bindings root .goes binds (r₁ .ctx) (r₁ .then) (r₁ .else) place ty 0 false (on-after a on) (found (ctx .discr) (r₁ .ctx .discr) (someEnum rs) (a .steps .discr))))
+      bindsFrom : Out → Walk Out
+      bindsFrom r₁ = patternMatchInner image bindings root MatchingMode.Bind (r₁ .ctx) (r₁ .then) (r₁ .else) place
+
+      walked : Holds Added (patternMatch image bindings root ctx current els place)
+      walked =
+          holds-next (patternMatchInner image bindings root MatchingMode.Check ctx current els place) bindsFrom (counts image bindings root .goes checks ctx current els place ty 0 false on tt) (λ r₁ a.
+          holds-as (λ r₂ b. (both-passes a b, a .small))
+          (counts image bindings root .goes binds (r₁ .ctx) (r₁ .then) (r₁ .else) place ty 0 false (on-after a on) (found (ctx .discr) (r₁ .ctx .discr) (someEnum rs) (a .steps .discr))))
+
+  -- The theorem: every call of `pattern_match` that is accepted is counted.
+  pub counted : Counted image root ctx els place r
+  counted = counted-by image root ctx els place r (added .0) (added .1)
+
+  -- the visits of as many patterns are counted as before
+  pub visits-kept : length (r .ctx .visits) ≡ length (ctx .visits)
+  visits-kept = added .0 .went .listed
