@@ -1,0 +1,115 @@
+// Where the listing program starts: the type of local 0, and the body.
+use image::BindingId;
+use image::PatId;
+use image::Tables;
+use image::rows::binding_at;
+use image::rows::pat_at;
+use image::rows::type_at;
+use mir::Counts;
+use row_tables::clear_from;
+ghost use mathlib.Core.Path.{_≡_};
+ghost use mathlib.Core.Bool.{true};
+ghost use mathlib.Core.Option.{some};
+ghost use Prim.Native.Nat.{_<_};
+ghost use lib.ListN.{length};
+ghost use Rattle.image.specs.Tables.{Whole, typeCount};
+ghost use Rattle.image.specs.Lists.{upFrom};
+ghost use Rattle.image.specs.Valid.{valid};
+ghost use Rattle.state.specs.State.{body, encode, countsOf};
+ghost use Rattle.meaning.specs.Typing.{behind, isType};
+ghost use Rattle.listing_start.specs.Started.{startType, startState};
+ghost use Rattle.listing_start.specs.Sizes.{TablesSized, startTypeOf, IsType, localsFilled};
+
+// The lowest-numbered type that leads to the last pattern's, if there is one.
+pub enum StartType {
+    None,
+    Some(u16),
+}
+
+// So many derefs bring the type t to the type ty.
+fn leads_to(image: &[u8], tables: Tables, t: u16, derefs: u16, ty: u16) -> bool
+    requires { ⌜ (valid (now image) ≡ true) × Whole (now image) tables × (t < typeCount (now image)) ⌝ }
+    ensures { λ r. ⌜ r ≡ isType (behind (now (image .entry)) derefs (some t)) ty ⌝ }
+{
+    let mut here = t;
+    let mut left = derefs;
+    while 0 < left {
+        let row = type_at(image, tables, here);
+        if row.kind != 7 {
+            return false;
+        }
+        here = row.a;
+        left -= 1;
+    }
+    here == ty
+}
+
+// The type of local 0.
+pub fn start_type(image: &[u8], tables: Tables) -> StartType
+    requires { ⌜ (valid (now image) ≡ true) × Whole (now image) tables ⌝ }
+    ensures { λ r. ⌜ (startTypeOf r ≡ startType (now (image .entry))) × IsType (now (image .entry)) r ⌝ }
+{
+    let row = pat_at(image, tables, PatId(tables.patterns.count - 1));
+    let mut t = 0u16;
+    while t < tables.types.count {
+        if leads_to(image, tables, t, row.derefs, row.ty) {
+            return StartType::Some(t);
+        }
+        t += 1;
+    }
+    StartType::None
+}
+
+// The bindings' locals, from local 1 on, have the bindings' types.
+fn type_bindings(image: &[u8], tables: Tables, locals: &mut [u16])
+    requires { ⌜ (valid (now image) ≡ true) × Whole (now image) tables × (length (now locals) ≡ 512) ⌝ }
+    ensures { λ _. ⌜ now (locals .exit) ≡ localsFilled (now (image .entry)) (now (locals .entry)) ⌝ }
+{
+    let mut i = 0u16;
+    while i < tables.bindings.count {
+        locals[1 + (i as usize)] = binding_at(image, tables, BindingId(i)).ty;
+        i += 1;
+    }
+}
+
+// Block 0 is open, local 0 has the type t, the bindings' locals follow, and one scope is open.
+pub fn start_body(
+    image: &[u8],
+    tables: Tables,
+    t: u16,
+    blocks: &mut [u16],
+    statements: &mut [u16],
+    locals: &mut [u16],
+    scopes: &mut [u16],
+    entries: &mut [u16],
+) -> Counts
+    requires { ⌜ (valid (now image) ≡ true) × Whole (now image) tables × TablesSized (body (now blocks) (now statements) (now locals) (now scopes) (now entries)) ⌝ }
+    ensures { λ r. ⌜ (r ≡ countsOf (startState (now (image .entry)) t)) × (body (now (blocks .exit)) (now (statements .exit)) (now (locals .exit)) (now (scopes .exit)) (now (entries .exit)) ≡ encode (startState (now (image .entry)) t)) ⌝ }
+{
+    clear_from(blocks, 0);
+    clear_from(statements, 0);
+    clear_from(locals, 0);
+    clear_from(scopes, 0);
+    clear_from(entries, 0);
+    locals[0] = t;
+    type_bindings(image, tables, locals);
+    Counts {
+        blocks: 1,
+        statements: 0,
+        locals: 1 + tables.bindings.count,
+        scopes: 1,
+        entries: 0,
+    }
+}
+
+// The numbers of the bindings' locals: 1, 2, and so on.
+pub fn number_bindings(numbers: &mut [u16])
+    requires { ⌜ length (now numbers) ≡ 256 ⌝ }
+    ensures { λ _. ⌜ now (numbers .exit) ≡ upFrom 1 256 ⌝ }
+{
+    let mut i = 0;
+    while i < numbers.len() {
+        numbers[i] = (i as u16) + 1;
+        i += 1;
+    }
+}

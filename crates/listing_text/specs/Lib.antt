@@ -1,0 +1,5 @@
+pub mod Words
+pub mod Numbers
+pub mod Listing
+pub mod RowParts
+pub mod Writing

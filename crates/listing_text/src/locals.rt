@@ -1,0 +1,52 @@
+// Locals.
+use super::numbers::put_numbered;
+use super::pen::Pen;
+use super::pen::put;
+use mir::locals::BOOL;
+use mir::locals::I128;
+use mir::locals::USIZE;
+ghost use mathlib.Core.Path.{_≡_};
+ghost use Prim.Native.Nat.{_≤_};
+ghost use lib.ListN.{length, take};
+ghost use Rattle.listing_text.specs.Listing.{localTyText, localText, localsText};
+ghost use Rattle.listing_text.specs.Writing.{Wrote};
+
+// The type of a local, by its word.
+fn put_local_ty(out: &mut [u8], pen: Pen, word: u16) -> Pen
+    ensures { λ r. ⌜ Wrote (now (out .entry)) pen (localTyText word) r (now (out .exit)) ⌝ }
+{
+    if word == BOOL {
+        return put(out, pen, b"bool");
+    }
+    if word == USIZE {
+        return put(out, pen, b"usize");
+    }
+    if word == I128 {
+        return put(out, pen, b"i128");
+    }
+    put_numbered(out, pen, b"t", word)
+}
+
+// The local i, whose type has this word.
+fn put_local(out: &mut [u8], pen: Pen, i: u16, word: u16) -> Pen
+    ensures { λ r. ⌜ Wrote (now (out .entry)) pen (localText i word) r (now (out .exit)) ⌝ }
+{
+    let number = put_numbered(out, pen, b"local ", i);
+    let begun = put(out, number, b" ");
+    let ended = put_local_ty(out, begun, word);
+    put(out, ended, b"\n")
+}
+
+// The first locals of a table: so many.
+pub fn put_locals(out: &mut [u8], pen: Pen, locals: &[u16], count: u16) -> Pen
+    requires { ⌜ (length (now locals) ≡ 512) × (count ≤ 512) ⌝ }
+    ensures { λ r. ⌜ Wrote (now (out .entry)) pen (localsText 0 (take count (now (locals .entry)))) r (now (out .exit)) ⌝ }
+{
+    let mut written = put(out, pen, b"");
+    let mut i = 0u16;
+    while i < count {
+        written = put_local(out, written, i, locals[i as usize]);
+        i += 1;
+    }
+    written
+}
