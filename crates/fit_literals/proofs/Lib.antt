@@ -1,0 +1,4 @@
+pub mod Sizes
+pub mod Ranging
+pub mod Shapes
+pub mod Clauses

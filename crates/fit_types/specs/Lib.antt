@@ -1,0 +1,4 @@
+pub mod Numbers
+pub mod Discriminants
+pub mod Slices
+pub mod Parts
