@@ -1,0 +1,31 @@
+#!/usr/bin/env python3
+"""Writes scripts of calls by chance, and the lines that samples/calls.py answers them with.
+
+`chance_calls.py SEED COUNT GIVEN PRINTED`: a seed, how many scripts, and the two files, in
+the form of `crates/replay_calls/stdin` and `stdout`.
+"""
+
+import random
+import sys
+from pathlib import Path
+
+sys.dont_write_bytecode = True
+sys.path.insert(0, str(Path(__file__).resolve().parent.parent / "samples"))
+
+from call_chance import chance_script
+from call_list import lines_of, stored
+
+
+def main():
+    """Makes the scripts and writes both files."""
+    seed, count, given, printed = sys.argv[1:]
+    rng = random.Random(int(seed))
+    with open(given, "wb") as scripts, open(printed, "w", encoding="utf-8") as lines:
+        for _ in range(int(count)):
+            image, script = chance_script(rng)
+            scripts.write(stored(image, script))
+            lines.writelines(f"{line}\n" for line in lines_of(image, script)[0])
+
+
+if __name__ == "__main__":
+    main()

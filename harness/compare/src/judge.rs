@@ -1,0 +1,85 @@
+//! What an image must be answered with, by the reader for numbers 1 and 2 and by the published
+//! text for everything else; and whether an answer is that.
+
+use image::Tables;
+use published::{Answer, How, Outcome};
+
+/// What is expected of the other side, and by what it is counted.
+pub struct Expected {
+    pub sort: String,
+    rule: Rule,
+}
+
+enum Rule {
+    /// This text, byte for byte.
+    Text(String),
+    /// Number 11 at this pattern or one above it.
+    Limit(Vec<u16>),
+    /// Nothing the other side could say: the published text stopped where document 01 has no number.
+    Unknown(String),
+}
+
+/// What an image must be answered with, its last pattern lowered this way.
+pub fn expected(image: &[u8], how: How) -> Expected {
+    let Some(tables) = image::read(image) else {
+        return text("refused 1 (document 01 alone)".into(), "refused 1 65535 0\n".into());
+    };
+    let root = tables.patterns.len() - 1;
+    let Some(place_type) = tables.root_type(root) else {
+        return text("refused 2 (document 01 alone)".into(), "refused 2 65535 0\n".into());
+    };
+    of_outcome(&tables, published::lower(&tables, place_type, how))
+}
+
+fn text(sort: String, text: String) -> Expected {
+    Expected { sort, rule: Rule::Text(text) }
+}
+
+fn of_outcome(tables: &Tables, outcome: Outcome) -> Expected {
+    if let Some(entered) = outcome.trace.passed {
+        let sort = "refused 11 (the Rust goes on)".to_owned();
+        return Expected { sort, rule: Rule::Limit(with_those_above(tables, entered)) };
+    }
+    let line = |[number, pattern, reason]: [u16; 3]| format!("refused {number} {pattern} {reason}\n");
+    match outcome.answer {
+        Answer::Listing(listing) => text("accepted".into(), listing),
+        Answer::Refused(refusal @ [4, _, reason]) => text(format!("refused 4 for {reason}"), line(refusal)),
+        Answer::Refused(refusal) => text(format!("refused {}", refusal[0]), line(refusal)),
+        Answer::Stopped([0, ..], said) => Expected { sort: "unexplained".into(), rule: Rule::Unknown(said) },
+        Answer::Stopped(refusal, _) => {
+            text(format!("refused {} (the Rust panics or goes on)", refusal[0]), line(refusal))
+        }
+    }
+}
+
+/// A pattern and all those above it.
+fn with_those_above(tables: &Tables, pattern: usize) -> Vec<u16> {
+    let mut found = vec![pattern as u16];
+    for (number, row) in tables.patterns.iter().enumerate().skip(pattern + 1) {
+        if tables.subpatterns(row).contains(found.last().expect("not empty")) {
+            found.push(number as u16);
+        }
+    }
+    found
+}
+
+impl Expected {
+    pub fn agrees(&self, answer: &str) -> bool {
+        match &self.rule {
+            Rule::Text(text) => text == answer,
+            Rule::Limit(patterns) => {
+                patterns.iter().any(|pattern| answer == format!("refused 11 {pattern} 0\n"))
+            }
+            Rule::Unknown(_) => false,
+        }
+    }
+
+    /// What is expected, to be printed.
+    pub fn told(&self) -> String {
+        match &self.rule {
+            Rule::Text(text) => text.clone(),
+            Rule::Limit(patterns) => format!("refused 11 at one of {patterns:?}\n"),
+            Rule::Unknown(said) => format!("stopped: {said}\n"),
+        }
+    }
+}

@@ -1,0 +1,213 @@
+//! Makes cases, has them compiled and run, and compares.
+
+use std::collections::BTreeMap;
+use std::path::PathBuf;
+use std::process::Command;
+use std::{env, fs};
+
+use image::Tables;
+use published::{Answer, How};
+
+use crate::generate::fitting::Maker;
+use crate::generate::types::types;
+use crate::meaning::form::Form;
+use crate::meaning::interpret::{self, End};
+use crate::meaning::source::{Reading, Source, debug};
+use crate::meaning::value::{Value, Values};
+use crate::other::Other;
+use crate::rng::Rng;
+use crate::tree::{Kind, Node};
+
+pub struct Settings {
+    pub files: usize,
+    pub patterns: usize,
+    pub seed: u64,
+}
+
+/// Values for each pattern.
+const VALUES: usize = 4;
+/// Most patterns with fewer nodes are left out.
+const LEAST_NODES: usize = 4;
+
+/// A pattern with its values, and where their runs ended.
+struct Case {
+    m: Tables,
+    root: Node,
+    place_type: u16,
+    values: Vec<Value>,
+    ends: Vec<String>,
+    /// The pattern has a shape that the Rust lowers as another.
+    listed: bool,
+}
+
+/// Compares so many files of patterns; answers how many values were led elsewhere than rustc's.
+pub fn compare(settings: &Settings, other: &Other) -> usize {
+    let mut rng = Rng::new(settings.seed);
+    let mut tally = BTreeMap::new();
+    for number in 0..settings.files {
+        let tries = std::iter::repeat_with(|| case(&mut rng));
+        let cases: Vec<Case> = tries.flatten().take(settings.patterns).collect();
+        same_listings(&cases, other);
+        let reference = run_by_rustc(&cases, number, Reading::Reference);
+        let lowered = run_by_rustc(&cases, number, Reading::Lowered);
+        for (case, (reference, lowered)) in cases.iter().zip(reference.iter().zip(&lowered)) {
+            for place in 0..case.values.len() {
+                let sort = sort(case, place, &reference[place], &lowered[place]);
+                if sort == "differ" {
+                    report(case, place, &reference[place]);
+                }
+                *tally.entry(sort).or_default() += 1;
+            }
+        }
+    }
+    for (sort, count) in &tally {
+        println!("  {sort}: {count}");
+    }
+    let differing = tally.get("differ").copied().unwrap_or(0);
+    println!("{} values run, {differing} differ", tally.values().sum::<usize>());
+    differing
+}
+
+/// How a value's run compares with rustc's answers for the two readings of its pattern.
+fn sort(case: &Case, place: usize, reference: &str, lowered: &str) -> &'static str {
+    let end = case.ends[place].as_str();
+    let matched = end.starts_with("then");
+    match (case.listed, end == reference, end == lowered) {
+        (false, true, true) if matched => "led to then, with the same bindings",
+        (false, true, true) => "led to else",
+        (true, true, true) => "of a listed shape, as both readings say",
+        (true, false, true) => "of a listed shape, as the Rust reads it and not as the Reference does",
+        _ => "differ",
+    }
+}
+
+fn report(case: &Case, place: usize, reference: &str) {
+    let mut source = source(case, Reading::Reference);
+    let text = source.pattern(&case.root, false);
+    println!("differ: {text}");
+    println!("  on {}", source.typed_value(&case.values[place], case.place_type));
+    println!("  {} {}", source.declarations().replace('\n', " "), source.constants.replace('\n', " "));
+    println!("  the run of the listing: {}\n  rustc: {reference}", case.ends[place]);
+}
+
+fn source(case: &Case, reading: Reading) -> Source<'_> {
+    Source { m: &case.m, constants: String::new(), reading }
+}
+
+/// A random case whose pattern is accepted and whose type has values.
+fn case(rng: &mut Rng) -> Option<Case> {
+    let total = rng.between(2, 10);
+    let mut m = types(rng, total);
+    let place_type = rng.row(m.types.len());
+    let depth = rng.between(1, 4);
+    let made = Maker { m: &mut m, rng: &mut *rng, slips: 0 }.pattern(place_type, depth);
+    let root = Form { m: &mut m }.node(&made, place_type, false);
+    if root.nodes() < LEAST_NODES && rng.percent(95) {
+        return None;
+    }
+    root.put(&mut m);
+    let mut values = Vec::new();
+    for number in 0..VALUES {
+        let matching = [100, 95, 85, 60][number % 4];
+        values.push(Values { m: &m, rng: &mut *rng, matching }.for_pattern(&root, place_type)?);
+    }
+    let outcome = published::lower(&m, place_type.into(), How { contents: true, ..How::default() });
+    let Answer::Listing(listing) = outcome.answer else { return None };
+    let listed = has_listed_shape(&root);
+    let mut case = Case { m, root, place_type, values, ends: Vec::new(), listed };
+    case.ends = case.values.iter().map(|value| told_end(&case, &listing, value)).collect();
+    Some(case)
+}
+
+fn has_listed_shape(node: &Node) -> bool {
+    let own = match &node.kind {
+        Kind::Range { end, half_open, .. } => *half_open && end.is_some(),
+        Kind::Slice { suffix, .. } => suffix.len() > 1,
+        _ => false,
+    };
+    own || node.children().into_iter().any(has_listed_shape)
+}
+
+/// The listing's run on a value, told as the compiled program tells it.
+fn told_end(case: &Case, listing: &str, value: &Value) -> String {
+    let source = source(case, Reading::Reference);
+    match interpret::run(&case.m, listing, value.clone()) {
+        Ok(End::Else) => "else".to_owned(),
+        Ok(End::Then(locals)) => {
+            let mut text = "then".to_owned();
+            for (binding, row) in case.m.bindings.iter().enumerate() {
+                let bound = locals.get(&(binding + 1));
+                text +=
+                    &bound.map_or(" unbound".into(), |value| format!(" {}", debug(&source, value, row[0])));
+            }
+            text
+        }
+        Err(why) => format!("no end: {why}"),
+    }
+}
+
+/// The other side prints the same listings, so what is run is its listing too.
+fn same_listings(cases: &[Case], other: &Other) {
+    let by_program =
+        |case: &&Case| case.m.root_type(case.m.patterns.len() - 1) == Some(case.place_type.into());
+    let compared: Vec<&Case> = cases.iter().filter(by_program).collect();
+    let images: Vec<Vec<u8>> = compared.iter().map(|case| case.m.encode()).collect();
+    for (case, answer) in compared.iter().zip(other.answers(&images)) {
+        let listing = published::lower(&case.m, case.place_type.into(), How::default()).answer;
+        assert_eq!(listing, Answer::Listing(answer), "the listings differ: {:?}", case.m);
+    }
+}
+
+/// What the compiled patterns say of each case's values.
+fn run_by_rustc(cases: &[Case], file: usize, reading: Reading) -> Vec<Vec<String>> {
+    let text: String = cases.iter().enumerate().map(|(n, case)| module(n, case, reading)).collect();
+    let calls: String = (0..cases.len()).map(|number| format!("    m{number}::all();\n")).collect();
+    let folder = env::temp_dir().join(format!("harness-meaning-{}", std::process::id()));
+    fs::create_dir_all(&folder).expect("a folder for sources");
+    let path = folder.join(format!("patterns{file}.rs"));
+    let program = folder.join(format!("patterns{file}"));
+    fs::write(&path, format!("#![allow(warnings)]\n{text}\nfn main() {{\n{calls}}}\n")).expect("written");
+    compile(&path, &program);
+    let output = Command::new(&program).output().expect("the compiled patterns run");
+    let printed = String::from_utf8(output.stdout).expect("UTF-8");
+    fs::remove_dir_all(&folder).expect("the folder can be removed");
+    let mut lines = printed.lines().map(str::to_owned);
+    cases.iter().map(|case| lines.by_ref().take(case.values.len()).collect()).collect()
+}
+
+fn compile(path: &PathBuf, program: &PathBuf) {
+    let output = Command::new("rustc")
+        .args(["--edition", "2021", "-C", "debuginfo=0", "-C", "codegen-units=1", "-o"])
+        .arg(program)
+        .arg(path)
+        .output()
+        .expect("rustc runs");
+    if !output.status.success() {
+        let kept = env::temp_dir().join("harness-meaning-refused.rs");
+        fs::copy(path, &kept).expect("the refused source is kept");
+        let errors = String::from_utf8_lossy(&output.stderr).into_owned();
+        let first: Vec<&str> = errors.lines().take(40).collect();
+        panic!("rustc refuses {}:\n{}", kept.display(), first.join("\n"));
+    }
+}
+
+/// A module with a case's types, constants, pattern and values.
+fn module(number: usize, case: &Case, reading: Reading) -> String {
+    let mut source = source(case, reading);
+    let declarations = source.declarations();
+    let type_ = source.type_name(case.place_type);
+    let pattern = source.pattern(&case.root, false);
+    let bindings = 0..case.m.bindings.len();
+    let shown: String = bindings.clone().map(|binding| format!(" {{b{binding}:?}}")).collect();
+    let values = case.values.iter().map(|value| match value {
+        Value::Str(_) => format!("    one({});\n", source.value(value)),
+        _ => format!("    one(&{});\n", source.typed_value(value, case.place_type)),
+    });
+    let values: String = values.collect();
+    format!(
+        "mod m{number} {{\n{declarations}{}fn one(value: &'static {type_}) {{\n    match *value {{\n\
+         \x20       {pattern} => println!(\"then{shown}\"),\n        _ => println!(\"else\"),\n    }}\n}}\n\
+         pub fn all() {{\n{values}}}\n}}\n",
+        source.constants
+    )
+}

@@ -1,0 +1,77 @@
+//! The other side: a program that reads a list of images on standard input, each as four
+//! big-endian bytes n, four big-endian bytes z and n bytes (z zeros follow in the image), and
+//! prints one listing or refusal after the other.
+
+use std::io::{self, Write};
+use std::process::{Command, Stdio};
+use std::thread;
+
+use published::How;
+
+#[derive(Default)]
+pub struct Other {
+    program: String,
+    arguments: Vec<String>,
+    /// How it lowers the last pattern.
+    pub how: How,
+}
+
+impl Other {
+    /// A command line; its parts are separated by spaces.
+    pub fn set_command(&mut self, command: &str) {
+        let mut parts = command.split_whitespace().map(str::to_owned);
+        self.program = parts.next().unwrap_or_default();
+        self.arguments = parts.collect();
+    }
+
+    /// The answers to a chunk of images, in order.
+    pub fn answers(&self, images: &[Vec<u8>]) -> Vec<String> {
+        let printed = self.run(list_of(images)).unwrap_or_else(|error| {
+            panic!("{} could not be run: {error}", self.program);
+        });
+        let answers = apart(&printed);
+        if answers.len() != images.len() {
+            panic!("{} answers to {} images", answers.len(), images.len());
+        }
+        answers
+    }
+
+    fn run(&self, list: Vec<u8>) -> io::Result<String> {
+        let mut child = Command::new(&self.program)
+            .args(&self.arguments)
+            .stdin(Stdio::piped())
+            .stdout(Stdio::piped())
+            .spawn()?;
+        let mut stdin = child.stdin.take().expect("piped");
+        let feeding = thread::spawn(move || stdin.write_all(&list));
+        let output = child.wait_with_output()?;
+        feeding.join().expect("no panic")?;
+        Ok(String::from_utf8_lossy(&output.stdout).into_owned())
+    }
+}
+
+fn list_of(images: &[Vec<u8>]) -> Vec<u8> {
+    let mut list = Vec::new();
+    for image in images {
+        let kept = image.iter().rposition(|&byte| byte != 0).map_or(0, |last| last + 1);
+        list.extend((kept as u32).to_be_bytes());
+        list.extend(((image.len() - kept) as u32).to_be_bytes());
+        list.extend(&image[..kept]);
+    }
+    list
+}
+
+/// The answers in a text; each begins with a line `then ..` or `refused ..`.
+fn apart(printed: &str) -> Vec<String> {
+    let mut answers: Vec<String> = Vec::new();
+    for line in printed.split_inclusive('\n') {
+        if line.starts_with("then ") || line.starts_with("refused ") {
+            answers.push(String::new());
+        }
+        match answers.last_mut() {
+            Some(answer) => answer.push_str(line),
+            None => panic!("an answer begins with {line:?}"),
+        }
+    }
+    answers
+}

@@ -1,0 +1,105 @@
+//! What a lowering did besides the body it made: visits, the pattern that was entered last, the
+//! Bind whose local was asked for last, and the first limit of document 01 that was passed. The
+//! Rust has no limits, and goes on.
+
+use std::any::Any;
+use std::cell::RefCell;
+
+use crate::mir::{BasicBlock, Local};
+
+pub const MOST_BLOCKS: usize = 512;
+pub const MOST_STATEMENTS: usize = 1024;
+pub const MOST_LOCALS: usize = 512;
+pub const MOST_ELEMENTS: usize = 16;
+
+#[derive(Debug, Clone, Default, PartialEq, Eq)]
+pub struct Trace {
+    /// How often each pattern was visited.
+    pub visits: Vec<u32>,
+    pub entered: Option<usize>,
+    pub binds: Option<usize>,
+    /// The pattern that was entered last when the first limit was passed.
+    pub passed: Option<usize>,
+    pub statements: usize,
+    touched: Touched,
+}
+
+/// The block that was about to change last, and how many statements it had.
+#[derive(Debug, Clone, Copy, Default, PartialEq, Eq)]
+struct Touched {
+    block: usize,
+    had: usize,
+    entered: Option<usize>,
+}
+
+thread_local! {
+    static TRACE: RefCell<Trace> = RefCell::default();
+}
+
+/// Starts anew, for so many patterns.
+pub fn start(patterns: usize) {
+    la_arena::probe::listen(changes);
+    TRACE.set(Trace { visits: vec![0; patterns], ..Trace::default() });
+}
+
+/// What was heard since the start.
+pub fn so_far() -> Trace {
+    TRACE.with_borrow(Clone::clone)
+}
+
+pub fn entered(pattern: usize) {
+    TRACE.with_borrow_mut(|trace| {
+        trace.visits[pattern] += 1;
+        trace.entered = Some(pattern);
+    });
+}
+
+pub fn binds(pattern: usize) {
+    TRACE.with_borrow_mut(|trace| trace.binds = Some(pattern));
+}
+
+/// A place with so many elements was made.
+pub fn projected(elements: usize) {
+    TRACE.with_borrow_mut(|trace| trace.limit(elements > MOST_ELEMENTS, trace.entered));
+}
+
+/// The last push is counted when the next block is about to change, or at the end.
+pub fn finish(blocks: &[BasicBlock]) {
+    TRACE.with_borrow_mut(|trace| trace.count_pushed(blocks));
+}
+
+fn changes(entries: &dyn Any, number: usize) {
+    TRACE.with_borrow_mut(|trace| {
+        if let Some(locals) = entries.downcast_ref::<Vec<Local>>() {
+            trace.limit(locals.len() > MOST_LOCALS, trace.entered);
+        } else if let Some(blocks) = entries.downcast_ref::<Vec<BasicBlock>>() {
+            trace.count_pushed(blocks);
+            trace.limit(blocks.len() > MOST_BLOCKS, trace.entered);
+            let had = blocks[number].statements.len();
+            trace.touched = Touched { block: number, had, entered: trace.entered };
+        }
+    });
+}
+
+impl Trace {
+    /// How often each pattern was visited, as a line.
+    pub fn visits_line(&self) -> String {
+        let counts: String = self.visits.iter().map(|count| format!(" {count}")).collect();
+        format!("visits{counts}\n")
+    }
+
+    fn limit(&mut self, passed: bool, entered: Option<usize>) {
+        if passed && self.passed.is_none() {
+            self.passed = entered;
+        }
+    }
+
+    /// Counts what the touched block got since.
+    fn count_pushed(&mut self, blocks: &[BasicBlock]) {
+        let Touched { block, had, entered } = self.touched;
+        let Some(block) = blocks.get(block) else { return };
+        self.statements += block.statements.len() - had;
+        self.touched.had = block.statements.len();
+        self.limit(self.statements > MOST_STATEMENTS, entered);
+    }
+}

@@ -1,0 +1,3 @@
+//! Stand-in for rustc_hash.
+
+pub type FxHashMap<K, V> = std::collections::HashMap<K, V>;
