@@ -34,7 +34,7 @@ fn little_endian4(bytes: &[u8]) -> u32
         + 256 * ((bytes[1] as u32) + 256 * ((bytes[2] as u32) + 256 * (bytes[3] as u32)))
 }
 
-fn is_char(bytes: &[u8]) -> bool
+pub fn is_char(bytes: &[u8]) -> bool
     ensures { λ r. ⌜ r ≡ operandValueHolds OperandKind.Char (now (bytes .entry)) ⌝ }
 {
     if bytes.len() != 4 {
@@ -43,7 +43,7 @@ fn is_char(bytes: &[u8]) -> bool
     is_scalar_value(little_endian4(bytes))
 }
 
-fn is_bool(bytes: &[u8]) -> bool
+pub fn is_bool(bytes: &[u8]) -> bool
     ensures { λ r. ⌜ r ≡ operandValueHolds OperandKind.Bool (now (bytes .entry)) ⌝ }
 {
     if bytes.len() != 1 {
