@@ -1,5 +1,6 @@
 // Variants, and the fields of variants and tuples.
 use super::pattern_match_inner;
+use super::pattern_matching_variant_fields;
 use image::PatId;
 use image::Tables;
 use image::rows::variant_at;
@@ -11,7 +12,6 @@ use pattern_leaves::modes::enum_test;
 use pattern_matching::MatchingMode;
 use pattern_parts::adts::AdtAt;
 use pattern_parts::adts::adt_at;
-use pattern_parts::adts::fields_there;
 use pattern_parts::adts::place_ty;
 use pattern_rows::AdtPatternShape;
 use pattern_rows::ArgumentRow;
@@ -24,18 +24,14 @@ use place::elems::ProjectionElem;
 use place::project;
 use refusals::MirLowerError;
 use walks::Lowered;
-ghost use mathlib.Core.Path.{_≡_};
 ghost use Prim.Native.Nat.{_<_};
 ghost use Rattle.image.specs.Tables.{patternCount, variantCount};
-ghost use Rattle.image.specs.Tree.{tree, trees, word?};
-ghost use Rattle.pattern_matching.specs.Variants.{patternMatchAdt, patternMatchTupleLike, ellipsisAt, variantFields, variantOn, patternMatchingVariant};
+ghost use Rattle.image.specs.Tree.{tree, word?, trees};
+ghost use Rattle.pattern_matching.specs.Variants.{patternMatchAdt, patternMatchTupleLike, ellipsisAt, patternMatchingVariant};
 ghost use Rattle.pattern_matching.specs.Patterns.{lowerings};
 ghost use Rattle.walks.specs.Answers.{lent, Walks};
-ghost use Rattle.pattern_nodes.specs.Arguments.{lowered, ArgumentsThere, argumentElems, argumentPats, shapeOf, ShapeThere};
+ghost use Rattle.pattern_nodes.specs.Arguments.{shapeOf, lowered, ArgumentsThere, argumentElems, argumentPats, ShapeThere};
 ghost use Rattle.walking.specs.Walk.{Walkable};
-ghost use lib.ListN.{length};
-ghost use Rattle.image.specs.declared.kinds.AdtKind.{AdtKind};
-ghost use Rattle.image.specs.Types.{variantOf};
 ghost use Rattle.pattern_rows.specs.declared.ArgumentRow.{ArgumentRow};
 
 // Arguments in a row, so many, each on the place one element on.
@@ -184,82 +180,6 @@ pub fn pattern_match_tuple_like(
     }
 }
 
-// The fields of a variant that has so many.
-pub fn pattern_matching_variant_fields(
-    image: &[u8],
-    tables: Tables,
-    bindings: &[u16],
-    blocks: &mut [u16],
-    statements: &mut [u16],
-    locals: &mut [u16],
-    entries: &mut [u16],
-    visits: &mut [u16],
-    counts: Counts,
-    discr: DiscrTemp,
-    mode: MatchingMode,
-    p: PatId,
-    shape: AdtPatternShape,
-    fields: u16,
-    current: BasicBlockId,
-    els: OptBlock,
-    place: Place,
-) -> Lowered
-    requires { ⌜ Walkable (now image) tables (now bindings) (lent (now blocks) (now statements) (now locals) (now entries)) (now visits) counts current els place ⌝ }
-    requires { ⌜ (p .0 < patternCount (now image)) × ShapeThere (now image) (p .0) shape ⌝ }
-    ensures { λ r. ⌜ Walks (λ ctx. variantFields (shapeOf (now (image .entry)) (now (bindings .entry)) shape) (p .0) fields mode ctx current els place) counts discr current els (lent (now (blocks .entry)) (now (statements .entry)) (now (locals .entry)) (now (entries .entry))) (now (visits .entry)) r (lent (now (blocks .exit)) (now (statements .exit)) (now (locals .exit)) (now (entries .exit))) (now (visits .exit)) ⌝ }
-{
-    match shape {
-        AdtPatternShape::Unit => Lowered::Done(counts, discr, current, els),
-        AdtPatternShape::Tuple(from, count, ellipsis) => pattern_match_tuple_like(
-            image,
-            tables,
-            bindings,
-            blocks,
-            statements,
-            locals,
-            entries,
-            visits,
-            counts,
-            discr,
-            mode,
-            p,
-            from,
-            count,
-            ellipsis,
-            fields,
-            current,
-            els,
-            place,
-        ),
-        AdtPatternShape::Record(from, count) => {
-            if !fields_there(image, tables, from, count, fields) {
-                return Lowered::Refused(MirLowerError::UnresolvedField, p);
-            }
-            pattern_match_adt(
-                image,
-                tables,
-                bindings,
-                blocks,
-                statements,
-                locals,
-                entries,
-                visits,
-                counts,
-                discr,
-                mode,
-                p,
-                ArgumentRow::RecordFields,
-                from,
-                fields,
-                count,
-                current,
-                els,
-                place,
-            )
-        }
-    }
-}
-
 // The variant v of the struct or enum at the place: an enum is tested in Check, and its fields lie behind the choice of the variant.
 pub fn pattern_matching_variant(
     image: &[u8],
@@ -306,95 +226,48 @@ pub fn pattern_matching_variant(
             els,
             place,
         ),
-        AdtAt::Enum => on_enum(
+        AdtAt::Enum => match enum_test(
             image,
             tables,
-            bindings,
             blocks,
             statements,
             locals,
             entries,
-            visits,
             counts,
             discr,
             mode,
             p,
             v,
-            shape,
-            fields,
             current,
             els,
             place,
-        ),
-    }
-}
-
-// The variant v of an enum, which has so many fields.
-pub fn on_enum(
-    image: &[u8],
-    tables: Tables,
-    bindings: &[u16],
-    blocks: &mut [u16],
-    statements: &mut [u16],
-    locals: &mut [u16],
-    entries: &mut [u16],
-    visits: &mut [u16],
-    counts: Counts,
-    discr: DiscrTemp,
-    mode: MatchingMode,
-    p: PatId,
-    v: u16,
-    shape: AdtPatternShape,
-    fields: u16,
-    current: BasicBlockId,
-    els: OptBlock,
-    place: Place,
-) -> Lowered
-    requires { ⌜ Walkable (now image) tables (now bindings) (lent (now blocks) (now statements) (now locals) (now entries)) (now visits) counts current els place ⌝ }
-    requires { ⌜ (p .0 < patternCount (now image)) × (v < variantCount (now image)) × (fields ≡ length (variantOf (now image) v .fields)) × ShapeThere (now image) (p .0) shape ⌝ }
-    ensures { λ r. ⌜ Walks (λ ctx. variantOn AdtKind.Enum (now (image .entry)) (p .0) v (shapeOf (now (image .entry)) (now (bindings .entry)) shape) mode ctx current els place) counts discr current els (lent (now (blocks .entry)) (now (statements .entry)) (now (locals .entry)) (now (entries .entry))) (now (visits .entry)) r (lent (now (blocks .exit)) (now (statements .exit)) (now (locals .exit)) (now (entries .exit))) (now (visits .exit)) ⌝ }
-{
-    match enum_test(
-        image,
-        tables,
-        blocks,
-        statements,
-        locals,
-        entries,
-        counts,
-        discr,
-        mode,
-        p,
-        v,
-        current,
-        els,
-        place,
-    ) {
-        Lowered::Refused(e, at) => Lowered::Refused(e, at),
-        Lowered::Done(c1, d1, then, other) => {
-            let chosen = project(place, ProjectionElem::Downcast(v));
-            if !chosen.ok {
-                return Lowered::Refused(MirLowerError::Limit, p);
+        ) {
+            Lowered::Refused(e, at) => Lowered::Refused(e, at),
+            Lowered::Done(c1, d1, then, other) => {
+                let chosen = project(place, ProjectionElem::Downcast(v));
+                if !chosen.ok {
+                    return Lowered::Refused(MirLowerError::Limit, p);
+                }
+                pattern_matching_variant_fields(
+                    image,
+                    tables,
+                    bindings,
+                    blocks,
+                    statements,
+                    locals,
+                    entries,
+                    visits,
+                    c1,
+                    d1,
+                    mode,
+                    p,
+                    shape,
+                    fields,
+                    then,
+                    other,
+                    chosen.place,
+                )
             }
-            pattern_matching_variant_fields(
-                image,
-                tables,
-                bindings,
-                blocks,
-                statements,
-                locals,
-                entries,
-                visits,
-                c1,
-                d1,
-                mode,
-                p,
-                shape,
-                fields,
-                then,
-                other,
-                chosen.place,
-            )
-        }
+        },
     }
 }

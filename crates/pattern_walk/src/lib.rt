@@ -1,10 +1,9 @@
 // The walk over patterns: the lowering of a pattern, of a variant, of fields and of arguments call each other. With each call a pair falls: the pattern's number, and
 // behind it the rank of the function. The tables are lent, the counts go in and come out by value, and the first refusal stops the walk.
-pub mod adt; // adt.rt: variants, fields and arguments
-pub mod ors; // ors.rt: Or patterns
-pub mod seq; // seq.rt: Slice patterns
-pub mod sub; // sub.rt: patterns with one subpattern
+pub mod adt; // adt.rt: variants and arguments
+pub mod sub; // sub.rt: Bind, Or and Slice patterns
 
+use adt::pattern_match_adt;
 use adt::pattern_match_tuple_like;
 use adt::pattern_matching_variant;
 use image::PatId;
@@ -17,24 +16,30 @@ use lower::merging::OptBlock;
 use lower::temps::DiscrTemp;
 use mir::BasicBlockId;
 use mir::Counts;
-use ors::on_or;
 use pattern_leaves::kinds::is_leaf;
 use pattern_leaves::kinds::pattern_match_leaf;
 use pattern_matching::MatchingMode;
+use pattern_parts::adts::ReferenceAt;
 use pattern_parts::adts::TupleAt;
+use pattern_parts::adts::fields_there;
 use pattern_parts::adts::place_ty;
+use pattern_parts::adts::reference_at;
 use pattern_parts::adts::tuple_at;
 use pattern_parts::entering::deref_place;
 use pattern_parts::entering::visit;
+use pattern_rows::AdtPatternShape;
+use pattern_rows::ArgumentRow;
 use pattern_rows::CompoundKind;
 use pattern_rows::compound_kind;
 use pattern_rows::variant_shape;
 use pattern_rows::variant_word;
 use place::Place;
+use place::elems::ProjectionElem;
+use place::project;
 use refusals::MirLowerError;
-use seq::on_slice;
-use sub::on_bind;
-use sub::on_ref;
+use sub::alts;
+use sub::bound;
+use sub::slice;
 use walks::Lowered;
 ghost use mathlib.Core.Path.{_≡_};
 ghost use Prim.Native.Nat.{_<_};
@@ -42,15 +47,14 @@ ghost use mathlib.Core.Bool.{false};
 ghost use Rattle.image.specs.Tables.{patternCount};
 ghost use Rattle.image.specs.Kinds.{patKind, pathKind};
 ghost use Rattle.image.specs.Rows.{patAt};
-ghost use Rattle.image.specs.Tree.{tree, word?};
-ghost use Rattle.pattern_matching.specs.Variants.{variantPattern};
+ghost use Rattle.image.specs.Tree.{tree};
+ghost use Rattle.pattern_matching.specs.Variants.{variantFields};
 ghost use Rattle.pattern_matching.specs.Patterns.{patternMatchInner};
 ghost use Rattle.pattern_nodes.specs.Leaves.{isLeaf};
 ghost use Rattle.walks.specs.Answers.{lent, Walks};
-ghost use Rattle.pattern_nodes.specs.Arguments.{shapeOf, NamesVariant};
+ghost use Rattle.pattern_nodes.specs.Arguments.{shapeOf, ShapeThere};
 ghost use Rattle.pattern_nodes.specs.Nodes.{kindPattern};
 ghost use Rattle.walking.specs.Walk.{Walkable};
-ghost use Rattle.pattern_rows.specs.Rows.{variantWord, variantShape};
 
 // The pattern p: it is visited once more, and its derefs are appended to the place before its kind is looked at.
 pub fn pattern_match_inner(
@@ -99,7 +103,7 @@ pub fn pattern_match_inner(
             behind.place,
         );
     }
-    by_kind(
+    kind(
         image,
         tables,
         bindings,
@@ -120,7 +124,7 @@ pub fn pattern_match_inner(
 }
 
 // A pattern that has subpatterns or names a variant, at a place behind its derefs: p, whose row is given.
-pub fn by_kind(
+pub fn kind(
     image: &[u8],
     tables: Tables,
     bindings: &[u16],
@@ -171,7 +175,7 @@ pub fn by_kind(
                 place,
             ),
         },
-        CompoundKind::Or => on_or(
+        CompoundKind::Or => alts(
             image,
             tables,
             bindings,
@@ -190,7 +194,7 @@ pub fn by_kind(
             els,
             place,
         ),
-        CompoundKind::Slice => on_slice(
+        CompoundKind::Slice => slice(
             image,
             tables,
             bindings,
@@ -208,7 +212,7 @@ pub fn by_kind(
             els,
             place,
         ),
-        CompoundKind::Bind => on_bind(
+        CompoundKind::Bind => bound(
             image,
             tables,
             bindings,
@@ -226,47 +230,66 @@ pub fn by_kind(
             els,
             place,
         ),
-        CompoundKind::Ref => on_ref(
+        CompoundKind::Ref => match reference_at(
             image,
             tables,
-            bindings,
-            blocks,
-            statements,
-            locals,
-            entries,
-            visits,
-            counts,
-            discr,
-            mode,
-            p,
-            PatId(row.a),
-            current,
-            els,
-            place,
-        ),
-        CompoundKind::Variant => on_variant(
-            image,
-            tables,
-            bindings,
-            blocks,
-            statements,
-            locals,
-            entries,
-            visits,
-            counts,
-            discr,
-            mode,
-            p,
-            row,
-            current,
-            els,
-            place,
-        ),
+            place_ty(image, tables, locals, place),
+        ) {
+            ReferenceAt::Refused(e) => Lowered::Refused(e, p),
+            ReferenceAt::Reference => {
+                let referent = project(place, ProjectionElem::Deref);
+                if !referent.ok {
+                    return Lowered::Refused(MirLowerError::Limit, p);
+                }
+                pattern_match_inner(
+                    image,
+                    tables,
+                    bindings,
+                    blocks,
+                    statements,
+                    locals,
+                    entries,
+                    visits,
+                    counts,
+                    discr,
+                    mode,
+                    PatId(row.a),
+                    current,
+                    els,
+                    referent.place,
+                )
+            }
+        },
+        CompoundKind::Variant => {
+            let v = variant_word(row);
+            if v == 65535 {
+                return Lowered::Refused(MirLowerError::NotSupported, p);
+            }
+            pattern_matching_variant(
+                image,
+                tables,
+                bindings,
+                blocks,
+                statements,
+                locals,
+                entries,
+                visits,
+                counts,
+                discr,
+                mode,
+                p,
+                v,
+                variant_shape(row),
+                current,
+                els,
+                place,
+            )
+        }
     }
 }
 
-// A Record, a TupleStruct or a path that names a variant; one without a variant is refused.
-pub fn on_variant(
+// The fields of a variant that has so many.
+pub fn pattern_matching_variant_fields(
     image: &[u8],
     tables: Tables,
     bindings: &[u16],
@@ -279,36 +302,64 @@ pub fn on_variant(
     discr: DiscrTemp,
     mode: MatchingMode,
     p: PatId,
-    row: PatRow,
+    shape: AdtPatternShape,
+    fields: u16,
     current: BasicBlockId,
     els: OptBlock,
     place: Place,
 ) -> Lowered
     requires { ⌜ Walkable (now image) tables (now bindings) (lent (now blocks) (now statements) (now locals) (now entries)) (now visits) counts current els place ⌝ }
-    requires { ⌜ (p .0 < patternCount (now image)) × NamesVariant (now image) (p .0) row ⌝ }
-    ensures { λ r. ⌜ Walks (λ ctx. variantPattern (now (image .entry)) (p .0) (word? (variantWord row)) (shapeOf (now (image .entry)) (now (bindings .entry)) (variantShape row)) mode ctx current els place) counts discr current els (lent (now (blocks .entry)) (now (statements .entry)) (now (locals .entry)) (now (entries .entry))) (now (visits .entry)) r (lent (now (blocks .exit)) (now (statements .exit)) (now (locals .exit)) (now (entries .exit))) (now (visits .exit)) ⌝ }
+    requires { ⌜ (p .0 < patternCount (now image)) × ShapeThere (now image) (p .0) shape ⌝ }
+    ensures { λ r. ⌜ Walks (λ ctx. variantFields (shapeOf (now (image .entry)) (now (bindings .entry)) shape) (p .0) fields mode ctx current els place) counts discr current els (lent (now (blocks .entry)) (now (statements .entry)) (now (locals .entry)) (now (entries .entry))) (now (visits .entry)) r (lent (now (blocks .exit)) (now (statements .exit)) (now (locals .exit)) (now (entries .exit))) (now (visits .exit)) ⌝ }
 {
-    let v = variant_word(row);
-    if v == 65535 {
-        return Lowered::Refused(MirLowerError::NotSupported, p);
+    match shape {
+        AdtPatternShape::Unit => Lowered::Done(counts, discr, current, els),
+        AdtPatternShape::Tuple(from, count, ellipsis) => pattern_match_tuple_like(
+            image,
+            tables,
+            bindings,
+            blocks,
+            statements,
+            locals,
+            entries,
+            visits,
+            counts,
+            discr,
+            mode,
+            p,
+            from,
+            count,
+            ellipsis,
+            fields,
+            current,
+            els,
+            place,
+        ),
+        AdtPatternShape::Record(from, count) => {
+            if !fields_there(image, tables, from, count, fields) {
+                return Lowered::Refused(MirLowerError::UnresolvedField, p);
+            }
+            pattern_match_adt(
+                image,
+                tables,
+                bindings,
+                blocks,
+                statements,
+                locals,
+                entries,
+                visits,
+                counts,
+                discr,
+                mode,
+                p,
+                ArgumentRow::RecordFields,
+                from,
+                fields,
+                count,
+                current,
+                els,
+                place,
+            )
+        }
     }
-    pattern_matching_variant(
-        image,
-        tables,
-        bindings,
-        blocks,
-        statements,
-        locals,
-        entries,
-        visits,
-        counts,
-        discr,
-        mode,
-        p,
-        v,
-        variant_shape(row),
-        current,
-        els,
-        place,
-    )
 }

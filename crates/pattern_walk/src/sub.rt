@@ -1,87 +1,44 @@
-// Patterns with one subpattern: Ref and Bind.
+// Patterns that are more than their fields: Bind, Or, whose alternatives are tried from left to right, and Slice.
+use super::adt::pattern_match_adt;
 use super::pattern_match_inner;
 use image::BindingId;
 use image::PatId;
 use image::Tables;
 use image::kinds::binding_mode;
 use image::rows::PatRow;
+use image::rows::list_at;
 use lower::merging::OptBlock;
 use lower::temps::DiscrTemp;
 use mir::BasicBlockId;
 use mir::Counts;
+use mir::blocks::NewBlock;
+use mir::blocks::new_basic_block;
+use mir::blocks::set_goto;
+use pattern_leaves::modes::alternatives_end;
 use pattern_leaves::modes::bind;
+use pattern_leaves::modes::slice_test;
 use pattern_matching::MatchingMode;
-use pattern_parts::adts::ReferenceAt;
-use pattern_parts::adts::place_ty;
-use pattern_parts::adts::reference_at;
+use pattern_matching::is_check;
+use pattern_parts::bindings::rest_bound;
+use pattern_rows::ArgumentRow;
 use place::Place;
-use place::elems::ProjectionElem;
-use place::project;
 use refusals::MirLowerError;
 use walks::Lowered;
-ghost use Prim.Native.Nat.{_<_};
-ghost use Rattle.image.specs.Tables.{patternCount, bindingCount};
+ghost use Prim.Native.Nat.{_<_, _+_};
+ghost use Rattle.image.specs.Tables.{patternCount, typeCount, bindingCount};
 ghost use Rattle.image.specs.Kinds.{bindingMode};
 ghost use Rattle.image.specs.Tree.{tree, tree?};
-ghost use Rattle.pattern_matching.specs.Variants.{refPattern};
-ghost use Rattle.pattern_matching.specs.Patterns.{bindPattern, patternMatchInner, lowering?};
+ghost use Rattle.pattern_matching.specs.Patterns.{patternMatchInner, restOf, alternative, orPattern, bindPattern, lowering?};
 ghost use Rattle.walks.specs.Answers.{lent, Walks};
-ghost use Rattle.pattern_nodes.specs.Arguments.{SubpatternBelow};
+ghost use Rattle.pattern_nodes.specs.Arguments.{lowered, ArgumentsThere, SliceThere, SubpatternBelow};
 ghost use Rattle.walking.specs.Walk.{Walkable};
-
-// A Ref pattern: its subpattern q on what the reference at the place refers to.
-pub fn on_ref(
-    image: &[u8],
-    tables: Tables,
-    bindings: &[u16],
-    blocks: &mut [u16],
-    statements: &mut [u16],
-    locals: &mut [u16],
-    entries: &mut [u16],
-    visits: &mut [u16],
-    counts: Counts,
-    discr: DiscrTemp,
-    mode: MatchingMode,
-    p: PatId,
-    q: PatId,
-    current: BasicBlockId,
-    els: OptBlock,
-    place: Place,
-) -> Lowered
-    requires { ⌜ Walkable (now image) tables (now bindings) (lent (now blocks) (now statements) (now locals) (now entries)) (now visits) counts current els place ⌝ }
-    requires { ⌜ (p .0 < patternCount (now image)) × (q .0 < p .0) ⌝ }
-    ensures { λ r. ⌜ Walks (λ ctx. refPattern (now (image .entry)) (p .0) (patternMatchInner (now (image .entry)) (now (bindings .entry)) (tree (now (image .entry)) (q .0))) mode ctx current els place) counts discr current els (lent (now (blocks .entry)) (now (statements .entry)) (now (locals .entry)) (now (entries .entry))) (now (visits .entry)) r (lent (now (blocks .exit)) (now (statements .exit)) (now (locals .exit)) (now (entries .exit))) (now (visits .exit)) ⌝ }
-{
-    match reference_at(image, tables, place_ty(image, tables, locals, place)) {
-        ReferenceAt::Refused(e) => Lowered::Refused(e, p),
-        ReferenceAt::Reference => {
-            let referent = project(place, ProjectionElem::Deref);
-            if !referent.ok {
-                return Lowered::Refused(MirLowerError::Limit, p);
-            }
-            pattern_match_inner(
-                image,
-                tables,
-                bindings,
-                blocks,
-                statements,
-                locals,
-                entries,
-                visits,
-                counts,
-                discr,
-                mode,
-                q,
-                current,
-                els,
-                referent.place,
-            )
-        }
-    }
-}
+ghost use Rattle.image.specs.Types.{tyOf};
+ghost use Rattle.pattern_rows.specs.declared.ArgumentRow.{ArgumentRow};
+ghost use Rattle.pattern_matching.specs.Slices.{sliceOn};
+ghost use Rattle.lower.specs.declared.merging.OptBlock.{OptBlock};
 
 // A Bind: its subpattern first, if there is one, and then, beyond Check, the binding.
-pub fn on_bind(
+pub fn bound(
     image: &[u8],
     tables: Tables,
     bindings: &[u16],
@@ -153,5 +110,254 @@ pub fn on_bind(
             other,
             place,
         ),
+    }
+}
+
+// An alternative q: it is tested, and beyond Check walked again in the mode that is asked for.
+pub fn alt(
+    image: &[u8],
+    tables: Tables,
+    bindings: &[u16],
+    blocks: &mut [u16],
+    statements: &mut [u16],
+    locals: &mut [u16],
+    entries: &mut [u16],
+    visits: &mut [u16],
+    counts: Counts,
+    discr: DiscrTemp,
+    mode: MatchingMode,
+    q: PatId,
+    current: BasicBlockId,
+    place: Place,
+) -> Lowered
+    requires { ⌜ Walkable (now image) tables (now bindings) (lent (now blocks) (now statements) (now locals) (now entries)) (now visits) counts current OptBlock.None place ⌝ }
+    requires { ⌜ q .0 < patternCount (now image) ⌝ }
+    ensures { λ r. ⌜ Walks (λ ctx. alternative (patternMatchInner (now (image .entry)) (now (bindings .entry)) (tree (now (image .entry)) (q .0))) mode ctx current place) counts discr current OptBlock.None (lent (now (blocks .entry)) (now (statements .entry)) (now (locals .entry)) (now (entries .entry))) (now (visits .entry)) r (lent (now (blocks .exit)) (now (statements .exit)) (now (locals .exit)) (now (entries .exit))) (now (visits .exit)) ⌝ }
+{
+    match pattern_match_inner(
+        image,
+        tables,
+        bindings,
+        blocks,
+        statements,
+        locals,
+        entries,
+        visits,
+        counts,
+        discr,
+        MatchingMode::Check,
+        q,
+        current,
+        OptBlock::None,
+        place,
+    ) {
+        Lowered::Refused(e, at) => Lowered::Refused(e, at),
+        Lowered::Done(c1, d1, then, other) => {
+            if is_check(mode) {
+                return Lowered::Done(c1, d1, then, other);
+            }
+            match pattern_match_inner(
+                image,
+                tables,
+                bindings,
+                blocks,
+                statements,
+                locals,
+                entries,
+                visits,
+                c1,
+                d1,
+                mode,
+                q,
+                then,
+                OptBlock::None,
+                place,
+            ) {
+                Lowered::Refused(e, at) => Lowered::Refused(e, at),
+                Lowered::Done(c2, d2, last, _) => Lowered::Done(c2, d2, last, other),
+            }
+        }
+    }
+}
+
+// An Or of the `count` alternatives from the word `from` of the list on, from left to right: one that matched goes on at a new block, the next one starts where it
+// does not match, and behind one that cannot fail none is lowered.
+pub fn alts(
+    image: &[u8],
+    tables: Tables,
+    bindings: &[u16],
+    blocks: &mut [u16],
+    statements: &mut [u16],
+    locals: &mut [u16],
+    entries: &mut [u16],
+    visits: &mut [u16],
+    counts: Counts,
+    discr: DiscrTemp,
+    mode: MatchingMode,
+    p: PatId,
+    from: u16,
+    count: u16,
+    current: BasicBlockId,
+    els: OptBlock,
+    place: Place,
+) -> Lowered
+    requires { ⌜ Walkable (now image) tables (now bindings) (lent (now blocks) (now statements) (now locals) (now entries)) (now visits) counts current els place ⌝ }
+    requires { ⌜ (p .0 < patternCount (now image)) × ArgumentsThere ArgumentRow.Items (now image) (p .0) from 0 count ⌝ }
+    ensures { λ r. ⌜ Walks (λ ctx. orPattern (p .0) (lowered (now (image .entry)) (now (bindings .entry)) from count) mode ctx current els place) counts discr current els (lent (now (blocks .entry)) (now (statements .entry)) (now (locals .entry)) (now (entries .entry))) (now (visits .entry)) r (lent (now (blocks .exit)) (now (statements .exit)) (now (locals .exit)) (now (entries .exit))) (now (visits .exit)) ⌝ }
+{
+    match new_basic_block(counts) {
+        NewBlock::Full => Lowered::Refused(MirLowerError::Limit, p),
+        NewBlock::Block(made, join) => {
+            let mut c = made;
+            let mut d = discr;
+            let mut here = current;
+            let mut i = 0u16;
+            while i < count {
+                let q = PatId(list_at(image, tables, from + i));
+                match alt(
+                    image,
+                    tables,
+                    bindings,
+                    blocks,
+                    statements,
+                    locals,
+                    entries,
+                    visits,
+                    c,
+                    d,
+                    mode,
+                    q,
+                    here,
+                    place,
+                ) {
+                    Lowered::Refused(e, at) => {
+                        return Lowered::Refused(e, at);
+                    }
+                    Lowered::Done(c1, d1, then, other) => {
+                        set_goto(blocks, then, join);
+                        match other {
+                            OptBlock::None => {
+                                return Lowered::Done(c1, d1, join, els);
+                            }
+                            OptBlock::Some(next) => {
+                                c = c1;
+                                d = d1;
+                                here = next;
+                            }
+                        }
+                    }
+                }
+                i += 1;
+            }
+            alternatives_end(blocks, c, d, mode, p, here, join, els)
+        }
+    }
+}
+
+// A Slice pattern: the test of a slice's length, the items in front, the rest, and the items at the end.
+pub fn slice(
+    image: &[u8],
+    tables: Tables,
+    bindings: &[u16],
+    blocks: &mut [u16],
+    statements: &mut [u16],
+    locals: &mut [u16],
+    entries: &mut [u16],
+    visits: &mut [u16],
+    counts: Counts,
+    discr: DiscrTemp,
+    mode: MatchingMode,
+    p: PatId,
+    row: PatRow,
+    current: BasicBlockId,
+    els: OptBlock,
+    place: Place,
+) -> Lowered
+    requires { ⌜ Walkable (now image) tables (now bindings) (lent (now blocks) (now statements) (now locals) (now entries)) (now visits) counts current els place ⌝ }
+    requires { ⌜ (p .0 < patternCount (now image)) × (row .ty < typeCount (now image)) × SliceThere (now image) (p .0) (row .d) (row .a) (row .b) (row .c) ⌝ }
+    ensures { λ r. ⌜ Walks (λ ctx. sliceOn (tyOf (now (image .entry)) (row .ty) .shape) (now (image .entry)) (now (bindings .entry)) (p .0) (lowered (now (image .entry)) (now (bindings .entry)) (row .a) (row .b)) (restOf (tree? (tree (now (image .entry))) (row .d))) (lowered (now (image .entry)) (now (bindings .entry)) (row .a + row .b) (row .c)) mode ctx current els place) counts discr current els (lent (now (blocks .entry)) (now (statements .entry)) (now (locals .entry)) (now (entries .entry))) (now (visits .entry)) r (lent (now (blocks .exit)) (now (statements .exit)) (now (locals .exit)) (now (entries .exit))) (now (visits .exit)) ⌝ }
+{
+    match slice_test(
+        image,
+        tables,
+        blocks,
+        statements,
+        locals,
+        entries,
+        counts,
+        discr,
+        mode,
+        p,
+        row.ty,
+        row.b + row.c,
+        row.d,
+        current,
+        els,
+        place,
+    ) {
+        Lowered::Refused(e, at) => Lowered::Refused(e, at),
+        Lowered::Done(c1, d1, b1, e1) => match pattern_match_adt(
+            image,
+            tables,
+            bindings,
+            blocks,
+            statements,
+            locals,
+            entries,
+            visits,
+            c1,
+            d1,
+            mode,
+            p,
+            ArgumentRow::Items,
+            row.a,
+            0,
+            row.b,
+            b1,
+            e1,
+            place,
+        ) {
+            Lowered::Refused(e, at) => Lowered::Refused(e, at),
+            Lowered::Done(c2, d2, b2, e2) => match rest_bound(
+                image,
+                tables,
+                bindings,
+                statements,
+                entries,
+                c2,
+                d2,
+                mode,
+                p,
+                row.d,
+                row.b,
+                row.c,
+                b2,
+                e2,
+                place,
+            ) {
+                Lowered::Refused(e, at) => Lowered::Refused(e, at),
+                Lowered::Done(c3, d3, b3, e3) => pattern_match_adt(
+                    image,
+                    tables,
+                    bindings,
+                    blocks,
+                    statements,
+                    locals,
+                    entries,
+                    visits,
+                    c3,
+                    d3,
+                    mode,
+                    p,
+                    ArgumentRow::LastItems,
+                    row.a + row.b,
+                    0,
+                    row.c,
+                    b3,
+                    e3,
+                    place,
+                ),
+            },
+        },
     }
 }

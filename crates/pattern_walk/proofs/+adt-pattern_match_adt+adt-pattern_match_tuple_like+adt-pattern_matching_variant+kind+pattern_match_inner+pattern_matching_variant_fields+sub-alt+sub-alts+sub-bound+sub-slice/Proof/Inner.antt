@@ -1,7 +1,7 @@
 -- `pattern_match_inner`: what its contract needs is answered. Assumes nothing.
 use Prim.Native.Nat.{ℕ}
 use Rattle.pattern_walk.proofs.pattern_match_inner.Reads as pattern-match-inner
-use Rattle.pattern_walk.proofs.+adt-on_enum+adt-pattern_match_adt+adt-pattern_match_tuple_like+adt-pattern_matching_variant+adt-pattern_matching_variant_fields+by_kind+on_variant+ors-alt+ors-alts+ors-on_or+pattern_match_inner+seq-items+seq-on_slice+seq-tail+sub-on_bind+sub-on_ref.Lts-pattern_match_inner as lts
+use Rattle.pattern_walk.proofs.+adt-pattern_match_adt+adt-pattern_match_tuple_like+adt-pattern_matching_variant+kind+pattern_match_inner+pattern_matching_variant_fields+sub-alt+sub-alts+sub-bound+sub-slice.Lts-pattern_match_inner as lts
 use Rattle.pattern_parts.proofs.entering.visit.Reads as visit-reads
 use Rattle.image.proofs.rows.pat_at.Reads as pat-at-reads
 use Rattle.pattern_parts.proofs.entering.deref_place.Reads as deref-place-reads
@@ -9,8 +9,8 @@ use Rattle.image.proofs.kinds.pat_kind.Reads as pat-kind-reads
 use Rattle.image.proofs.kinds.path_kind.Reads as path-kind-reads
 use Rattle.pattern_leaves.proofs.kinds.is_leaf.Reads as is-leaf-reads
 use Rattle.pattern_leaves.proofs.kinds.pattern_match_leaf.Reads as pattern-match-leaf-reads
-use Rattle.pattern_walk.proofs.by_kind.Reads as by-kind
-use Rattle.pattern_walk.proofs.+adt-on_enum+adt-pattern_match_adt+adt-pattern_match_tuple_like+adt-pattern_matching_variant+adt-pattern_matching_variant_fields+by_kind+on_variant+ors-alt+ors-alts+ors-on_or+pattern_match_inner+seq-items+seq-on_slice+seq-tail+sub-on_bind+sub-on_ref.Proof.Measures.{pattern-match-inner-at, by-kind-below}
+use Rattle.pattern_walk.proofs.kind.Reads as kind
+use Rattle.pattern_walk.proofs.+adt-pattern_match_adt+adt-pattern_match_tuple_like+adt-pattern_matching_variant+kind+pattern_match_inner+pattern_matching_variant_fields+sub-alt+sub-alts+sub-bound+sub-slice.Proof.Measures.{pattern-match-inner-at, kind-below}
 use mathlib.Core.Path.{sym, ap₂, _∙_}
 use native.Mathlib.Omega.{arith}
 use borrow.Author.Tests.{not-true, not-false}
@@ -21,7 +21,7 @@ use Rattle.walking.proofs.Entering.{derefs-reached, inner-stops, inner-goes, in
 
 -- what it may use of the functions that it calls
 abbrev pub calls : ℕ → lts.Claims
-calls t = (visit-reads.Asked, visit-reads.Learnt, pat-at-reads.Asked, pat-at-reads.Learnt, deref-place-reads.Asked, deref-place-reads.Learnt, pat-kind-reads.Asked, pat-kind-reads.Learnt, path-kind-reads.Asked, path-kind-reads.Learnt, is-leaf-reads.Asked, is-leaf-reads.Learnt, pattern-match-leaf-reads.Asked, pattern-match-leaf-reads.Learnt, by-kind-below t, by-kind.Post)
+calls t = (visit-reads.Asked, visit-reads.Learnt, pat-at-reads.Asked, pat-at-reads.Learnt, deref-place-reads.Asked, deref-place-reads.Learnt, pat-kind-reads.Asked, pat-kind-reads.Learnt, path-kind-reads.Asked, path-kind-reads.Learnt, is-leaf-reads.Asked, is-leaf-reads.Learnt, pattern-match-leaf-reads.Asked, pattern-match-leaf-reads.Learnt, kind-below t, kind.Post)
 
 pub visit-requires : (t : ℕ) → lts.Need-visit-requires (calls t) (pattern-match-inner-at t) pattern-match-inner.Post
 visit-requires t c κs = asks-visit (c .before .before .before .before .before .before .before .before .pre .1 .0) (c .before .before .before .before .before .before .before .before .pre .1 .1)
@@ -68,23 +68,23 @@ same-length-6 t c = c .before .before .before .before .before .before .before .b
 pub returns-2 : (t : ℕ) → lts.Need-returns-2 (calls t) (pattern-match-inner-at t) pattern-match-inner.Post
 returns-2 t c = inner-leaf (c .before .before .before .before .before .before .before .before .before .before .before .before .before .before .before .before .before .before .before .before .before .before .before .before .before .before .before .before .before .before .before .before .args .image .now) (c .before .before .before .before .before .before .before .before .before .before .before .before .before .before .before .before .before .before .before .before .before .before .before .before .before .before .before .before .before .before .before .before .args .bindings .now) (c .before .before .before .before .before .before .before .before .before .before .before .before .before .before .before .before .before .before .before .before .before .before .before .before .before .before .before .before .before .before .before .before .args .p) (c .before .before .before .before .before .before .before .before .before .before .before .before .before .before .before .before .before .before .before .before .pat-at .result) (c .before .before .before .before .before .before .before .before .before .before .before .before .before .before .before .before .before .before .before .before .before .before .before .before .before .before .before .before .before .before .before .before .args .mode) (c .before .before .before .before .before .before .before .before .before .before .before .before .before .before .before .before .before .before .before .before .before .before .before .before .before .before .before .before .before .before .before .before .args .counts) (c .before .before .before .before .before .before .before .before .before .before .before .before .before .before .before .before .before .before .before .before .before .before .before .before .before .before .before .before .before .before .before .before .args .discr) (c .before .before .before .before .before .before .before .before .before .before .before .before .before .before .before .before .before .before .before .before .before .before .before .before .before .before .before .before .before .before .before .before .args .current) (c .before .before .before .before .before .before .before .before .before .before .before .before .before .before .before .before .before .before .before .before .before .before .before .before .before .before .before .before .before .before .before .before .args .els) (c .before .before .before .before .before .before .before .before .before .before .before .before .before .before .before .before .before .before .before .before .before .before .before .before .before .before .before .before .before .before .before .before .args .place) _ _ (c .before .before .before .before .before .before .before .before .before .before .before .before .before .before .before .before .before .before .before .deref-place .result) (c .before .before .before .before .before .before .before .before .before .before .before .before .before .before .before .before .before .before .before .before .before .before .before .before .before .before .before .before .before .before .before .before .pre .1 .0 .image-valid) (c .before .before .before .before .before .before .before .before .before .before .before .before .before .before .before .before .before .before .before .before .before .before .before .before .before .before .before .before .before .before .before .before .pre .1 .1) (c .before .before .before .before .before .before .before .before .before .before .before .before .before .before .before .before .before .before .before .before .pat-at .ensures) (c .before .before .before .before .before .before .before .before .before .before .before .before .before .before .before .before .before .before .before .before .before .before .before .visit .ensures) (c .before .before .before .before .before .before .before .before .before .before .before .before .before .before .before .before .before .before .before .deref-place .ensures) (not-false _ (c .before .before .before .before .before .before .before .before .before .before .before .before .before .before .before .before .before .if1 .left)) (sym (c .before .before .before .before .before .before .before .before .before .before .before .before .before .before .is-leaf .ensures ∙ ap₂ isLeaf (c .before .before .before .before .before .before .before .before .before .before .before .before .before .before .before .before .pat-kind .ensures) (c .before .before .before .before .before .before .before .before .before .before .before .before .before .before .before .path-kind .ensures)) ∙ c .before .before .before .before .before .before .before .before .before .before .before .before .before .if2 .taken) (c .before .before .before .before .before .before .before .before .pattern-match-leaf .ensures)
 
-pub by-kind-requires : (t : ℕ) → lts.Need-by-kind-requires (calls t) (pattern-match-inner-at t) pattern-match-inner.Post
-by-kind-requires t c κs = (omega (arith, c .before .before .before .before .before .before .before .before .before .before .before .before .before .before .before .before .before .before .before .before .before .before .before .before .pre .0), (walkable-at (walkable-visited (c .before .before .before .before .before .before .before .before .before .before .before .before .before .before .before .before .before .before .before .before .before .before .before .before .pre .1 .0) (c .before .before .before .before .before .before .before .before .before .before .before .before .before .before .before .visit .kept .0)) (derefs-reached _ _ (c .before .before .before .before .before .before .before .before .before .before .before .deref-place .result) (c .before .before .before .before .before .before .before .before .before .before .before .deref-place .ensures) (not-false _ (c .before .before .before .before .before .before .before .before .before .if1 .left))), ((c .before .before .before .before .before .before .before .before .before .before .before .before .before .before .before .before .before .before .before .before .before .before .before .before .pre .1 .1), c .before .before .before .before .before .before .before .before .before .before .before .before .pat-at .ensures, sym (c .before .before .before .before .before .before .is-leaf .ensures ∙ ap₂ isLeaf (c .before .before .before .before .before .before .before .before .pat-kind .ensures) (c .before .before .before .before .before .before .before .path-kind .ensures)) ∙ c .before .before .before .before .before .if2 .left)))
+pub kind-requires : (t : ℕ) → lts.Need-kind-requires (calls t) (pattern-match-inner-at t) pattern-match-inner.Post
+kind-requires t c κs = (omega (arith, c .before .before .before .before .before .before .before .before .before .before .before .before .before .before .before .before .before .before .before .before .before .before .before .before .pre .0), (walkable-at (walkable-visited (c .before .before .before .before .before .before .before .before .before .before .before .before .before .before .before .before .before .before .before .before .before .before .before .before .pre .1 .0) (c .before .before .before .before .before .before .before .before .before .before .before .before .before .before .before .visit .kept .0)) (derefs-reached _ _ (c .before .before .before .before .before .before .before .before .before .before .before .deref-place .result) (c .before .before .before .before .before .before .before .before .before .before .before .deref-place .ensures) (not-false _ (c .before .before .before .before .before .before .before .before .before .if1 .left))), ((c .before .before .before .before .before .before .before .before .before .before .before .before .before .before .before .before .before .before .before .before .before .before .before .before .pre .1 .1), c .before .before .before .before .before .before .before .before .before .before .before .before .pat-at .ensures, sym (c .before .before .before .before .before .before .is-leaf .ensures ∙ ap₂ isLeaf (c .before .before .before .before .before .before .before .before .pat-kind .ensures) (c .before .before .before .before .before .before .before .path-kind .ensures)) ∙ c .before .before .before .before .before .if2 .left)))
 
 pub same-length-7 : (t : ℕ) → lts.Need-same-length-7 (calls t) (pattern-match-inner-at t) pattern-match-inner.Post
-same-length-7 t c = c .before .before .before .before .before .before .before .before .before .before .by-kind .kept .1 .1 .1 .0
+same-length-7 t c = c .before .before .before .before .before .before .before .before .before .before .kind .kept .1 .1 .1 .0
 
 pub same-length-8 : (t : ℕ) → lts.Need-same-length-8 (calls t) (pattern-match-inner-at t) pattern-match-inner.Post
-same-length-8 t c = c .before .before .before .before .before .before .before .before .before .before .by-kind .kept .1 .1 .1 .1 .0
+same-length-8 t c = c .before .before .before .before .before .before .before .before .before .before .kind .kept .1 .1 .1 .1 .0
 
 pub same-length-9 : (t : ℕ) → lts.Need-same-length-9 (calls t) (pattern-match-inner-at t) pattern-match-inner.Post
-same-length-9 t c = c .before .before .before .before .before .before .before .before .before .before .by-kind .kept .1 .1 .1 .1 .1 .0
+same-length-9 t c = c .before .before .before .before .before .before .before .before .before .before .kind .kept .1 .1 .1 .1 .1 .0
 
 pub same-length-10 : (t : ℕ) → lts.Need-same-length-10 (calls t) (pattern-match-inner-at t) pattern-match-inner.Post
-same-length-10 t c = c .before .before .before .before .before .before .before .before .before .before .by-kind .kept .1 .1 .1 .1 .1 .1 .0
+same-length-10 t c = c .before .before .before .before .before .before .before .before .before .before .kind .kept .1 .1 .1 .1 .1 .1 .0
 
 pub same-length-11 : (t : ℕ) → lts.Need-same-length-11 (calls t) (pattern-match-inner-at t) pattern-match-inner.Post
-same-length-11 t c = c .before .before .before .before .before .before .before .before .before .before .by-kind .kept .1 .1 .1 .1 .1 .1 .1 .0 ∙ c .before .before .before .before .before .before .before .before .before .before .before .before .before .before .before .before .before .before .before .before .before .before .before .before .before .before .visit .kept .0
+same-length-11 t c = c .before .before .before .before .before .before .before .before .before .before .kind .kept .1 .1 .1 .1 .1 .1 .1 .0 ∙ c .before .before .before .before .before .before .before .before .before .before .before .before .before .before .before .before .before .before .before .before .before .before .before .before .before .before .visit .kept .0
 
 pub returns-3 : (t : ℕ) → lts.Need-returns-3 (calls t) (pattern-match-inner-at t) pattern-match-inner.Post
-returns-3 t c = inner-goes (c .before .before .before .before .before .before .before .before .before .before .before .before .before .before .before .before .before .before .before .before .before .before .before .before .before .before .before .before .before .before .before .before .before .before .before .args .image .now) (c .before .before .before .before .before .before .before .before .before .before .before .before .before .before .before .before .before .before .before .before .before .before .before .before .before .before .before .before .before .before .before .before .before .before .before .args .bindings .now) (c .before .before .before .before .before .before .before .before .before .before .before .before .before .before .before .before .before .before .before .before .before .before .before .before .before .before .before .before .before .before .before .before .before .before .before .args .p) (c .before .before .before .before .before .before .before .before .before .before .before .before .before .before .before .before .before .before .before .before .before .before .before .pat-at .result) (c .before .before .before .before .before .before .before .before .before .before .before .before .before .before .before .before .before .before .before .before .before .before .before .before .before .before .before .before .before .before .before .before .before .before .before .args .mode) (c .before .before .before .before .before .before .before .before .before .before .before .before .before .before .before .before .before .before .before .before .before .before .before .before .before .before .before .before .before .before .before .before .before .before .before .args .counts) (c .before .before .before .before .before .before .before .before .before .before .before .before .before .before .before .before .before .before .before .before .before .before .before .before .before .before .before .before .before .before .before .before .before .before .before .args .discr) (c .before .before .before .before .before .before .before .before .before .before .before .before .before .before .before .before .before .before .before .before .before .before .before .before .before .before .before .before .before .before .before .before .before .before .before .args .current) (c .before .before .before .before .before .before .before .before .before .before .before .before .before .before .before .before .before .before .before .before .before .before .before .before .before .before .before .before .before .before .before .before .before .before .before .args .els) (c .before .before .before .before .before .before .before .before .before .before .before .before .before .before .before .before .before .before .before .before .before .before .before .before .before .before .before .before .before .before .before .before .before .before .before .args .place) _ _ (c .before .before .before .before .before .before .before .before .before .before .before .before .before .before .before .before .before .before .before .before .before .before .deref-place .result) (c .before .before .before .before .before .before .before .before .before .before .before .before .before .before .before .before .before .before .before .before .before .before .before .before .before .before .before .before .before .before .before .before .before .before .before .pre .1 .0 .image-valid) (c .before .before .before .before .before .before .before .before .before .before .before .before .before .before .before .before .before .before .before .before .before .before .before .before .before .before .before .before .before .before .before .before .before .before .before .pre .1 .1) (c .before .before .before .before .before .before .before .before .before .before .before .before .before .before .before .before .before .before .before .before .before .before .before .pat-at .ensures) (c .before .before .before .before .before .before .before .before .before .before .before .before .before .before .before .before .before .before .before .before .before .before .before .before .before .before .visit .ensures) (c .before .before .before .before .before .before .before .before .before .before .before .before .before .before .before .before .before .before .before .before .before .before .deref-place .ensures) (not-false _ (c .before .before .before .before .before .before .before .before .before .before .before .before .before .before .before .before .before .before .before .before .if1 .left)) (c .before .before .before .before .before .before .before .before .before .before .by-kind .ensures)
+returns-3 t c = inner-goes (c .before .before .before .before .before .before .before .before .before .before .before .before .before .before .before .before .before .before .before .before .before .before .before .before .before .before .before .before .before .before .before .before .before .before .before .args .image .now) (c .before .before .before .before .before .before .before .before .before .before .before .before .before .before .before .before .before .before .before .before .before .before .before .before .before .before .before .before .before .before .before .before .before .before .before .args .bindings .now) (c .before .before .before .before .before .before .before .before .before .before .before .before .before .before .before .before .before .before .before .before .before .before .before .before .before .before .before .before .before .before .before .before .before .before .before .args .p) (c .before .before .before .before .before .before .before .before .before .before .before .before .before .before .before .before .before .before .before .before .before .before .before .pat-at .result) (c .before .before .before .before .before .before .before .before .before .before .before .before .before .before .before .before .before .before .before .before .before .before .before .before .before .before .before .before .before .before .before .before .before .before .before .args .mode) (c .before .before .before .before .before .before .before .before .before .before .before .before .before .before .before .before .before .before .before .before .before .before .before .before .before .before .before .before .before .before .before .before .before .before .before .args .counts) (c .before .before .before .before .before .before .before .before .before .before .before .before .before .before .before .before .before .before .before .before .before .before .before .before .before .before .before .before .before .before .before .before .before .before .before .args .discr) (c .before .before .before .before .before .before .before .before .before .before .before .before .before .before .before .before .before .before .before .before .before .before .before .before .before .before .before .before .before .before .before .before .before .before .before .args .current) (c .before .before .before .before .before .before .before .before .before .before .before .before .before .before .before .before .before .before .before .before .before .before .before .before .before .before .before .before .before .before .before .before .before .before .before .args .els) (c .before .before .before .before .before .before .before .before .before .before .before .before .before .before .before .before .before .before .before .before .before .before .before .before .before .before .before .before .before .before .before .before .before .before .before .args .place) _ _ (c .before .before .before .before .before .before .before .before .before .before .before .before .before .before .before .before .before .before .before .before .before .before .deref-place .result) (c .before .before .before .before .before .before .before .before .before .before .before .before .before .before .before .before .before .before .before .before .before .before .before .before .before .before .before .before .before .before .before .before .before .before .before .pre .1 .0 .image-valid) (c .before .before .before .before .before .before .before .before .before .before .before .before .before .before .before .before .before .before .before .before .before .before .before .before .before .before .before .before .before .before .before .before .before .before .before .pre .1 .1) (c .before .before .before .before .before .before .before .before .before .before .before .before .before .before .before .before .before .before .before .before .before .before .before .pat-at .ensures) (c .before .before .before .before .before .before .before .before .before .before .before .before .before .before .before .before .before .before .before .before .before .before .before .before .before .before .visit .ensures) (c .before .before .before .before .before .before .before .before .before .before .before .before .before .before .before .before .before .before .before .before .before .before .deref-place .ensures) (not-false _ (c .before .before .before .before .before .before .before .before .before .before .before .before .before .before .before .before .before .before .before .before .if1 .left)) (c .before .before .before .before .before .before .before .before .before .before .kind .ensures)

@@ -1,12 +1,12 @@
 -- `pattern_match_adt`: what its contract needs is answered. Assumes nothing.
 use Prim.Native.Nat.{ℕ}
 use Rattle.pattern_walk.proofs.adt.pattern_match_adt.Reads as adt·pattern-match-adt
-use Rattle.pattern_walk.proofs.+adt-on_enum+adt-pattern_match_adt+adt-pattern_match_tuple_like+adt-pattern_matching_variant+adt-pattern_matching_variant_fields+by_kind+on_variant+ors-alt+ors-alts+ors-on_or+pattern_match_inner+seq-items+seq-on_slice+seq-tail+sub-on_bind+sub-on_ref.Lts-adt-pattern_match_adt as lts
+use Rattle.pattern_walk.proofs.+adt-pattern_match_adt+adt-pattern_match_tuple_like+adt-pattern_matching_variant+kind+pattern_match_inner+pattern_matching_variant_fields+sub-alt+sub-alts+sub-bound+sub-slice.Lts-adt-pattern_match_adt as lts
 use Rattle.pattern_rows.proofs.argument_elem.Reads as argument-elem-reads
 use Rattle.place.proofs.project.Reads as project-reads
 use Rattle.pattern_rows.proofs.argument_pat.Reads as argument-pat-reads
 use Rattle.pattern_walk.proofs.pattern_match_inner.Reads as pattern-match-inner
-use Rattle.pattern_walk.proofs.+adt-on_enum+adt-pattern_match_adt+adt-pattern_match_tuple_like+adt-pattern_matching_variant+adt-pattern_matching_variant_fields+by_kind+on_variant+ors-alt+ors-alts+ors-on_or+pattern_match_inner+seq-items+seq-on_slice+seq-tail+sub-on_bind+sub-on_ref.Proof.Measures.{adt·pattern-match-adt-at, pattern-match-inner-below}
+use Rattle.pattern_walk.proofs.+adt-pattern_match_adt+adt-pattern_match_tuple_like+adt-pattern_matching_variant+kind+pattern_match_inner+pattern_matching_variant_fields+sub-alt+sub-alts+sub-bound+sub-slice.Proof.Measures.{adt·pattern-match-adt-at, pattern-match-inner-below}
 use mathlib.Core.Path.{sym, _∙_}
 use Prim.Native.Nat.{_-_}
 use native.Mathlib.Omega.{arith}

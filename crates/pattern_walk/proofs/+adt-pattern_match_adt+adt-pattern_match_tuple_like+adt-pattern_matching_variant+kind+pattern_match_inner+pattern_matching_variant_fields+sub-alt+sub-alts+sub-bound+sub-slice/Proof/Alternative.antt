@@ -1,10 +1,10 @@
 -- `alt`: what its contract needs is answered. Assumes nothing.
 use Prim.Native.Nat.{ℕ}
-use Rattle.pattern_walk.proofs.ors.alt.Reads as ors·alt
-use Rattle.pattern_walk.proofs.+adt-on_enum+adt-pattern_match_adt+adt-pattern_match_tuple_like+adt-pattern_matching_variant+adt-pattern_matching_variant_fields+by_kind+on_variant+ors-alt+ors-alts+ors-on_or+pattern_match_inner+seq-items+seq-on_slice+seq-tail+sub-on_bind+sub-on_ref.Lts-ors-alt as lts
+use Rattle.pattern_walk.proofs.sub.alt.Reads as sub·alt
+use Rattle.pattern_walk.proofs.+adt-pattern_match_adt+adt-pattern_match_tuple_like+adt-pattern_matching_variant+kind+pattern_match_inner+pattern_matching_variant_fields+sub-alt+sub-alts+sub-bound+sub-slice.Lts-sub-alt as lts
 use Rattle.pattern_walk.proofs.pattern_match_inner.Reads as pattern-match-inner
 use Rattle.pattern_matching.proofs.is_check.Reads as is-check-reads
-use Rattle.pattern_walk.proofs.+adt-on_enum+adt-pattern_match_adt+adt-pattern_match_tuple_like+adt-pattern_matching_variant+adt-pattern_matching_variant_fields+by_kind+on_variant+ors-alt+ors-alts+ors-on_or+pattern_match_inner+seq-items+seq-on_slice+seq-tail+sub-on_bind+sub-on_ref.Proof.Measures.{ors·alt-at, pattern-match-inner-below}
+use Rattle.pattern_walk.proofs.+adt-pattern_match_adt+adt-pattern_match_tuple_like+adt-pattern_matching_variant+kind+pattern_match_inner+pattern_matching_variant_fields+sub-alt+sub-alts+sub-bound+sub-slice.Proof.Measures.{sub·alt-at, pattern-match-inner-below}
 use mathlib.Core.Path.{sym, _∙_}
 use native.Mathlib.Omega.{arith}
 use borrow.Author.Needs.{needs}
@@ -17,95 +17,95 @@ use Rattle.walking.proofs.Trying.{alternative-stops, alternative-tested, altern
 abbrev pub calls : ℕ → lts.Claims
 calls t = (pattern-match-inner-below t, pattern-match-inner.Post, is-check-reads.Asked, is-check-reads.Learnt)
 
-pub pattern-match-inner-requires : (t : ℕ) → lts.Need-pattern-match-inner-requires (calls t) (ors·alt-at t) ors·alt.Post
+pub pattern-match-inner-requires : (t : ℕ) → lts.Need-pattern-match-inner-requires (calls t) (sub·alt-at t) sub·alt.Post
 pattern-match-inner-requires t c κs = (omega (arith, c .before .before .before .before .before .before .before .before .before .before .before .before .pre .0), ((c .before .before .before .before .before .before .before .before .before .before .before .before .pre .1 .0), (c .before .before .before .before .before .before .before .before .before .before .before .before .pre .1 .1)))
 
-pub enum-known-e : (t : ℕ) → lts.Need-enum-known-e (calls t) (ors·alt-at t) ors·alt.Post
+pub enum-known-e : (t : ℕ) → lts.Need-enum-known-e (calls t) (sub·alt-at t) sub·alt.Post
 enum-known-e t c = search needs
 
-pub enum-known-c1 : (t : ℕ) → lts.Need-enum-known-c1 (calls t) (ors·alt-at t) ors·alt.Post
+pub enum-known-c1 : (t : ℕ) → lts.Need-enum-known-c1 (calls t) (sub·alt-at t) sub·alt.Post
 enum-known-c1 t c = search needs
 
-pub is-check-requires : (t : ℕ) → lts.Need-is-check-requires (calls t) (ors·alt-at t) ors·alt.Post
+pub is-check-requires : (t : ℕ) → lts.Need-is-check-requires (calls t) (sub·alt-at t) sub·alt.Post
 is-check-requires t c κs = tt
 
-pub same-length : (t : ℕ) → lts.Need-same-length (calls t) (ors·alt-at t) ors·alt.Post
+pub same-length : (t : ℕ) → lts.Need-same-length (calls t) (sub·alt-at t) sub·alt.Post
 same-length t c = c .before .before .before .before .before .before .before .before .before .before .before .before .before .before .before .pattern-match-inner .kept .1 .1 .1 .0
 
-pub same-length-2 : (t : ℕ) → lts.Need-same-length-2 (calls t) (ors·alt-at t) ors·alt.Post
+pub same-length-2 : (t : ℕ) → lts.Need-same-length-2 (calls t) (sub·alt-at t) sub·alt.Post
 same-length-2 t c = c .before .before .before .before .before .before .before .before .before .before .before .before .before .before .before .pattern-match-inner .kept .1 .1 .1 .1 .0
 
-pub same-length-3 : (t : ℕ) → lts.Need-same-length-3 (calls t) (ors·alt-at t) ors·alt.Post
+pub same-length-3 : (t : ℕ) → lts.Need-same-length-3 (calls t) (sub·alt-at t) sub·alt.Post
 same-length-3 t c = c .before .before .before .before .before .before .before .before .before .before .before .before .before .before .before .pattern-match-inner .kept .1 .1 .1 .1 .1 .0
 
-pub same-length-4 : (t : ℕ) → lts.Need-same-length-4 (calls t) (ors·alt-at t) ors·alt.Post
+pub same-length-4 : (t : ℕ) → lts.Need-same-length-4 (calls t) (sub·alt-at t) sub·alt.Post
 same-length-4 t c = c .before .before .before .before .before .before .before .before .before .before .before .before .before .before .before .pattern-match-inner .kept .1 .1 .1 .1 .1 .1 .0
 
-pub same-length-5 : (t : ℕ) → lts.Need-same-length-5 (calls t) (ors·alt-at t) ors·alt.Post
+pub same-length-5 : (t : ℕ) → lts.Need-same-length-5 (calls t) (sub·alt-at t) sub·alt.Post
 same-length-5 t c = c .before .before .before .before .before .before .before .before .before .before .before .before .before .before .before .pattern-match-inner .kept .1 .1 .1 .1 .1 .1 .1 .0
 
-pub returns : (t : ℕ) → lts.Need-returns (calls t) (ors·alt-at t) ors·alt.Post
+pub returns : (t : ℕ) → lts.Need-returns (calls t) (sub·alt-at t) sub·alt.Post
 returns t c = alternative-tested (patternMatchInner (c .before .before .before .before .before .before .before .before .before .before .before .before .before .before .before .before .before .before .before .before .before .before .before .before .before .before .before .before .args .image .now) (c .before .before .before .before .before .before .before .before .before .before .before .before .before .before .before .before .before .before .before .before .before .before .before .before .before .before .before .before .args .bindings .now) (tree (c .before .before .before .before .before .before .before .before .before .before .before .before .before .before .before .before .before .before .before .before .before .before .before .before .before .before .before .before .args .image .now) (c .before .before .before .before .before .before .before .before .before .before .before .before .before .before .before .before .before .before .before .before .before .before .before .before .before .before .before .before .args .q .0))) (c .before .before .before .before .before .before .before .before .before .before .before .before .before .before .before .before .before .before .before .before .before .before .before .before .before .before .before .before .args .mode) (c .before .before .before .before .before .before .before .before .before .before .before .before .before .before .before .before .before .before .before .before .before .before .before .before .before .before .before .before .args .counts) (c .before .before .before .before .before .before .before .before .before .before .before .before .before .before .before .before .before .before .before .before .before .before .before .before .before .before .before .before .args .discr) (c .before .before .before .before .before .before .before .before .before .before .before .before .before .before .before .before .before .before .before .before .before .before .before .before .before .before .before .before .args .current) (c .before .before .before .before .before .before .before .before .before .before .before .before .before .before .before .before .before .before .before .before .before .before .before .before .before .before .before .before .args .place) _ _ (c .before .before .before .before .before .before .before .before .before .before .before .before .before .before .before .before .before .before .before .before .before .before .before .before .before .before .before .before .pre .1 .0 .primed) (rw (c .before .before .before .c1 .given .1) at (c .before .before .before .before .before .before .before .before .before .before .before .before .before .before .before .pattern-match-inner .ensures)) (sym (c .before .is-check .ensures) ∙ c .if1 .taken)
 
-pub pattern-match-inner-requires-2 : (t : ℕ) → lts.Need-pattern-match-inner-requires-2 (calls t) (ors·alt-at t) ors·alt.Post
+pub pattern-match-inner-requires-2 : (t : ℕ) → lts.Need-pattern-match-inner-requires-2 (calls t) (sub·alt-at t) sub·alt.Post
 pattern-match-inner-requires-2 t c κs = (omega (arith, c .before .before .before .before .before .before .before .before .before .before .before .before .before .before .before .before .before .before .before .before .before .before .before .before .before .before .before .before .before .before .before .before .before .pre .0), (walkable-sure (walkable-after (c .before .before .before .before .before .before .before .before .before .before .before .before .before .before .before .before .before .before .before .before .before .before .before .before .before .before .before .before .before .before .before .before .before .pre .1 .0) (c .before .before .before .before .before .before .before .before .before .before .before .before .before .before .before .before .before .before .before .before .pattern-match-inner .kept .1 .1 .1 .1 .1 .1 .1 .0) (rw (c .before .before .before .before .before .before .before .before .c1 .given .1) at (c .before .before .before .before .before .before .before .before .before .before .before .before .before .before .before .before .before .before .before .before .pattern-match-inner .ensures))), (c .before .before .before .before .before .before .before .before .before .before .before .before .before .before .before .before .before .before .before .before .before .before .before .before .before .before .before .before .before .before .before .before .before .pre .1 .1)))
 
-pub enum-known-e-2 : (t : ℕ) → lts.Need-enum-known-e-2 (calls t) (ors·alt-at t) ors·alt.Post
+pub enum-known-e-2 : (t : ℕ) → lts.Need-enum-known-e-2 (calls t) (sub·alt-at t) sub·alt.Post
 enum-known-e-2 t c = search needs
 
-pub enum-known-c2 : (t : ℕ) → lts.Need-enum-known-c2 (calls t) (ors·alt-at t) ors·alt.Post
+pub enum-known-c2 : (t : ℕ) → lts.Need-enum-known-c2 (calls t) (sub·alt-at t) sub·alt.Post
 enum-known-c2 t c = search needs
 
-pub same-length-6 : (t : ℕ) → lts.Need-same-length-6 (calls t) (ors·alt-at t) ors·alt.Post
+pub same-length-6 : (t : ℕ) → lts.Need-same-length-6 (calls t) (sub·alt-at t) sub·alt.Post
 same-length-6 t c = c .before .before .before .before .before .before .before .before .before .before .before .before .before .pattern-match-inner .kept .1 .1 .1 .0
 
-pub same-length-7 : (t : ℕ) → lts.Need-same-length-7 (calls t) (ors·alt-at t) ors·alt.Post
+pub same-length-7 : (t : ℕ) → lts.Need-same-length-7 (calls t) (sub·alt-at t) sub·alt.Post
 same-length-7 t c = c .before .before .before .before .before .before .before .before .before .before .before .before .before .pattern-match-inner .kept .1 .1 .1 .1 .0
 
-pub same-length-8 : (t : ℕ) → lts.Need-same-length-8 (calls t) (ors·alt-at t) ors·alt.Post
+pub same-length-8 : (t : ℕ) → lts.Need-same-length-8 (calls t) (sub·alt-at t) sub·alt.Post
 same-length-8 t c = c .before .before .before .before .before .before .before .before .before .before .before .before .before .pattern-match-inner .kept .1 .1 .1 .1 .1 .0
 
-pub same-length-9 : (t : ℕ) → lts.Need-same-length-9 (calls t) (ors·alt-at t) ors·alt.Post
+pub same-length-9 : (t : ℕ) → lts.Need-same-length-9 (calls t) (sub·alt-at t) sub·alt.Post
 same-length-9 t c = c .before .before .before .before .before .before .before .before .before .before .before .before .before .pattern-match-inner .kept .1 .1 .1 .1 .1 .1 .0
 
-pub same-length-10 : (t : ℕ) → lts.Need-same-length-10 (calls t) (ors·alt-at t) ors·alt.Post
+pub same-length-10 : (t : ℕ) → lts.Need-same-length-10 (calls t) (sub·alt-at t) sub·alt.Post
 same-length-10 t c = c .before .before .before .before .before .before .before .before .before .before .before .before .before .pattern-match-inner .kept .1 .1 .1 .1 .1 .1 .1 .0
 
-pub returns-2 : (t : ℕ) → lts.Need-returns-2 (calls t) (ors·alt-at t) ors·alt.Post
+pub returns-2 : (t : ℕ) → lts.Need-returns-2 (calls t) (sub·alt-at t) sub·alt.Post
 returns-2 t c = alternative-stops (patternMatchInner (c .before .before .before .before .before .before .before .before .before .before .before .before .before .before .before .before .before .before .before .before .before .before .before .before .before .before .args .image .now) (c .before .before .before .before .before .before .before .before .before .before .before .before .before .before .before .before .before .before .before .before .before .before .before .before .before .before .args .bindings .now) (tree (c .before .before .before .before .before .before .before .before .before .before .before .before .before .before .before .before .before .before .before .before .before .before .before .before .before .before .args .image .now) (c .before .before .before .before .before .before .before .before .before .before .before .before .before .before .before .before .before .before .before .before .before .before .before .before .before .before .args .q .0))) (c .before .before .before .before .before .before .before .before .before .before .before .before .before .before .before .before .before .before .before .before .before .before .before .before .before .before .args .mode) (c .before .before .before .before .before .before .before .before .before .before .before .before .before .before .before .before .before .before .before .before .before .before .before .before .before .before .args .counts) (c .before .before .before .before .before .before .before .before .before .before .before .before .before .before .before .before .before .before .before .before .before .before .before .before .before .before .args .discr) (c .before .before .before .before .before .before .before .before .before .before .before .before .before .before .before .before .before .before .before .before .before .before .before .before .before .before .args .current) (c .before .before .before .before .before .before .before .before .before .before .before .before .before .before .before .before .before .before .before .before .before .before .before .before .before .before .args .place) _ _ (rw (c .before .e .given .1) at (c .before .before .before .before .before .before .before .before .before .before .before .before .before .pattern-match-inner .ensures))
 
-pub same-length-11 : (t : ℕ) → lts.Need-same-length-11 (calls t) (ors·alt-at t) ors·alt.Post
+pub same-length-11 : (t : ℕ) → lts.Need-same-length-11 (calls t) (sub·alt-at t) sub·alt.Post
 same-length-11 t c = c .before .before .before .before .before .before .before .before .before .before .before .before .before .pattern-match-inner2 .kept .1 .1 .1 .0 ∙ c .before .before .before .before .before .before .before .before .before .before .before .before .before .before .before .before .before .before .before .before .before .before .before .before .before .before .before .before .before .before .before .before .before .before .pattern-match-inner .kept .1 .1 .1 .0
 
-pub same-length-12 : (t : ℕ) → lts.Need-same-length-12 (calls t) (ors·alt-at t) ors·alt.Post
+pub same-length-12 : (t : ℕ) → lts.Need-same-length-12 (calls t) (sub·alt-at t) sub·alt.Post
 same-length-12 t c = c .before .before .before .before .before .before .before .before .before .before .before .before .before .pattern-match-inner2 .kept .1 .1 .1 .1 .0 ∙ c .before .before .before .before .before .before .before .before .before .before .before .before .before .before .before .before .before .before .before .before .before .before .before .before .before .before .before .before .before .before .before .before .before .before .pattern-match-inner .kept .1 .1 .1 .1 .0
 
-pub same-length-13 : (t : ℕ) → lts.Need-same-length-13 (calls t) (ors·alt-at t) ors·alt.Post
+pub same-length-13 : (t : ℕ) → lts.Need-same-length-13 (calls t) (sub·alt-at t) sub·alt.Post
 same-length-13 t c = c .before .before .before .before .before .before .before .before .before .before .before .before .before .pattern-match-inner2 .kept .1 .1 .1 .1 .1 .0 ∙ c .before .before .before .before .before .before .before .before .before .before .before .before .before .before .before .before .before .before .before .before .before .before .before .before .before .before .before .before .before .before .before .before .before .before .pattern-match-inner .kept .1 .1 .1 .1 .1 .0
 
-pub same-length-14 : (t : ℕ) → lts.Need-same-length-14 (calls t) (ors·alt-at t) ors·alt.Post
+pub same-length-14 : (t : ℕ) → lts.Need-same-length-14 (calls t) (sub·alt-at t) sub·alt.Post
 same-length-14 t c = c .before .before .before .before .before .before .before .before .before .before .before .before .before .pattern-match-inner2 .kept .1 .1 .1 .1 .1 .1 .0 ∙ c .before .before .before .before .before .before .before .before .before .before .before .before .before .before .before .before .before .before .before .before .before .before .before .before .before .before .before .before .before .before .before .before .before .before .pattern-match-inner .kept .1 .1 .1 .1 .1 .1 .0
 
-pub same-length-15 : (t : ℕ) → lts.Need-same-length-15 (calls t) (ors·alt-at t) ors·alt.Post
+pub same-length-15 : (t : ℕ) → lts.Need-same-length-15 (calls t) (sub·alt-at t) sub·alt.Post
 same-length-15 t c = c .before .before .before .before .before .before .before .before .before .before .before .before .before .pattern-match-inner2 .kept .1 .1 .1 .1 .1 .1 .1 .0 ∙ c .before .before .before .before .before .before .before .before .before .before .before .before .before .before .before .before .before .before .before .before .before .before .before .before .before .before .before .before .before .before .before .before .before .before .pattern-match-inner .kept .1 .1 .1 .1 .1 .1 .1 .0
 
-pub returns-3 : (t : ℕ) → lts.Need-returns-3 (calls t) (ors·alt-at t) ors·alt.Post
+pub returns-3 : (t : ℕ) → lts.Need-returns-3 (calls t) (sub·alt-at t) sub·alt.Post
 returns-3 t c = alternative-again-stops (patternMatchInner (c .before .before .before .before .before .before .before .before .before .before .before .before .before .before .before .before .before .before .before .before .before .before .before .before .before .before .before .before .before .before .before .before .before .before .before .before .before .before .before .before .before .before .before .before .before .before .before .args .image .now) (c .before .before .before .before .before .before .before .before .before .before .before .before .before .before .before .before .before .before .before .before .before .before .before .before .before .before .before .before .before .before .before .before .before .before .before .before .before .before .before .before .before .before .before .before .before .before .before .args .bindings .now) (tree (c .before .before .before .before .before .before .before .before .before .before .before .before .before .before .before .before .before .before .before .before .before .before .before .before .before .before .before .before .before .before .before .before .before .before .before .before .before .before .before .before .before .before .before .before .before .before .before .args .image .now) (c .before .before .before .before .before .before .before .before .before .before .before .before .before .before .before .before .before .before .before .before .before .before .before .before .before .before .before .before .before .before .before .before .before .before .before .before .before .before .before .before .before .before .before .before .before .before .before .args .q .0))) (c .before .before .before .before .before .before .before .before .before .before .before .before .before .before .before .before .before .before .before .before .before .before .before .before .before .before .before .before .before .before .before .before .before .before .before .before .before .before .before .before .before .before .before .before .before .before .before .args .mode) (c .before .before .before .before .before .before .before .before .before .before .before .before .before .before .before .before .before .before .before .before .before .before .before .before .before .before .before .before .before .before .before .before .before .before .before .before .before .before .before .before .before .before .before .before .before .before .before .args .counts) (c .before .before .before .before .before .before .before .before .before .before .before .before .before .before .before .before .before .before .before .before .before .before .before .before .before .before .before .before .before .before .before .before .before .before .before .before .before .before .before .before .before .before .before .before .before .before .before .args .discr) (c .before .before .before .before .before .before .before .before .before .before .before .before .before .before .before .before .before .before .before .before .before .before .before .before .before .before .before .before .before .before .before .before .before .before .before .before .before .before .before .before .before .before .before .before .before .before .before .args .current) (c .before .before .before .before .before .before .before .before .before .before .before .before .before .before .before .before .before .before .before .before .before .before .before .before .before .before .before .before .before .before .before .before .before .before .before .before .before .before .before .before .before .before .before .before .before .before .before .args .place) _ _ (c .before .before .before .before .before .before .before .before .before .before .before .before .before .before .before .before .before .before .before .before .before .before .before .before .before .before .before .before .before .before .before .before .before .before .before .before .before .before .before .before .before .before .before .before .before .before .before .pre .1 .0 .primed) (rw (c .before .before .before .before .before .before .before .before .before .before .before .before .before .before .before .before .before .before .before .before .before .before .c1 .given .1) at (c .before .before .before .before .before .before .before .before .before .before .before .before .before .before .before .before .before .before .before .before .before .before .before .before .before .before .before .before .before .before .before .before .before .before .pattern-match-inner .ensures)) (sym (c .before .before .before .before .before .before .before .before .before .before .before .before .before .before .before .before .before .before .before .before .is-check .ensures) ∙ c .before .before .before .before .before .before .before .before .before .before .before .before .before .before .before .before .before .before .before .if1 .left) (rw (c .before .e2 .given .1) at (c .before .before .before .before .before .before .before .before .before .before .before .before .before .pattern-match-inner2 .ensures))
 
-pub same-length-16 : (t : ℕ) → lts.Need-same-length-16 (calls t) (ors·alt-at t) ors·alt.Post
+pub same-length-16 : (t : ℕ) → lts.Need-same-length-16 (calls t) (sub·alt-at t) sub·alt.Post
 same-length-16 t c = c .before .before .before .before .before .before .before .before .before .before .before .before .before .pattern-match-inner2 .kept .1 .1 .1 .0 ∙ c .before .before .before .before .before .before .before .before .before .before .before .before .before .before .before .before .before .before .before .before .before .before .before .before .before .before .before .before .before .before .before .before .before .before .pattern-match-inner .kept .1 .1 .1 .0
 
-pub same-length-17 : (t : ℕ) → lts.Need-same-length-17 (calls t) (ors·alt-at t) ors·alt.Post
+pub same-length-17 : (t : ℕ) → lts.Need-same-length-17 (calls t) (sub·alt-at t) sub·alt.Post
 same-length-17 t c = c .before .before .before .before .before .before .before .before .before .before .before .before .before .pattern-match-inner2 .kept .1 .1 .1 .1 .0 ∙ c .before .before .before .before .before .before .before .before .before .before .before .before .before .before .before .before .before .before .before .before .before .before .before .before .before .before .before .before .before .before .before .before .before .before .pattern-match-inner .kept .1 .1 .1 .1 .0
 
-pub same-length-18 : (t : ℕ) → lts.Need-same-length-18 (calls t) (ors·alt-at t) ors·alt.Post
+pub same-length-18 : (t : ℕ) → lts.Need-same-length-18 (calls t) (sub·alt-at t) sub·alt.Post
 same-length-18 t c = c .before .before .before .before .before .before .before .before .before .before .before .before .before .pattern-match-inner2 .kept .1 .1 .1 .1 .1 .0 ∙ c .before .before .before .before .before .before .before .before .before .before .before .before .before .before .before .before .before .before .before .before .before .before .before .before .before .before .before .before .before .before .before .before .before .before .pattern-match-inner .kept .1 .1 .1 .1 .1 .0
 
-pub same-length-19 : (t : ℕ) → lts.Need-same-length-19 (calls t) (ors·alt-at t) ors·alt.Post
+pub same-length-19 : (t : ℕ) → lts.Need-same-length-19 (calls t) (sub·alt-at t) sub·alt.Post
 same-length-19 t c = c .before .before .before .before .before .before .before .before .before .before .before .before .before .pattern-match-inner2 .kept .1 .1 .1 .1 .1 .1 .0 ∙ c .before .before .before .before .before .before .before .before .before .before .before .before .before .before .before .before .before .before .before .before .before .before .before .before .before .before .before .before .before .before .before .before .before .before .pattern-match-inner .kept .1 .1 .1 .1 .1 .1 .0
 
-pub same-length-20 : (t : ℕ) → lts.Need-same-length-20 (calls t) (ors·alt-at t) ors·alt.Post
+pub same-length-20 : (t : ℕ) → lts.Need-same-length-20 (calls t) (sub·alt-at t) sub·alt.Post
 same-length-20 t c = c .before .before .before .before .before .before .before .before .before .before .before .before .before .pattern-match-inner2 .kept .1 .1 .1 .1 .1 .1 .1 .0 ∙ c .before .before .before .before .before .before .before .before .before .before .before .before .before .before .before .before .before .before .before .before .before .before .before .before .before .before .before .before .before .before .before .before .before .before .pattern-match-inner .kept .1 .1 .1 .1 .1 .1 .1 .0
 
-pub returns-4 : (t : ℕ) → lts.Need-returns-4 (calls t) (ors·alt-at t) ors·alt.Post
+pub returns-4 : (t : ℕ) → lts.Need-returns-4 (calls t) (sub·alt-at t) sub·alt.Post
 returns-4 t c = alternative-again (patternMatchInner (c .before .before .before .before .before .before .before .before .before .before .before .before .before .before .before .before .before .before .before .before .before .before .before .before .before .before .before .before .before .before .before .before .before .before .before .before .before .before .before .before .before .before .before .before .before .before .before .args .image .now) (c .before .before .before .before .before .before .before .before .before .before .before .before .before .before .before .before .before .before .before .before .before .before .before .before .before .before .before .before .before .before .before .before .before .before .before .before .before .before .before .before .before .before .before .before .before .before .before .args .bindings .now) (tree (c .before .before .before .before .before .before .before .before .before .before .before .before .before .before .before .before .before .before .before .before .before .before .before .before .before .before .before .before .before .before .before .before .before .before .before .before .before .before .before .before .before .before .before .before .before .before .before .args .image .now) (c .before .before .before .before .before .before .before .before .before .before .before .before .before .before .before .before .before .before .before .before .before .before .before .before .before .before .before .before .before .before .before .before .before .before .before .before .before .before .before .before .before .before .before .before .before .before .before .args .q .0))) (c .before .before .before .before .before .before .before .before .before .before .before .before .before .before .before .before .before .before .before .before .before .before .before .before .before .before .before .before .before .before .before .before .before .before .before .before .before .before .before .before .before .before .before .before .before .before .before .args .mode) (c .before .before .before .before .before .before .before .before .before .before .before .before .before .before .before .before .before .before .before .before .before .before .before .before .before .before .before .before .before .before .before .before .before .before .before .before .before .before .before .before .before .before .before .before .before .before .before .args .counts) (c .before .before .before .before .before .before .before .before .before .before .before .before .before .before .before .before .before .before .before .before .before .before .before .before .before .before .before .before .before .before .before .before .before .before .before .before .before .before .before .before .before .before .before .before .before .before .before .args .discr) (c .before .before .before .before .before .before .before .before .before .before .before .before .before .before .before .before .before .before .before .before .before .before .before .before .before .before .before .before .before .before .before .before .before .before .before .before .before .before .before .before .before .before .before .before .before .before .before .args .current) (c .before .before .before .before .before .before .before .before .before .before .before .before .before .before .before .before .before .before .before .before .before .before .before .before .before .before .before .before .before .before .before .before .before .before .before .before .before .before .before .before .before .before .before .before .before .before .before .args .place) _ _ (c .before .before .before .before .before .before .before .before .before .before .before .before .before .before .before .before .before .before .before .before .before .before .before .before .before .before .before .before .before .before .before .before .before .before .before .before .before .before .before .before .before .before .before .before .before .before .before .pre .1 .0 .primed) (rw (c .before .before .before .before .before .before .before .before .before .before .before .before .before .before .before .before .before .before .before .before .before .before .c1 .given .1) at (c .before .before .before .before .before .before .before .before .before .before .before .before .before .before .before .before .before .before .before .before .before .before .before .before .before .before .before .before .before .before .before .before .before .before .pattern-match-inner .ensures)) (sym (c .before .before .before .before .before .before .before .before .before .before .before .before .before .before .before .before .before .before .before .before .is-check .ensures) ∙ c .before .before .before .before .before .before .before .before .before .before .before .before .before .before .before .before .before .before .before .if1 .left) (rw (c .before .c2 .given .1) at (c .before .before .before .before .before .before .before .before .before .before .before .before .before .pattern-match-inner2 .ensures))
