@@ -1,0 +1,177 @@
+// The public calls on patterns: every image, body and number is taken, or refused by document 01's number. Numbers 1 and 2 write nothing; any other refusal leaves
+// what lies below the counts as found, and zeros above.
+pub mod steps; // steps.rt: the calls' own steps, on an image, a body and numbers that were looked at
+
+use handed::match_holds;
+use handed::self_holds;
+use image::BindingId;
+use image::PatId;
+use lower::merging::OptBlock;
+use lower::temps::DiscrTemp;
+use lower_calls::opening::Opened;
+use lower_calls::opening::open;
+use match_calls::MatchCall;
+use mir::BasicBlockId;
+use mir::Counts;
+use place::LocalId;
+use place::Place;
+use steps::assignment_step;
+use steps::match_step;
+use steps::self_step;
+ghost use Rattle.state.specs.State.{body};
+ghost use Rattle.match_calls.specs.Calls.{patternMatchCall, patternMatchAssignmentCall, matchSelfParamCall, Gives, Visits};
+
+// The pattern p, tested and then bound from the block `current` on, against what lies at a place. `visits` counts how often each pattern was visited.
+pub fn pattern_match(
+    image: &[u8],
+    bindings: &[u16],
+    blocks: &mut [u16],
+    statements: &mut [u16],
+    locals: &mut [u16],
+    scopes: &mut [u16],
+    entries: &mut [u16],
+    visits: &mut [u16],
+    counts: Counts,
+    discr: DiscrTemp,
+    p: PatId,
+    current: BasicBlockId,
+    els: OptBlock,
+    place: Place,
+) -> MatchCall
+    ensures { λ r. ⌜ Visits (body (now (blocks .entry)) (now (statements .entry)) (now (locals .entry)) (now (scopes .entry)) (now (entries .entry))) (now (visits .entry)) counts (patternMatchCall (now (image .entry)) (now (bindings .entry)) (body (now (blocks .entry)) (now (statements .entry)) (now (locals .entry)) (now (scopes .entry)) (now (entries .entry))) (now (visits .entry)) counts discr (p .0) current els place) r (body (now (blocks .exit)) (now (statements .exit)) (now (locals .exit)) (now (scopes .exit)) (now (entries .exit))) (now (visits .exit)) ⌝ }
+{
+    match open(image, blocks, statements, locals, scopes, entries, counts) {
+        Opened::BadImage => MatchCall::BadImage,
+        Opened::BadCall => MatchCall::BadCall,
+        Opened::Image(tables) => {
+            if !match_holds(
+                tables,
+                bindings,
+                blocks,
+                visits,
+                counts,
+                discr,
+                p,
+                current,
+                els,
+                place,
+            ) {
+                return MatchCall::BadCall;
+            }
+            match_step(
+                image,
+                tables,
+                bindings,
+                blocks,
+                statements,
+                locals,
+                scopes,
+                entries,
+                visits,
+                counts,
+                discr,
+                p,
+                current,
+                els,
+                place,
+            )
+        }
+    }
+}
+
+// The pattern p, whose paths to locals are assigned to from the block `current` on, what lies at a place.
+pub fn pattern_match_assignment(
+    image: &[u8],
+    bindings: &[u16],
+    blocks: &mut [u16],
+    statements: &mut [u16],
+    locals: &mut [u16],
+    scopes: &mut [u16],
+    entries: &mut [u16],
+    visits: &mut [u16],
+    counts: Counts,
+    discr: DiscrTemp,
+    p: PatId,
+    current: BasicBlockId,
+    place: Place,
+) -> MatchCall
+    ensures { λ r. ⌜ Visits (body (now (blocks .entry)) (now (statements .entry)) (now (locals .entry)) (now (scopes .entry)) (now (entries .entry))) (now (visits .entry)) counts (patternMatchAssignmentCall (now (image .entry)) (now (bindings .entry)) (body (now (blocks .entry)) (now (statements .entry)) (now (locals .entry)) (now (scopes .entry)) (now (entries .entry))) (now (visits .entry)) counts discr (p .0) current place) r (body (now (blocks .exit)) (now (statements .exit)) (now (locals .exit)) (now (scopes .exit)) (now (entries .exit))) (now (visits .exit)) ⌝ }
+{
+    match open(image, blocks, statements, locals, scopes, entries, counts) {
+        Opened::BadImage => MatchCall::BadImage,
+        Opened::BadCall => MatchCall::BadCall,
+        Opened::Image(tables) => {
+            if !match_holds(
+                tables,
+                bindings,
+                blocks,
+                visits,
+                counts,
+                discr,
+                p,
+                current,
+                OptBlock::None,
+                place,
+            ) {
+                return MatchCall::BadCall;
+            }
+            assignment_step(
+                image,
+                tables,
+                bindings,
+                blocks,
+                statements,
+                locals,
+                scopes,
+                entries,
+                visits,
+                counts,
+                discr,
+                p,
+                current,
+                place,
+            )
+        }
+    }
+}
+
+// The binding b is filled with a copy of the local l at the end of the block `current`.
+pub fn match_self_param(
+    image: &[u8],
+    bindings: &[u16],
+    blocks: &mut [u16],
+    statements: &mut [u16],
+    locals: &mut [u16],
+    scopes: &mut [u16],
+    entries: &mut [u16],
+    counts: Counts,
+    b: BindingId,
+    current: BasicBlockId,
+    l: LocalId,
+) -> MatchCall
+    ensures { λ r. ⌜ Gives (body (now (blocks .entry)) (now (statements .entry)) (now (locals .entry)) (now (scopes .entry)) (now (entries .entry))) counts (matchSelfParamCall (now (image .entry)) (now (bindings .entry)) (body (now (blocks .entry)) (now (statements .entry)) (now (locals .entry)) (now (scopes .entry)) (now (entries .entry))) counts (b .0) current l) r (body (now (blocks .exit)) (now (statements .exit)) (now (locals .exit)) (now (scopes .exit)) (now (entries .exit))) ⌝ }
+{
+    match open(image, blocks, statements, locals, scopes, entries, counts) {
+        Opened::BadImage => MatchCall::BadImage,
+        Opened::BadCall => MatchCall::BadCall,
+        Opened::Image(tables) => {
+            if !self_holds(tables, bindings, blocks, counts, b, current, l) {
+                return MatchCall::BadCall;
+            }
+            self_step(
+                image,
+                tables,
+                bindings,
+                blocks,
+                statements,
+                locals,
+                scopes,
+                entries,
+                counts,
+                b,
+                current,
+                l,
+            )
+        }
+    }
+}
