@@ -1,0 +1,6 @@
+mod Walked
+mod Given
+mod Visited
+pub mod Bodies
+pub mod Runs
+pub mod Refusals
