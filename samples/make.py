@@ -1,4 +1,4 @@
-"""Writes the samples and the stored lists of images and of calls.
+"""Writes the samples and the stored lists of images, of calls and of listings.
 
 `python3 samples/make.py` writes every file; `python3 samples/make.py --check`
 writes none, and fails if a file is not what it would write.
@@ -13,6 +13,8 @@ from call_list import call_files
 from chance import chance_cases
 from faults import fault_cases
 from images import RULES, broken, read_counts
+from listing_list import listing_files
+from lowering import listing
 from readable import sample_files
 from whole import valid_images
 
@@ -20,7 +22,7 @@ ROOT = Path(__file__).resolve().parent.parent
 REFUSED = "refused 1 65535 0"
 # From so many zero bytes at its end on, an image is stored without them.
 LONG_ZEROS = 64
-LARGEST_FILE = 400_000
+LARGEST_FILE = 1_000_000
 
 README = """# Sample images
 
@@ -61,9 +63,21 @@ Written from document 01 and the Rust alone, not from the definitions:
   prints the listing of an image. `builder.py` holds what lower.rs and mir.rs give it.
 - `corners.py`: checks document 01's corners, which are in `accepted.py` and
   `refusals.py`. `python3 samples/corners.py` prints each with its listing's first line.
+- `params.py`: the same for lists of parameters, and document 01's corners on them. With
+  `-` it answers the harness's calls.
 - `counts.py`: visits, blocks and statements counted from the tree. `python3
   samples/counts.py N` compares them with lowerings of N random images of each sort.
 - `typed_chance.py`: random images whose patterns follow their types.
+- `listing_list.py`: the stored list of images with their listings, `crates/replay_listings`:
+  the samples, the corners, the largest images, random ones from a fixed seed, and those of
+  `harness_images.txt`. An entry is as in `crates/replay_images`, and
+  `crates/replay_listings/stdout` has what is printed for each, one behind the other.
+  `listings.txt` has for each its number from 1, its name, and the first line that is
+  printed. `crates/listing/stdin` is `enum_fields.img`.
+- `harness_images.txt`: images of every sort that the harness makes, each answer among them.
+  `harness/run images` wrote it from the harness's generators, which `make.py` does not run;
+  the answers in the stored list are those of `lowering.py`, and the harness's quick run
+  compares them with the Rust's.
 
 ## Calls
 
@@ -150,6 +164,9 @@ def all_files():
         f"{number} {name} {' '.join(rules) or 'valid'}\n"
         for number, (name, _, _, rules) in enumerate(cases, 1)).encode()
     files.update(call_files())
+    files.update(listing_files(stored))
+    files["crates/listing/stdin"] = sample
+    files["crates/listing/stdout"] = listing(sample).encode()
     assert all(len(content) < LARGEST_FILE for content in files.values())
     return files
 

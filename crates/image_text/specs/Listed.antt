@@ -1,0 +1,64 @@
+-- What the listing program prints for an image. Assumes nothing: these are definitions.
+use Prim.Native.Nat.{ℕ, _≤_}
+use mathlib.Core.Path.{_≡_}
+use mathlib.Core.Bool.{cond}
+use mathlib.Core.Option.{Option, none, some}
+use mathlib.Core.List.{List, []}
+use lib.ListN.{length, take}
+use Rattle.row_tables.specs.Rows.{zeros}
+use Rattle.refusals.specs.Refusals.{breaksARule, namesNothing, refusalAt}
+use Rattle.image.specs.Valid.{valid}
+use Rattle.state.specs.State.{body, decode, encode, countsOf}
+use Rattle.lower.specs.declared.temps.DiscrTemp.{DiscrTemp}
+use Rattle.lower.specs.declared.merging.OptBlock.{OptBlock}
+use Rattle.views.specs.Views.{mirOf}
+use Rattle.listing_text.specs.Listing.{listing, refusalText}
+use Rattle.pattern_matching.specs.Walking.{Out, Walk, ok, refused, localPlace}
+use Rattle.match_calls.specs.declared.MatchCall.{MatchCall}
+use Rattle.match_calls.specs.Calls.{Called, badImage, badCall, walked, patternMatchCall}
+use Rattle.listing_start.specs.Started.{lastPattern, startType, startState, bindingLocals}
+
+-- the call of `pattern_match`: from block 0, with no else, on local 0 of the type t
+unfoldable pub listingCall : List ℕ → ℕ → Called
+listingCall image t =
+    patternMatchCall image (bindingLocals image) (encode (startState image t)) (zeros 512) (countsOf (startState image t)) DiscrTemp.None (lastPattern image)
+    (record { 0 = 0 }) OptBlock.None (localPlace (record { 0 = 0 }))
+
+-- the text of what the call gives: the listing, or the refusal
+unfoldable pub walkText : Walk Out → List ℕ
+walkText (ok r) = listing (r .then) (r .else) (mirOf (r .ctx .state))
+walkText (refused e p) = refusalText (refusalAt e p)
+
+unfoldable pub callText : Called → List ℕ
+callText badImage = refusalText breaksARule
+callText badCall = refusalText namesNothing
+callText (walked w) = walkText w
+
+-- "(2 if none)"
+unfoldable pub typedText : List ℕ → Option ℕ → List ℕ
+typedText image none = refusalText namesNothing
+typedText image (some t) = callText (listingCall image t)
+
+-- what is printed for an image
+unfoldable pub imageText : List ℕ → List ℕ
+imageText image = cond (valid image) (typedText image (startType image)) (refusalText breaksARule)
+
+-- the text of an answer, where the tables of blocks, statements and locals are these
+unfoldable pub answerText : List ℕ → List ℕ → List ℕ → MatchCall → List ℕ
+answerText blocks statements locals (MatchCall.Matched c discr then els) = listing then els (mirOf (decode (body blocks statements locals [] []) c))
+answerText blocks statements locals (MatchCall.Refused e p) = refusalText (refusalAt e (p .0))
+answerText blocks statements locals MatchCall.BadCall = refusalText namesNothing
+answerText blocks statements locals MatchCall.BadImage = refusalText breaksARule
+
+-- the tables of an accepted call can be listed: they have their sizes, and the counts are within the limits
+abbrev pub Listable : List ℕ → List ℕ → List ℕ → MatchCall → Type 0
+Listable blocks statements locals (MatchCall.Matched c discr then els) =
+    (length blocks ≡ 6144) × (length statements ≡ 50176) × (length locals ≡ 512) × (c .blocks ≤ 512) × (c .statements ≤ 1024) × (c .locals ≤ 512)
+Listable blocks statements locals (MatchCall.Refused e p) = Unit
+Listable blocks statements locals MatchCall.BadCall = Unit
+Listable blocks statements locals MatchCall.BadImage = Unit
+
+-- a text stands at the start of a buffer, and r says how many bytes it has, if there was room for it: `before` lies in the buffer before, and `after` after
+pub record Printed (before text : List ℕ) (r : ℕ) (after : List ℕ) : Type 0 where
+  pub within : r ≤ length before
+  pub stands : length text ≤ length before → (r ≡ length text) × (take r after ≡ text)

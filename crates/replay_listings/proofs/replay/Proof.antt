@@ -1,0 +1,33 @@
+use Rattle.replay_listings.proofs.replay.Statement.{statement}
+use Rattle.replay_listings.proofs.replay.Tie as tie
+use Rattle.replay_listings.proofs.replay.Reads as reads
+use Rattle.replay_listings.proofs.replay.Lts as lts
+use Rattle.replay_listings.proofs.next.Reads as next-reads
+use mathlib.Core.Path.{_≡_, refl, _∙_}
+use native.Mathlib.Omega.{arith}
+use lib.ListN.{length}
+use borrow.Author.Needs.{needs}
+
+abbrev Inv-loop : tie.InvT-loop
+Inv-loop buffer₀ out₀ turns₀ buffer out turns = (length buffer ≡ length buffer₀) × (length out ≡ length out₀)
+
+abbrev μ-loop : tie.MeasureT-loop
+μ-loop buffer₀ out₀ turns₀ buffer out turns = turns
+
+pub replay-spec : {M : Type 1} → statement M
+replay-spec =
+    tie.close
+    (tie.spec
+    Inv-loop
+    μ-loop
+    (λ c. search needs)
+    (λ c κs. search needs)
+    (λ c. search needs)
+    (λ c. search needs)
+    (λ c. search needs)
+    (λ c. search needs)
+    (λ c. search needs)
+    (λ c. search needs)
+    (λ c. search needs)
+    (λ c. search needs)
+    (λ c. search needs))
