@@ -41,7 +41,7 @@ pub fn tuple_fields(image: &[u8], tables: Tables, t: u16) -> Fields
 }
 
 // The ADT t has the variant v.
-fn has_variant(image: &[u8], tables: Tables, t: u16, v: u16) -> bool
+pub fn has_variant(image: &[u8], tables: Tables, t: u16, v: u16) -> bool
     requires { ⌜ (valid (now image) ≡ true) × Whole (now image) tables × (t < typeCount (now image)) ⌝ }
     ensures { λ r. ⌜ r ≡ member v (variantsOf (tyOf (now (image .entry)) t .shape)) ⌝ }
 {

@@ -1,0 +1,4 @@
+pub mod Failing
+pub mod Taking
+pub mod Answers
+pub mod Rows
