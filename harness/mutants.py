@@ -1,8 +1,8 @@
 #!/usr/bin/env python3
-"""Does the comparison find errors? Changes samples/lowering.py or builder.py in one place, and compares.
+"""Does the comparison find errors? Changes samples/lowering.py, builder.py or params.py in one place, and compares.
 
-`mutants.py` prints a line for each change, with how many images differ; it fails if a change is not
-found. The harness must be built.
+`mutants.py [FILE..]` prints a line for each change, with how many images or calls differ; it fails if a
+change is not found. FILEs choose changes. The harness must be built.
 """
 
 import shutil
@@ -16,6 +16,13 @@ COMPARE = HERE / "target/release/compare"
 # These changes are seen by pattern_match_assignment alone: in Check the pattern was refused.
 ASSIGNED = {"an unresolved path is refused in Check alone",
             "a literal of kind 8 or 10 is refused in Check alone"}
+
+# These changes of params.py are seen in a setting alone: the judge's words, and the options.
+SETTINGS = {"a local more for parameters": ("locals 511", ("--locals", "511")),
+            "a local more for bindings": ("locals 447", ("--locals", "447")),
+            "no scope is asked for before the limit of locals": ("locals 512", ("--locals", "512")),
+            "locals leave first first": ("drop", ("--after", "drop")),
+            "a popped scope stays": ("pop", ("--after", "pop"))}
 
 # What is changed: a name, the file, the text, and what it becomes.
 CHANGES = (
@@ -131,6 +138,73 @@ CHANGES = (
 )
 
 
+# Changes of the judge of parameters.
+PARAMETERS = (
+    ("a refutable parameter's else is left open", 'params.py',
+     '        if other is not None:\n'
+     '            self.end(other, "unreachable")\n',
+     ''),
+    ("`ref x` is the parameter's own local", 'params.py',
+     'annotation in (UNANNOTATED, MUTABLE)', 'annotation in (UNANNOTATED, MUTABLE, ANNOTATED)'),
+    ("`mut x` has a local of its own", 'params.py',
+     'annotation in (UNANNOTATED, MUTABLE)', 'annotation == UNANNOTATED'),
+    ("`x @ ..` is the parameter's own local", 'params.py',
+     'kind == BIND and item == ABSENT and', 'kind == BIND and'),
+    ("a parameter's local is missing from its scope", 'params.py',
+     '        self.body.scopes[-1].append(local)\n', ''),
+    ("a binding that is not picked has a local", 'params.py',
+     'if picked == 1 and self.body', 'if self.body'),
+    ("the first of two parameters of one binding wins", 'params.py',
+     'annotation in (UNANNOTATED, MUTABLE):',
+     'annotation in (UNANNOTATED, MUTABLE) and self.body.binding_locals[binding] is None:'),
+    ("bindings' locals are made last first", 'params.py',
+     '        for binding, (type_, picked) in enumerate(self.m.bindings):',
+     '        for binding, (type_, picked) in reversed(list(enumerate(self.m.bindings))):'),
+    ("self is not copied into its binding's local", 'params.py',
+     '            if own != first:', '            if own != first and own is None:'),
+    ("self's local is not marked live", 'params.py',
+     '                self.live(own, current, ABSENT)\n', ''),
+    ("a Bind is lowered though its binding is the parameter's local", 'params.py',
+     'if kind == BIND and self.binding_local(binding, p) == local:',
+     'if kind == BIND and self.binding_local(binding, p) is None:'),
+    ("a parameter's binding is looked up where it has no subpattern alone", 'params.py',
+     'if kind == BIND and self.binding_local(binding, p) == local:',
+     'if kind == BIND and self.m.patterns[p][4] == ABSENT and self.binding_local(binding, p) == local:'),
+    ("Bind is skipped for parameters", 'params.py',
+     '            current, other = self.inner(current, other, place, p, BIND_MODE)\n', ''),
+    ("9 is reported without the parameter", 'params.py',
+     'self.binding_local(binding, p) == local', 'self.binding_local(binding, ABSENT) == local'),
+    ("64 parameters are too many", 'params.py', '// 2 <= MOST_PARAMS', '// 2 < MOST_PARAMS'),
+    ("65 parameters are taken", 'params.py', '// 2 <= MOST_PARAMS', '// 2 <= MOST_PARAMS + 1'),
+    ("an odd list is taken", 'params.py', 'len(words) % 2 == 0 and len(words)', 'len(words)'),
+    ("self that names nothing is refused by 1", 'params.py',
+     '        return None, (2, ABSENT, 0)', '        return None, (1, ABSENT, 0)'),
+    ("a local more for parameters", 'params.py',
+     '        if len(self.body.locals) == MOST_LOCALS:',
+     '        if len(self.body.locals) == MOST_LOCALS + 1:'),
+    ("a local more for bindings", 'params.py',
+     'self.body.binding_locals[binding] = self.new_local(type_)',
+     'self.body.locals.append(type_)\n'
+     '                self.body.binding_locals[binding] = len(self.body.locals) - 1'),
+    ("no scope is asked for before the limit of locals", 'params.py',
+     '        local = self.new_local(type_)\n'
+     '        if not self.body.scopes:\n'
+     '            raise Refused(14)\n',
+     '        if not self.body.scopes:\n'
+     '            raise Refused(14)\n'
+     '        local = self.new_local(type_)\n'),
+    ("no scope is needed", 'params.py',
+     '        if not self.body.scopes:\n'
+     '            raise Refused(14)\n'
+     '        if self.body.entries()',
+     '        if not self.body.scopes:\n'
+     '            self.body.scopes.append([])\n'
+     '        if self.body.entries()'),
+    ("locals leave first first", 'params.py', 'in reversed(entries):', 'in entries:'),
+    ("a popped scope stays", 'params.py', 'self.body.scopes.pop())', 'self.body.scopes[-1])'),
+)
+
+
 def changed_copy(folder, file, old, new):
     """A copy of the samples and of the judge in which one text is another."""
     shutil.copytree(HERE.parent / "samples", folder / "samples")
@@ -146,10 +220,13 @@ def found(name, file, old, new):
     """What the comparison says last of the changed copy, and whether it differs."""
     with tempfile.TemporaryDirectory() as folder:
         changed_copy(Path(folder), file, old, new)
-        judge, options = f"python3 {folder}/harness/judge.py", []
+        judge, call, options = f"python3 {folder}/harness/judge.py", "run", []
         if name in ASSIGNED:
             judge, options = f"{judge} assigns", ["--assigns"]
-        done = subprocess.run([COMPARE, "run", "--counts", "--other", judge, "--count", "300", *options],
+        if file == "params.py":
+            words, options = SETTINGS.get(name, ("visits", ("--visits",)))
+            judge, call = f"python3 {folder}/samples/params.py - {words}", "parameters"
+        done = subprocess.run([COMPARE, call, "--counts", "--other", judge, "--count", "300", *options],
                               capture_output=True, text=True, check=False)
     return done.stdout.rstrip().rsplit("\n", 1)[-1], done.returncode == 1
 
@@ -157,11 +234,12 @@ def found(name, file, old, new):
 def main():
     """Tries all changes."""
     missed = 0
-    for change in CHANGES:
+    changes = [change for change in CHANGES + PARAMETERS if change[1] in sys.argv[1:] or not sys.argv[1:]]
+    for change in changes:
         told, differs = found(*change)
         missed += not differs
         print(f"{change[0]}: {told}", flush=True)
-    print(f"{len(CHANGES)} changes, {missed} not found")
+    print(f"{len(changes)} changes, {missed} not found")
     return 1 if missed else 0
 
 

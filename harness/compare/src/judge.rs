@@ -1,7 +1,7 @@
 //! What an image must be answered with, by the reader for numbers 1 and 2 and by the published
 //! text for everything else; and whether an answer is that.
 
-use image::Tables;
+use image::{ABSENT, Tables};
 use published::{Answer, How, Outcome};
 
 /// What is expected of the other side, and by what it is counted.
@@ -31,14 +31,16 @@ pub fn expected(image: &[u8], how: How) -> Expected {
     of_outcome(&tables, published::lower(&tables, place_type, how))
 }
 
-fn text(sort: String, text: String) -> Expected {
+pub fn text(sort: String, text: String) -> Expected {
     Expected { sort, rule: Rule::Text(text) }
 }
 
-fn of_outcome(tables: &Tables, outcome: Outcome) -> Expected {
+/// What must be answered where the published text came to an outcome.
+pub fn of_outcome(tables: &Tables, outcome: Outcome) -> Expected {
     if let Some(entered) = outcome.trace.passed {
+        let patterns = entered.map_or(vec![ABSENT], |entered| with_those_above(tables, entered));
         let sort = "refused 11 (the Rust goes on)".to_owned();
-        return Expected { sort, rule: Rule::Limit(with_those_above(tables, entered)) };
+        return Expected { sort, rule: Rule::Limit(patterns) };
     }
     let line = |[number, pattern, reason]: [u16; 3]| format!("refused {number} {pattern} {reason}\n");
     match outcome.answer {

@@ -1,23 +1,13 @@
 //! Compares listings: the published Rust's, and another side's.
 
-mod calls;
-mod generate;
-mod judge;
-mod meaning;
-mod other;
-mod plan;
-mod read_tree;
-mod rng;
-mod run;
-mod shrink;
-mod tree;
-
 use std::path::PathBuf;
 use std::process::ExitCode;
 use std::{env, fs};
 
-use other::Other;
+use compare::other::Other;
+use compare::{calls, judge, meaning, parameters, plan, run, store};
 use published::How;
+use published::parameters::After;
 
 const USAGE: &str = "compare text             prints which published lines are compiled, all unchanged
 compare show FILE..      prints what the Rust answers for image files
@@ -30,10 +20,20 @@ compare run OPTIONS      compares with another side:
   --visits               the other side ends a listing with a line of visits
   --assigns              by pattern_match_assignment; the other side does the same
   --stored FILE          the images of a stored list too
+compare images           prints the images that are kept in the repository
 compare calls STDIN STDOUT  compares the lines of replay_calls for a list of scripts
+compare parameters OPTIONS  compares calls of lower_params_and_bindings with another side:
+  --other COMMAND, --count N, --seed N, --counts, --visits
+  --locals N             so many locals are there before; the other side does the same
+  --after drop|pop       drop_until_scope of scope 0, or pop_and_drop, comes after; the same
+  --stored FILE          the calls of a stored list too
 compare meaning OPTIONS  compares where listings lead values with what rustc says:
   --other COMMAND, --seed N
   --count N              so many files of 150 patterns, four values each";
+
+/// The images that are kept are chosen from so many of each sort, by chance from this seed.
+const KEPT_OF: usize = 1500;
+const KEPT_SEED: u64 = 1851;
 
 fn main() -> ExitCode {
     let arguments: Vec<String> = env::args().skip(1).collect();
@@ -43,9 +43,14 @@ fn main() -> ExitCode {
             ExitCode::SUCCESS
         }
         Some("show") => show(&arguments[1..]),
-        Some("run") => run(&Options::read(&arguments[1..])),
+        Some("run") => compared(&Options::read(&arguments[1..])),
+        Some("images") => {
+            print!("{}", store::text(plan::sources(KEPT_OF, KEPT_SEED, false)));
+            ExitCode::SUCCESS
+        }
         Some("calls") => replayed_calls(&arguments[1..]),
-        Some("meaning") => meaning(&Options::read(&arguments[1..])),
+        Some("parameters") => of_parameters(&Options::read(&arguments[1..])),
+        Some("meaning") => meant(&Options::read(&arguments[1..])),
         _ => {
             eprintln!("{USAGE}");
             ExitCode::from(2)
@@ -94,6 +99,8 @@ impl Options {
                 "--counts" => options.counts = true,
                 "--visits" => options.other.how.visits = true,
                 "--assigns" => options.other.how.assigns = true,
+                "--locals" => options.other.setting.locals = value().parse().expect("a number"),
+                "--after" => options.other.setting.after = after(value()),
                 other => panic!("no such option: {other}"),
             }
         }
@@ -101,17 +108,35 @@ impl Options {
     }
 }
 
+fn after(word: &str) -> After {
+    match word {
+        "drop" => After::DropUntilScope,
+        "pop" => After::PopAndDrop,
+        other => panic!("no such call: {other}"),
+    }
+}
+
 fn told(differing: usize) -> ExitCode {
     if differing == 0 { ExitCode::SUCCESS } else { ExitCode::FAILURE }
 }
 
-fn run(options: &Options) -> ExitCode {
+fn compared(options: &Options) -> ExitCode {
     let mut sources: Vec<_> = options.stored.iter().map(|path| plan::stored(path)).collect();
     sources.extend(plan::sources(options.count, options.seed, options.all));
     told(run::compare(sources, &options.other, options.counts))
 }
 
-fn meaning(options: &Options) -> ExitCode {
+fn of_parameters(options: &Options) -> ExitCode {
+    let mut sources = Vec::new();
+    for path in &options.stored {
+        let bytes = fs::read(path).unwrap_or_else(|error| panic!("{}: {error}", path.display()));
+        sources.push(plan::source("stored", parameters::read_list(&bytes).into_iter()));
+    }
+    sources.extend(parameters::sources(options.count, options.seed));
+    told(run::compare(sources, &options.other, options.counts))
+}
+
+fn meant(options: &Options) -> ExitCode {
     let settings = meaning::Settings { files: options.count, patterns: 150, seed: options.seed };
     told(meaning::compare(&settings, &options.other))
 }

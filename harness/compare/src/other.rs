@@ -1,12 +1,15 @@
 //! The other side: a program that reads a list of images on standard input, each as four
-//! big-endian bytes n, four big-endian bytes z and n bytes (z zeros follow in the image), and
-//! prints one listing or refusal after the other.
+//! big-endian bytes n, four big-endian bytes z and n bytes (z zeros follow in the image), or a list
+//! of calls, and prints one listing or refusal after the other.
 
 use std::io::{self, Write};
 use std::process::{Command, Stdio};
 use std::thread;
 
 use published::How;
+use published::parameters::Setting;
+
+use crate::run::Given;
 
 #[derive(Default)]
 pub struct Other {
@@ -14,6 +17,8 @@ pub struct Other {
     arguments: Vec<String>,
     /// How it lowers the last pattern.
     pub how: How,
+    /// How it lowers parameters.
+    pub setting: Setting,
 }
 
 impl Other {
@@ -24,14 +29,15 @@ impl Other {
         self.arguments = parts.collect();
     }
 
-    /// The answers to a chunk of images, in order.
-    pub fn answers(&self, images: &[Vec<u8>]) -> Vec<String> {
-        let printed = self.run(list_of(images)).unwrap_or_else(|error| {
+    /// The answers to a chunk of images or calls, in order.
+    pub fn answers<T: Given>(&self, given: &[T]) -> Vec<String> {
+        let list = given.iter().flat_map(Given::entry).collect();
+        let printed = self.run(list).unwrap_or_else(|error| {
             panic!("{} could not be run: {error}", self.program);
         });
         let answers = apart(&printed);
-        if answers.len() != images.len() {
-            panic!("{} answers to {} images", answers.len(), images.len());
+        if answers.len() != given.len() {
+            panic!("{} answers to {} {}", answers.len(), given.len(), T::NAME);
         }
         answers
     }
@@ -50,15 +56,13 @@ impl Other {
     }
 }
 
-fn list_of(images: &[Vec<u8>]) -> Vec<u8> {
-    let mut list = Vec::new();
-    for image in images {
-        let kept = image.iter().rposition(|&byte| byte != 0).map_or(0, |last| last + 1);
-        list.extend((kept as u32).to_be_bytes());
-        list.extend(((image.len() - kept) as u32).to_be_bytes());
-        list.extend(&image[..kept]);
-    }
-    list
+/// An image in a list.
+pub fn image_entry(image: &[u8]) -> Vec<u8> {
+    let kept = image.iter().rposition(|&byte| byte != 0).map_or(0, |last| last + 1);
+    let mut entry = (kept as u32).to_be_bytes().to_vec();
+    entry.extend(((image.len() - kept) as u32).to_be_bytes());
+    entry.extend(&image[..kept]);
+    entry
 }
 
 /// The answers in a text; each begins with a line `then ..` or `refused ..`.

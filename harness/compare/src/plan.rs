@@ -6,14 +6,14 @@ use std::path::Path;
 use crate::generate::{aimed, any, damage, fitting, limits, small};
 use crate::rng::Rng;
 
-/// Images of one sort, one after the other.
-pub struct Source {
+/// Images or calls of one sort, one after the other.
+pub struct Source<T = Vec<u8>> {
     pub name: String,
-    pub images: Box<dyn Iterator<Item = Vec<u8>>>,
+    pub given: Box<dyn Iterator<Item = T>>,
 }
 
-fn source(name: &str, images: impl Iterator<Item = Vec<u8>> + 'static) -> Source {
-    Source { name: name.to_owned(), images: Box::new(images) }
+pub fn source<T>(name: &str, given: impl Iterator<Item = T> + 'static) -> Source<T> {
+    Source { name: name.to_owned(), given: Box::new(given) }
 }
 
 /// Every sort, so many of each that are made by chance. Of the patterns of three and four nodes all

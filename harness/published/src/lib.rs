@@ -13,6 +13,7 @@ pub mod layout;
 pub mod method_resolution;
 pub mod next_solver;
 pub mod parameters;
+pub mod prepared;
 mod store;
 pub mod trace;
 mod world;

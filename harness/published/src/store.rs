@@ -21,20 +21,19 @@ use crate::{BindingMode, ByRef};
 /// The store of an image that keeps all rules.
 pub fn store(m: &Tables) -> ExpressionStore {
     let mut store = ExpressionStore::default();
-    for number in 0..m.bindings.len() {
-        store.bindings.alloc(Binding { mode: annotation(m, number) });
+    for _ in &m.bindings {
+        store.bindings.alloc(Binding { mode: BindingAnnotation::Unannotated });
     }
     for row in &m.patterns {
         let pat = pattern(m, row, &mut store);
         store.pats.alloc(pat);
+        store.bound.push(Binding { mode: annotation(row[6]) });
     }
     store
 }
 
-/// The annotation of the first Bind that names a binding.
-fn annotation(m: &Tables, binding: usize) -> BindingAnnotation {
-    let found = m.patterns.iter().find(|row| row[0] == BIND && usize::from(row[3]) == binding);
-    match found.map_or(0, |row| row[6]) {
+fn annotation(word: u16) -> BindingAnnotation {
+    match word {
         0 => BindingAnnotation::Unannotated,
         1 => BindingAnnotation::Mutable,
         _ => BindingAnnotation::Ref,

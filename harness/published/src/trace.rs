@@ -18,8 +18,8 @@ pub struct Trace {
     pub visits: Vec<u32>,
     pub entered: Option<usize>,
     pub binds: Option<usize>,
-    /// The pattern that was entered last when the first limit was passed.
-    pub passed: Option<usize>,
+    /// The pattern that was entered last, if there is one, when the first limit was passed.
+    pub passed: Option<Option<usize>>,
     pub statements: usize,
     touched: Touched,
 }
@@ -48,6 +48,9 @@ pub fn so_far() -> Trace {
 }
 
 pub fn entered(pattern: usize) {
+    if cfg!(feature = "quiet") {
+        return;
+    }
     TRACE.with_borrow_mut(|trace| {
         trace.visits[pattern] += 1;
         trace.entered = Some(pattern);
@@ -55,17 +58,32 @@ pub fn entered(pattern: usize) {
 }
 
 pub fn binds(pattern: usize) {
+    if cfg!(feature = "quiet") {
+        return;
+    }
     TRACE.with_borrow_mut(|trace| trace.binds = Some(pattern));
 }
 
 /// A place with so many elements was made.
 pub fn projected(elements: usize) {
+    if cfg!(feature = "quiet") {
+        return;
+    }
     TRACE.with_borrow_mut(|trace| trace.limit(elements > MOST_ELEMENTS, trace.entered));
 }
 
 /// The last push is counted when the next block is about to change, or at the end.
 pub fn finish(blocks: &[BasicBlock]) {
+    if cfg!(feature = "quiet") {
+        return;
+    }
     TRACE.with_borrow_mut(|trace| trace.count_pushed(blocks));
+}
+
+/// The walk through patterns is over, and another call follows.
+pub fn left(blocks: &[BasicBlock]) {
+    finish(blocks);
+    TRACE.with_borrow_mut(|trace| trace.entered = None);
 }
 
 fn changes(entries: &dyn Any, number: usize) {
@@ -90,7 +108,7 @@ impl Trace {
 
     fn limit(&mut self, passed: bool, entered: Option<usize>) {
         if passed && self.passed.is_none() {
-            self.passed = entered;
+            self.passed = Some(entered);
         }
     }
 

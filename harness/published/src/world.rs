@@ -20,6 +20,11 @@ pub struct World {
     fields: Vec<VariantFields>,
     /// For each variant the type that has it.
     adts: Vec<Option<usize>>,
+    /// For each type its kind, and for an integer type its layout.
+    kinds: Vec<TyKind<'static>>,
+    layouts: Vec<Option<Arc<Layout>>>,
+    /// For each variant the types of its fields.
+    field_types: Vec<FieldTypes>,
 }
 
 thread_local! {
@@ -36,9 +41,18 @@ impl World {
                 adts[a.into()..usize::from(a) + usize::from(b)].fill(Some(number));
             }
         }
-        let world = Rc::new(World { tables, fields, adts });
+        let types = 0..tables.types.len();
+        let kinds = types.clone().map(|type_| kind_in(&tables, type_ as u16)).collect();
+        let layouts = types.map(|type_| layout_in(&tables, type_)).collect();
+        let field_types = tables.variants.iter().map(|row| field_types_in(&tables, row)).collect();
+        let world = Rc::new(World { tables, fields, adts, kinds, layouts, field_types });
         CURRENT.set(Some(world.clone()));
         world
+    }
+
+    /// The world of an image that was entered before, again this thread's.
+    pub fn enter_again(world: &Rc<World>) {
+        CURRENT.set(Some(world.clone()));
     }
 
     /// A variant by its number: an enum's, a struct's or a union's; of one that no type has, an
@@ -55,20 +69,39 @@ impl World {
             _ => VariantId::UnionId(UnionId(number)),
         })
     }
+}
 
-    fn adt(&self, type_: u16) -> AdtId {
-        let [_, first, _, c, _] = self.tables.types[usize::from(type_)];
-        match c {
-            STRUCT => AdtId::StructId(StructId(first.into())),
-            ENUM => AdtId::EnumId(EnumId(type_.into())),
-            _ => AdtId::UnionId(UnionId(first.into())),
+fn adt_in(tables: &Tables, type_: u16) -> AdtId {
+    let [_, first, _, c, _] = tables.types[usize::from(type_)];
+    match c {
+        STRUCT => AdtId::StructId(StructId(first.into())),
+        ENUM => AdtId::EnumId(EnumId(type_.into())),
+        _ => AdtId::UnionId(UnionId(first.into())),
+    }
+}
+
+fn kind_in(tables: &Tables, type_: u16) -> TyKind<'static> {
+    let [kind, a, b, _, _] = tables.types[usize::from(type_)];
+    match kind {
+        TUPLE_TYPE => {
+            let fields = tables.words(a, b.into()).iter();
+            TyKind::Tuple(fields.map(|&field| Ty::numbered(field)).collect())
         }
+        ADT => TyKind::Adt(AdtDef(adt_in(tables, type_)), GenericArgs::empty()),
+        REFERENCE => TyKind::Ref(Ty::numbered(a)),
+        ARRAY => TyKind::Array(Ty::numbered(a), b),
+        SLICE_TYPE => TyKind::Slice(Ty::numbered(a)),
+        _ => TyKind::Other,
     }
+}
 
-    fn field_types(&self, variant: u32) -> &[u16] {
-        let [first, count, _] = self.tables.variants[variant as usize];
-        self.tables.words(first, count.into())
-    }
+fn layout_in(tables: &Tables, type_: usize) -> Option<Arc<Layout>> {
+    let [kind, size, ..] = tables.types[type_];
+    (kind == INTEGER).then(|| Arc::new(Layout { size: Size(size.into()) }))
+}
+
+fn field_types_in(tables: &Tables, &[first, count, _]: &[u16; 3]) -> FieldTypes {
+    FieldTypes(tables.words(first, count.into()).iter().map(|&type_| Binder::numbered(type_)).collect())
 }
 
 /// Asks this thread's world.
@@ -77,31 +110,11 @@ fn ask<T>(question: impl FnOnce(&World) -> T) -> T {
 }
 
 pub fn kind<'db>(type_: u16) -> TyKind<'db> {
-    ask(|world| {
-        let [kind, a, b, _, _] = world.tables.types[usize::from(type_)];
-        match kind {
-            TUPLE_TYPE => {
-                let fields = world.tables.words(a, b.into()).iter();
-                TyKind::Tuple(fields.map(|&field| Ty::numbered(field)).collect())
-            }
-            ADT => TyKind::Adt(AdtDef(world.adt(type_)), GenericArgs::empty()),
-            REFERENCE => TyKind::Ref(Ty::numbered(a)),
-            ARRAY => TyKind::Array(Ty::numbered(a), b),
-            SLICE_TYPE => TyKind::Slice(Ty::numbered(a)),
-            _ => TyKind::Other,
-        }
-    })
+    ask(|world| world.kinds[usize::from(type_)].clone())
 }
 
 pub fn is_copy(type_: u16) -> bool {
     ask(|world| world.tables.types[usize::from(type_)][4] == 1)
-}
-
-pub fn integer_size(type_: u16) -> Option<usize> {
-    ask(|world| {
-        let [kind, size, ..] = world.tables.types[usize::from(type_)];
-        (kind == INTEGER).then_some(size.into())
-    })
 }
 
 impl DefDatabase for World {
@@ -116,8 +129,8 @@ impl DefDatabase for World {
 
 impl HirDatabase for World {
     fn layout_of_ty(&self, ty: StoredTy, _: StoredParamEnvAndCrate) -> Result<Arc<Layout>, LayoutError> {
-        let size = ty.as_ref().integer_size().ok_or(LayoutError::NoInteger)?;
-        Ok(Arc::new(Layout { size: Size(size) }))
+        let kept = self.layouts.get(usize::from(ty.as_ref().number()));
+        kept.and_then(Clone::clone).ok_or(LayoutError::NoInteger)
     }
 
     /// A constant's own type, which the listing leaves out; an image does not say it.
@@ -132,7 +145,7 @@ impl HirDatabase for World {
     }
 
     fn field_types(&self, variant: VariantId) -> FieldTypes {
-        FieldTypes(self.field_types(variant.number()).iter().map(|&ty| Binder::numbered(ty)).collect())
+        self.field_types[variant.number() as usize].clone()
     }
 
     fn evaluated_bytes(&self, constant: ConstId) -> Vec<u8> {

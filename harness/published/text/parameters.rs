@@ -4,29 +4,67 @@ use std::panic::{self, AssertUnwindSafe};
 
 use super::entry::LoweredPattern;
 use super::{
-    BindingId, ExpressionStore, HirDatabase, InferBodyId, InferenceResult, Local, MirLowerCtx, PatId, Result,
-    Ty,
+    BasicBlockId, BindingId, DropScope, DropScopeToken, ExpressionStore, HirDatabase, InferBodyId,
+    InferenceResult, Local, MirBody, MirLowerCtx, MirSpan, Result, Ty,
 };
+use crate::parameters::{After, HandedParameters};
 use crate::trace;
 
-/// Lowers parameters, each a pattern and its type, into a new body whose local 0 is the return
-/// slot of a type; `picked` has `pick_binding`'s answers.
+/// The body that is made, the block that is returned or the error, and what stands in the scopes.
+pub struct LoweredParameters<'db> {
+    body: MirBody<'db>,
+    then: Result<'db, BasicBlockId>,
+    entries: Vec<usize>,
+}
+
+impl<'db> LoweredParameters<'db> {
+    /// The local of each binding.
+    pub fn bound(&self, bindings: usize) -> Vec<Option<usize>> {
+        let local = |number| self.body.binding_locals.get(BindingId::from_number(number));
+        (0..bindings).map(|number| local(number).map(|local| local.number())).collect()
+    }
+
+    /// The listing, and lines with the parameters' locals, the bindings' locals and the entries of
+    /// the scopes.
+    pub fn listing(self, db: &dyn HirDatabase, bindings: usize) -> Result<'db, String> {
+        let word = |local: Option<usize>| local.map_or("-".to_owned(), |local| local.to_string());
+        let line = |name: &str, words: Vec<String>| [vec![name.to_owned()], words].concat().join(" ") + "\n";
+        let bound = self.bound(bindings).into_iter().map(word).collect();
+        let params = self.body.param_locals.iter().map(|local| local.number().to_string()).collect();
+        let entries = self.entries.iter().map(usize::to_string).collect();
+        let lowered = LoweredPattern { body: self.body, then: self.then?, other: None };
+        let lines = line("params", params) + &line("bindings", bound) + &line("entries", entries);
+        Ok(lowered.listing(db, false) + &lines)
+    }
+}
+
+/// Lowers parameters into a new body, and does what comes after it.
 pub fn mir_body_query<'db>(
     db: &'db dyn HirDatabase,
     store: &ExpressionStore,
     infer: &InferenceResult<'db>,
-    returned: Ty<'db>,
-    self_binding: Option<(BindingId, Ty<'db>)>,
-    parameters: &[(PatId, Ty<'db>)],
-    picked: &[bool],
-) -> Result<'db, LoweredPattern<'db>> {
+    handed: HandedParameters<'_, 'db>,
+    after: After,
+) -> LoweredParameters<'db> {
     let mut ctx = MirLowerCtx::new(db, InferBodyId::default(), store, infer);
-    ctx.result.locals.alloc(Local { ty: returned.store() });
+    for _ in 0..handed.locals {
+        ctx.result.locals.alloc(Local { ty: Ty::numbered(0).store() });
+    }
+    ctx.drop_scopes = (0..handed.scopes).map(|_| DropScope::default()).collect();
     let lowered = panic::catch_unwind(AssertUnwindSafe(|| {
-        let picks = |binding: BindingId| picked[binding.number()];
-        ctx.lower_params_and_bindings(parameters.iter().copied(), self_binding, picks)
+        let picks = |binding: BindingId| handed.picked[binding.number()];
+        let list = handed.list.iter().copied();
+        let then = ctx.lower_params_and_bindings(list, handed.self_binding, picks)?;
+        trace::left(ctx.result.basic_blocks.values());
+        Ok(match after {
+            After::Nothing => then,
+            After::DropUntilScope => ctx.drop_until_scope(0, then, MirSpan::Unknown),
+            After::PopAndDrop => DropScopeToken.pop_and_drop(&mut ctx, then, MirSpan::Unknown),
+        })
     }));
     trace::finish(ctx.result.basic_blocks.values());
-    let then = lowered.unwrap_or_else(|panic| panic::resume_unwind(panic))?;
-    Ok(LoweredPattern { body: ctx.result, then, other: None })
+    let then = lowered.unwrap_or_else(|panic| panic::resume_unwind(panic));
+    let scopes = ctx.drop_scopes.iter();
+    let entries = scopes.flat_map(|scope| scope.locals.iter().map(|local| local.number())).collect();
+    LoweredParameters { body: ctx.result, then, entries }
 }

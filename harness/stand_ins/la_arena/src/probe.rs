@@ -17,6 +17,9 @@ pub fn listen(listener: Listener) {
 }
 
 pub(crate) fn tell<T: 'static>(entries: &Vec<T>, number: usize) {
+    if cfg!(feature = "quiet") {
+        return;
+    }
     if let Some(listener) = LISTENER.get() {
         listener(entries, number);
     }

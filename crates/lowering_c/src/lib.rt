@@ -1,0 +1,129 @@
+// `pattern_match` for a caller in C: the numbers of a call are handed in as words, and those of its answer are handed out so.
+use image::PatId;
+use image_text::number_of;
+use image_text::reason_of;
+use lower::merging::OptBlock;
+use lower::temps::DiscrTemp;
+use match_calls::MatchCall;
+use mir::BasicBlockId;
+use mir::Counts;
+use pattern_calls::pattern_match;
+use place::LocalId;
+use place::Place;
+ghost use mathlib.Core.Path.{_≡_};
+ghost use lib.ListN.{getD};
+ghost use Rattle.pattern_matching.specs.Walking.{localPlace};
+ghost use Rattle.state.specs.State.{body};
+ghost use Rattle.match_calls.specs.Calls.{patternMatchCall};
+ghost use Rattle.lowering_c.specs.Words.{blockOrNone, localOrNone, countsOfWords, blockWord, discrWord, answerWords, Answered};
+
+// A block's number, or 65535 for none.
+fn block_or_none(word: u16) -> OptBlock
+    ensures { λ r. ⌜ r ≡ blockOrNone word ⌝ }
+{
+    if word == 65535 {
+        return OptBlock::None;
+    }
+    OptBlock::Some(BasicBlockId(word))
+}
+
+// The number of the local that all tests of enums share, or 65535 for none.
+fn local_or_none(word: u16) -> DiscrTemp
+    ensures { λ r. ⌜ r ≡ localOrNone word ⌝ }
+{
+    if word == 65535 {
+        return DiscrTemp::None;
+    }
+    DiscrTemp::Some(LocalId(word))
+}
+
+fn block_word(b: OptBlock) -> u16
+    ensures { λ r. ⌜ r ≡ blockWord b ⌝ }
+{
+    match b {
+        OptBlock::None => 65535,
+        OptBlock::Some(block) => block.0,
+    }
+}
+
+fn discr_word(discr: DiscrTemp) -> u16
+    ensures { λ r. ⌜ r ≡ discrWord discr ⌝ }
+{
+    match discr {
+        DiscrTemp::None => 65535,
+        DiscrTemp::Some(l) => l.0,
+    }
+}
+
+// The words of an answer: the three numbers of a refusal, or zeros; then the block where a match goes on, the one where a mismatch does, the local that all tests of
+// enums share, and the five counts, or zeros.
+fn answer_words(call: MatchCall) -> [u16; 11]
+    ensures { λ r. ⌜ r ≡ answerWords call ⌝ }
+{
+    match call {
+        MatchCall::Matched(c, discr, then, els) => [
+            0,
+            0,
+            0,
+            then.0,
+            block_word(els),
+            discr_word(discr),
+            c.blocks,
+            c.statements,
+            c.locals,
+            c.scopes,
+            c.entries,
+        ],
+        MatchCall::Refused(e, p) => [number_of(e), p.0, reason_of(e), 0, 0, 0, 0, 0, 0, 0, 0],
+        MatchCall::BadCall => [2, 65535, 0, 0, 0, 0, 0, 0, 0, 0, 0],
+        MatchCall::BadImage => [1, 65535, 0, 0, 0, 0, 0, 0, 0, 0, 0],
+    }
+}
+
+// `pattern_match` on a whole local. The words of the call are the five counts, the local that all tests of enums share, the pattern, the block to start from, the else
+// and the local; 65535 is no such local and no else.
+#[no_mangle]
+pub extern "C" fn fithongu_pattern_match(
+    image: &[u8],
+    bindings: &[u16],
+    blocks: &mut [u16],
+    statements: &mut [u16],
+    locals: &mut [u16],
+    scopes: &mut [u16],
+    entries: &mut [u16],
+    visits: &mut [u16],
+    call: &[u16; 10],
+    answer: &mut [u16; 11],
+)
+    ensures { λ _. ⌜ Answered (body (now (blocks .entry)) (now (statements .entry)) (now (locals .entry)) (now (scopes .entry)) (now (entries .entry))) (now (visits .entry)) (countsOfWords (now (call .entry))) (patternMatchCall (now (image .entry)) (now (bindings .entry)) (body (now (blocks .entry)) (now (statements .entry)) (now (locals .entry)) (now (scopes .entry)) (now (entries .entry))) (now (visits .entry)) (countsOfWords (now (call .entry))) (localOrNone (getD (now (call .entry)) 5 0)) (getD (now (call .entry)) 6 0) (record { 0 = getD (now (call .entry)) 7 0 }) (blockOrNone (getD (now (call .entry)) 8 0)) (localPlace (record { 0 = getD (now (call .entry)) 9 0 }))) (now (answer .exit)) (body (now (blocks .exit)) (now (statements .exit)) (now (locals .exit)) (now (scopes .exit)) (now (entries .exit))) (now (visits .exit)) ⌝ }
+{
+    let counts = Counts {
+        blocks: call[0],
+        statements: call[1],
+        locals: call[2],
+        scopes: call[3],
+        entries: call[4],
+    };
+    let place = Place {
+        local: LocalId(call[9]),
+        len: 0,
+        elems: [0u32; 16],
+    };
+    let given = pattern_match(
+        image,
+        bindings,
+        blocks,
+        statements,
+        locals,
+        scopes,
+        entries,
+        visits,
+        counts,
+        local_or_none(call[5]),
+        PatId(call[6]),
+        BasicBlockId(call[7]),
+        block_or_none(call[8]),
+        place,
+    );
+    *answer = answer_words(given);
+}

@@ -1,0 +1,94 @@
+//! Compares `lower_params_and_bindings`: calls by chance, and what both sides answer.
+
+mod generate;
+mod limits;
+mod plan;
+mod shrink;
+
+use image::Tables;
+use published::parameters::{Parameters, lower_parameters};
+use published::{Answer, Outcome};
+
+use crate::judge::{self, Expected};
+use crate::other::{self, Other};
+use crate::run::Given;
+
+pub use plan::{read_list, sources};
+
+/// A list has at most so many parameters.
+const MOST: usize = 64;
+
+/// A call: an image, how many scopes are open, self as a binding and a type, and the list's words, a
+/// pattern and a type for each parameter.
+#[derive(Debug, Clone, PartialEq, Eq, Hash)]
+pub struct Call {
+    pub image: Vec<u8>,
+    pub scopes: u16,
+    pub own: Option<(u16, u16)>,
+    pub words: Vec<u16>,
+}
+
+impl Call {
+    /// The words behind the image.
+    fn all_words(&self) -> Vec<u16> {
+        let (binding, type_) = self.own.unwrap_or_default();
+        let mut all = vec![self.scopes, self.own.is_some().into(), binding, type_];
+        all.extend(&self.words);
+        all
+    }
+
+    /// "At most 64 parameters", each of which names a pattern and a type.
+    fn list(&self, m: &Tables) -> Option<Vec<(u16, u16)>> {
+        let pairs = self.words.chunks_exact(2);
+        let whole = pairs.remainder().is_empty();
+        let list: Vec<(u16, u16)> = pairs.map(|pair| (pair[0], pair[1])).collect();
+        let named = |&(p, type_): &(u16, u16)| {
+            usize::from(p) < m.patterns.len() && usize::from(type_) < m.types.len()
+        };
+        (whole && list.len() <= MOST && list.iter().all(named)).then_some(list)
+    }
+
+    fn self_names(&self, m: &Tables) -> bool {
+        self.own.is_none_or(|(binding, type_)| {
+            usize::from(binding) < m.bindings.len() && usize::from(type_) < m.types.len()
+        })
+    }
+}
+
+impl Given for Call {
+    const NAME: &'static str = "calls";
+
+    fn entry(&self) -> Vec<u8> {
+        let words = self.all_words();
+        let mut entry = other::image_entry(&self.image);
+        entry.extend((words.len() as u32).to_be_bytes());
+        entry.extend(words.iter().flat_map(|word| word.to_be_bytes()));
+        entry
+    }
+
+    fn expected(&self, other: &Other) -> Expected {
+        let refused = |number: u16, what: &str| {
+            let sort = format!("refused {number} for {what} (document 01 alone)");
+            judge::text(sort, format!("refused {number} 65535 0\n"))
+        };
+        let Some(tables) = image::read(&self.image) else { return refused(1, "the image") };
+        let Some(list) = self.list(&tables) else { return refused(1, "the list") };
+        if !self.self_names(&tables) {
+            return refused(2, "self");
+        }
+        let parameters = Parameters { scopes: self.scopes.into(), self_binding: self.own, list };
+        let Outcome { mut answer, trace } = lower_parameters(&tables, &parameters, other.setting);
+        if let (Answer::Listing(listing), true) = (&mut answer, other.how.visits) {
+            *listing += &trace.visits_line();
+        }
+        judge::of_outcome(&tables, Outcome { answer, trace })
+    }
+
+    fn smallest(&self, other: &Other) -> Self {
+        shrink::smallest(self, other)
+    }
+
+    fn told(&self) -> String {
+        format!("{}scopes, self and list: {:?}\n", self.image.told(), self.all_words())
+    }
+}

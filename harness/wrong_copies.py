@@ -1,0 +1,166 @@
+#!/usr/bin/env python3
+"""Does the comparison find errors of the Rattle code? Changes it in one place, and compares.
+
+`wrong_copies.py [NAME..]` copies the crates to a temporary folder, makes one change there,
+compiles replay_listings without a proof and makes the quick run's comparison of listings with
+it. A line for each change says how many images differ; it fails if a change is not found. The
+harness must be built. NAMEs choose changes.
+"""
+
+import shutil
+import subprocess
+import sys
+import tempfile
+from pathlib import Path
+
+HERE = Path(__file__).resolve().parent
+REPOSITORY = HERE.parent
+COMPARE = HERE / "target/release/compare"
+
+# Edits that the prover must refuse, of crates that the program stands on, whose effect a listing
+# shows: crates/CRATE/must-fail/LABEL.edit.
+REFUSED = (
+    "pattern_tests/switch_turned_round",
+    "pattern_tests/then_before_else",
+    "listing_text/switch_exchanged",
+    "pattern_leaves/an_arrays_length_tested",
+    "pattern_rows/suffix_item_from_the_front",
+    "pattern_walk/an_alternative_after_a_sure_one",
+    "image_text/reason_of_a_type_error_lost",
+    "listing_start/bindings_from_local_two",
+    "listing_start/type_zero_not_tried",
+    "literals/integer_of_any_size",
+    "literals/lower_half_twice",
+    "lower/str_for_slice",
+    "mir/next_block_terminated",
+    "read_image/one_pattern_more",
+    "marks/second_use",
+    "pattern_rules/char_that_is_no_scalar_value",
+)
+
+# Further changes: a name, the file below crates/, the text, and what it becomes.
+CHANGES = (
+    ("a match left open", "pattern_walk/src/sub.rt",
+     "set_goto(blocks, then, join);",
+     "set_goto(blocks, here, join);"),
+    ("then and else of a test's switch exchanged", "pattern_tests/src/switching.rt",
+     "Terminator::Switch(l, 1, 0, then, other)",
+     "Terminator::Switch(l, 1, 0, other, then)"),
+    ("no live mark of a binding's local", "pattern_parts/src/bindings.rt",
+     "        BoundLocal::Local(l) => match push_storage_live_for_local(\n"
+     "            statements,\n"
+     "            entries,\n"
+     "            counts,\n"
+     "            l,\n"
+     "            current,\n"
+     "        ) {\n",
+     "        BoundLocal::Local(l) => match Stepped::Now(counts) {\n"),
+    ("no live mark of a temporary", "lower/src/temps.rt",
+     "        NewLocal::Local(c1, l) => match push_storage_live_for_local(\n"
+     "            statements,\n"
+     "            entries,\n"
+     "            c1,\n"
+     "            l,\n"
+     "            block,\n"
+     "        ) {\n",
+     "        NewLocal::Local(c1, l) => match Stepped::Now(c1) {\n"),
+    ("fields in another order", "pattern_rows/src/lib.rt",
+     "ArgumentRow::Fields => ProjectionElem::Field(i),",
+     "ArgumentRow::Fields => ProjectionElem::Field(fields - 1 - i),"),
+    ("a record's field by its place in the pattern", "pattern_rows/src/lib.rt",
+     "ProjectionElem::Field(list_at(image, tables, from + 2 * i))",
+     "ProjectionElem::Field(i)"),
+    ("Bind with a new else", "pattern_calls/src/steps.rt",
+     "            MatchingMode::Bind,\n"
+     "            p,\n"
+     "            then,\n"
+     "            other,\n",
+     "            MatchingMode::Bind,\n"
+     "            p,\n"
+     "            then,\n"
+     "            OptBlock::None,\n"),
+    ("a rest leaves out what the other side has", "pattern_parts/src/bindings.rt",
+     "ProjectionElem::Subslice(front, end)",
+     "ProjectionElem::Subslice(end, front)"),
+    ("the last deref is left out", "pattern_parts/src/entering.rt",
+     "    while 0 < left {",
+     "    while 1 < left {"),
+    ("ref mut for ref", "pattern_parts/src/bindings.rt",
+     "BindingMode::Ref => PlaceRvalue::Ref,",
+     "BindingMode::Ref => PlaceRvalue::Mut,"),
+    ("a CString's closing zero is not counted", "literals/src/lib.rt",
+     "(row.count as u64) + 1",
+     "(row.count as u64) + 0"),
+    ("every test of an enum has its own local", "lower/src/temps.rt",
+     "        DiscrTemp::Some(l) => NewTemp::Local(counts, l),\n",
+     "        DiscrTemp::Some(_) => temp(image, tables, statements, locals, entries, counts, I128, block),\n"),
+    ("a block less", "mir/src/blocks.rt",
+     "    if 512 <= n {",
+     "    if 511 <= n {"),
+    ("a statement less", "mir/src/statements.rt",
+     "    if 1024 <= n {",
+     "    if 1023 <= n {"),
+)
+
+
+def must_fail(label):
+    """The changes of a must-fail edit, as file, text and what it becomes."""
+    crate, name = label.split("/")
+    changes, file, old = [], None, None
+    for line in (REPOSITORY / "crates" / crate / "must-fail" / f"{name}.edit").read_text(encoding="utf-8").splitlines():
+        if line.startswith("file: "):
+            file = f"{crate}/{line[6:]}"
+        elif line.startswith("old: "):
+            old = line[5:]
+        elif line.startswith("new:"):
+            changes.append((file, old, line[4:].removeprefix(" ")))
+    return changes
+
+
+def all_changes():
+    """Names, each with its changes."""
+    yield from ((name, [(file, old, new)]) for name, file, old, new in CHANGES)
+    yield from ((label, must_fail(label)) for label in REFUSED)
+
+
+def changed_copy(folder, changes):
+    """A copy of the crates in which texts are others."""
+    shutil.copytree(REPOSITORY / "crates", folder / "crates", ignore=shutil.ignore_patterns("proofs", "must-fail"))
+    shutil.copy(REPOSITORY / "crates.txt", folder)
+    for file, old, new in changes:
+        path = folder / "crates" / file
+        text = path.read_text(encoding="utf-8")
+        assert text.count(old) == 1, (file, old)
+        path.write_text(text.replace(old, new), encoding="utf-8")
+
+
+def found(changes):
+    """What the comparison says last of the changed program, and whether it differs."""
+    with tempfile.TemporaryDirectory() as folder:
+        folder = Path(folder)
+        changed_copy(folder, changes)
+        program = folder / "replay_listings"
+        subprocess.run([HERE / "build_unproved", "replay_listings", program, folder], check=True)
+        stored = [word for name in ("replay_images", "replay_listings")
+                  for word in ("--stored", REPOSITORY / "crates" / name / "stdin")]
+        done = subprocess.run([COMPARE, "run", "--counts", "--other", program, "--count", "1500", *stored],
+                              capture_output=True, text=True, check=False)
+    return done.stdout.rstrip().rsplit("\n", 1)[-1], done.returncode == 1
+
+
+def main():
+    """Tries all changes, or those that are named."""
+    tried = missed = 0
+    for name, changes in all_changes():
+        if sys.argv[1:] and name not in sys.argv[1:]:
+            continue
+        told, differs = found(changes)
+        tried += 1
+        missed += not differs
+        print(f"{name}: {told}", flush=True)
+    print(f"{tried} changes, {missed} not found")
+    return 1 if missed else 0
+
+
+if __name__ == "__main__":
+    sys.exit(main())
