@@ -1,0 +1,9 @@
+pub mod Reading
+pub mod Looking
+pub mod Filling
+pub mod Through
+pub mod Bodies
+pub mod Samples
+pub mod Row
+pub mod Local
+pub mod Given
