@@ -33,34 +33,34 @@ abbrev pub Among : List BoundAt → Bound → Type 0
 Among xs b = member (b .binding) (names xs) ≡ true
 
 -- the first of two holds
-or-left : (a b : Bool) → a ≡ true → a || b ≡ true
+pub or-left : (a b : Bool) → a ≡ true → a || b ≡ true
 or-left true b e = refl
 or-left false b e = absurd (false≢true e)
 
 -- the second of two holds
-or-right : (a b : Bool) → b ≡ true → a || b ≡ true
+pub or-right : (a b : Bool) → b ≡ true → a || b ≡ true
 or-right true b e = refl
 or-right false b e = e
 
 -- one of two holds
-or-elim : {C : Type 0} (a b : Bool) → a || b ≡ true → (a ≡ true → C) → (b ≡ true → C) → C
+pub or-elim : {C : Type 0} (a b : Bool) → a || b ≡ true → (a ≡ true → C) → (b ≡ true → C) → C
 or-elim true b e f g = f refl
 or-elim false b e f g = g e
 
 -- a test does not hold and fail
-not-and : (a : Bool) → not a ≡ true → a ≡ true → ⊥
+pub not-and : (a : Bool) → not a ≡ true → a ≡ true → ⊥
 not-and true n e = false≢true n
 not-and false n e = false≢true e
 
 -- what stands in the first part stands in the list
-member-left : (a : ℕ) (xs ys : List ℕ) → member a xs ≡ true → member a (xs ++ ys) ≡ true
+pub member-left : (a : ℕ) (xs ys : List ℕ) → member a xs ≡ true → member a (xs ++ ys) ≡ true
 unfolding member
 member-left a [] ys e = absurd (false≢true e)
 member-left a (x ∷ xs) ys e =
     or-elim (eqb a x) (member a xs) e (λ q. or-left (eqb a x) (member a (xs ++ ys)) q) (λ q. or-right (eqb a x) (member a (xs ++ ys)) (member-left a xs ys q))
 
 -- and what stands in the second
-member-right : (a : ℕ) (xs ys : List ℕ) → member a ys ≡ true → member a (xs ++ ys) ≡ true
+pub member-right : (a : ℕ) (xs ys : List ℕ) → member a ys ≡ true → member a (xs ++ ys) ≡ true
 unfolding member
 member-right a [] ys e = e
 member-right a (x ∷ xs) ys e = or-right (eqb a x) (member a (xs ++ ys)) (member-right a xs ys e)
@@ -73,7 +73,7 @@ member-case a (x ∷ xs) ys e f g =
     or-elim (eqb a x) (member a (xs ++ ys)) e (λ q. f (or-left (eqb a x) (member a xs) q)) (λ q. member-case a xs ys q (λ r. f (or-right (eqb a x) (member a xs) r)) g)
 
 -- what stands in two parts of a list of different numbers differs
-distinct-apart : (xs ys : List ℕ) → distinct (xs ++ ys) ≡ true → (a b : ℕ) → member a xs ≡ true → member b ys ≡ true → a ≢ b
+pub distinct-apart : (xs ys : List ℕ) → distinct (xs ++ ys) ≡ true → (a b : ℕ) → member a xs ≡ true → member b ys ≡ true → a ≢ b
 unfolding distinct member
 distinct-apart [] ys d a b m n e = false≢true m
 distinct-apart (x ∷ xs) ys d a b m n e =
@@ -84,7 +84,7 @@ distinct-apart (x ∷ xs) ys d a b m n e =
     (λ q. distinct-apart xs ys (and-right (not (member x (xs ++ ys))) (distinct (xs ++ ys)) d) a b q n e)
 
 -- a part of different numbers
-distinct-right : (xs ys : List ℕ) → distinct (xs ++ ys) ≡ true → distinct ys ≡ true
+pub distinct-right : (xs ys : List ℕ) → distinct (xs ++ ys) ≡ true → distinct ys ≡ true
 unfolding distinct
 distinct-right [] ys d = d
 distinct-right (x ∷ xs) ys d = distinct-right xs ys (and-right (not (member x (xs ++ ys))) (distinct (xs ++ ys)) d)
@@ -323,7 +323,7 @@ module _ (image : List ℕ) where
       )
 
 -- a local that there is stands among those
-present-member : (ls : List ℕ) (x : ℕ) → getD ls x 65535 ≢ 65535 → member (getD ls x 65535) (present ls) ≡ true
+pub present-member : (ls : List ℕ) (x : ℕ) → getD ls x 65535 ≢ 65535 → member (getD ls x 65535) (present ls) ≡ true
 unfolding present member
 present-member [] x n = absurd (n refl)
 present-member (l ∷ ls) zero n = by (eqb l 65535) refl

@@ -44,14 +44,14 @@ use Rattle.correctness.proofs.Bound.{bound}
 use Rattle.correctness.proofs.Drawing.{tree-drawn}
 
 -- the clauses of "A pattern fits"
-record Clauses (image bindings : List ℕ) (root : ℕ) (ctx : Ctx) (t : ℕ) (pat : Pat) : Type 0 where
-  types : typesFit image pat (some t) ≡ true
-  bindings-fit : bindingsFit image pat ≡ true
-  reached : nothingRefused image bindings pat ≡ true
-  locals : localsDiffer bindings root (ctx .discr) ≡ true
+pub record Clauses (image bindings : List ℕ) (root : ℕ) (ctx : Ctx) (t : ℕ) (pat : Pat) : Type 0 where
+  pub types : typesFit image pat (some t) ≡ true
+  pub bindings-fit : bindingsFit image pat ≡ true
+  pub reached : nothingRefused image bindings pat ≡ true
+  pub locals : localsDiffer bindings root (ctx .discr) ≡ true
 
 -- each of them
-clauses : (image bindings : List ℕ) (root : ℕ) (ctx : Ctx) (t : ℕ) (pat : Pat) → fits image bindings root (ctx .discr) t pat ≡ true → Clauses image bindings root ctx t pat
+pub clauses : (image bindings : List ℕ) (root : ℕ) (ctx : Ctx) (t : ℕ) (pat : Pat) → fits image bindings root (ctx .discr) t pat ≡ true → Clauses image bindings root ctx t pat
 unfolding fits
 clauses image bindings root ctx t pat e =
     let rules = typesFit image pat (some t) ∷ bindingsFit image pat ∷ nothingRefused image bindings pat ∷ localsDiffer bindings root (ctx .discr) ∷ [] in
@@ -61,7 +61,7 @@ module _ (image bindings : List ℕ) (pat : Pat) (ctx : Ctx) (current : BasicBlo
     (handed : Handed image bindings ctx current els place t) (of : OfImage image pat) (fitting : Fitting image bindings ctx place t pat v)
     (r : Out) (lowered : patternMatch image bindings pat ctx current els place ≡ ok r) (M : Mir) (onward : GoesOn (mirOf (r .ctx .state)) M) (env : Env) where
   -- the tests, and then the bindings where they led on
-  lands : Lands (sceneOf image place v) bindings M ctx (current .0) env (binds image (asTheRustReads pat) (pathOf place) v) r (matches image (asTheRustReads pat) v)
+  pub lands : Lands (sceneOf image place v) bindings M ctx (current .0) env (binds image (asTheRustReads pat) (pathOf place) v) r (matches image (asTheRustReads pat) v)
   unfolding patternMatch
   lands =
       walked (patternMatchInner image bindings pat MatchingMode.Check ctx current els place) _ lowered (λ r₁ e₁ e₂.

@@ -80,7 +80,7 @@ module _ (bindings : List ℕ) where
   Disjoint bs cs = Each (λ b. Each (λ c. localOf bindings b ≢ localOf bindings c) cs) bs
 
   -- a local that none of the bindings has is left as it was
-  after-untouched : (bs : List Bound) (l : ℕ) (held : Held) → Each (λ b. l ≢ localOf bindings b) bs → after bindings bs l held ≡ held
+  pub after-untouched : (bs : List Bound) (l : ℕ) (held : Held) → Each (λ b. l ≢ localOf bindings b) bs → after bindings bs l held ≡ held
   unfolding after
   after-untouched [] l held h = refl
   after-untouched (b ∷ bs) l held h =

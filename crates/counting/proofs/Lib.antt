@@ -1,6 +1,6 @@
 pub mod Holding
 pub mod Going
-mod Building
+pub mod Building
 pub mod Stepping
 pub mod Passing
 pub mod Typed
@@ -8,7 +8,7 @@ mod Testing
 pub mod Arguments
 mod Rows
 mod Naming
-mod Binding
+pub mod Binding
 mod Choosing
 mod Inside
 mod Leaves

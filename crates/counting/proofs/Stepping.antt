@@ -43,7 +43,7 @@ else-once true f′ OptBlock.None (OptBlock.Some b) from to h = refl
 else-once false f′ OptBlock.None els₁ from to h = let k : elseMade f′ els₁ ≡ one f′ = ap (elseMade f′) h in omega (arith, k)
 
 -- nor a second discriminant local
-discr-once : (e e′ : Bool) (d d₁ : DiscrTemp) → has d₁ ≡ (has d || e) → discrMade e d + discrMade e′ d₁ ≡ discrMade (e || e′) d
+pub discr-once : (e e′ : Bool) (d d₁ : DiscrTemp) → has d₁ ≡ (has d || e) → discrMade e d + discrMade e′ d₁ ≡ discrMade (e || e′) d
 discr-once e e′ (DiscrTemp.Some l) DiscrTemp.None h = absurd (false≢true h)
 discr-once e e′ (DiscrTemp.Some l) (DiscrTemp.Some m) h = refl
 discr-once true e′ DiscrTemp.None DiscrTemp.None h = absurd (false≢true h)

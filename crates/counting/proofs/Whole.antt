@@ -99,3 +99,7 @@ module _ (image bindings : List ℕ) (root : Pat) (ctx : Ctx) (current : BasicBl
   -- the visits of as many patterns are counted as before
   pub visits-kept : length (r .ctx .visits) ≡ length (ctx .visits)
   visits-kept = added .0 .went .listed
+
+  -- what it adds, the locals that it keeps, and whether a discriminant local is there behind it
+  pub stepped : Steps ctx els r (canFail image root ty) (someEnum rs) (λ w. 0) (λ w. total (tested w) rs + total (bound w) rs)
+  stepped = added .0

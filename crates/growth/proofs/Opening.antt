@@ -150,7 +150,7 @@ adds-line st current row e =
     }
 
 -- new locals, and nothing else of a body
-adds-words : (st st₁ : State) (current : ℕ) (words : List ℕ) → st₁ .blocks ≡ st .blocks → st₁ .statements ≡ st .statements → st₁ .locals ≡ st .locals ++ words → Adds st current st₁
+pub adds-words : (st st₁ : State) (current : ℕ) (words : List ℕ) → st₁ .blocks ≡ st .blocks → st₁ .statements ≡ st .statements → st₁ .locals ≡ st .locals ++ words → Adds st current st₁
 unfolding mirOf
 adds-words st st₁ current words b s l =
     let same : count st₁ ≡ count st = ap (λ (rows : List (List ℕ)). length rows) b in

@@ -1,0 +1,91 @@
+-- The corners of document 01 on parameters, lowered by computation from the images' bytes: each row has an image, self, the parameters, and the answer with the
+-- whole content of its listing and the visits. The rows are written out by samples/corner_theorems.py. Assumes nothing.
+use Prim.Native.Nat.{ℕ}
+use mathlib.Core.Path.{_≡_, refl}
+use mathlib.Core.List.{List, [], _∷_, map}
+use mathlib.Core.Bool.{true, false}
+use lib.IntN.{pos}
+use Rattle.lowered_params.specs.declared.SelfParam.{SelfParam}
+use Rattle.meaning.specs.Values.{Value, Int, Tuple, Variant, nil, cons}
+use Rattle.place.specs.declared.elems.ProjectionElem.{ProjectionElem}
+use Rattle.mir.specs.declared.blocks.Terminator.{Terminator}
+use Rattle.mir.specs.declared.rvalues.BinOp.{BinOp}
+use Rattle.mir.specs.declared.rvalues.Left.{Left}
+use Rattle.mir.specs.declared.rvalues.PlaceRvalue.{PlaceRvalue}
+use Rattle.views.specs.Views.{Rvalue, ofPlace, ofConstant, binary, Statement, live, dead, set}
+use Rattle.image.specs.Bytes.{wordAt, littleEndian}
+use Rattle.image.specs.Tables.{tablesOf}
+use Rattle.image.specs.Rows.{typeAt, variantAt, patAt, bindingAt, listAt, operandAt, operandBytes}
+use Rattle.image.specs.Lists.{member, upFrom}
+use Rattle.image.specs.Rules.{listed}
+use Rattle.image.specs.Types.{shapeBy, tyOf, variantOf, bindingOf, operandOf}
+use Rattle.image.specs.Tree.{word?, operand?, trees, tree?, target, nodeBy, node, treeOf, tree}
+use Rattle.place.specs.Elems.{elemOf, wordOf}
+use Rattle.place.specs.Places.{projectionOf}
+use Rattle.place.specs.PlaceTypes.{fieldOf, derefTy, adtFieldTy, fieldTy, elementTy, subsliceTy, adtDowncastTy, downcastTy, tyProjection, variantProjection, partProjection, projectionTy, multiProjectionTy}
+use Rattle.mir.specs.Blocks.{termRow}
+use Rattle.mir.specs.Statements.{halves, placeWords}
+use Rattle.mir.specs.Locals.{localTy}
+use Rattle.mir.specs.Rvalues.{constantWords, leftWords, placeRvalueKind, binaryKind, liveRow, deadRow, placeRvalueRow, constantRow, binaryRow}
+use Rattle.state.specs.Steps.{newBlock, setTerminator, pushStatement, newLocal, pushScope, pushEntry, tryBlock, tryStatement, tryLocal, tryScope, tryEntry}
+use Rattle.literals.specs.Literals.{constantOf, stringConstant, integerConstant, literalBy, lowerLiteralToOperand, lowerConstToOperand, literalOrConstBy, lowerLiteralOrConstToOperand}
+use Rattle.lower.specs.Temps.{isSlice, pushStorageLiveForLocal, temp, bindingLocal, discrTempPlace, discrLocal}
+use Rattle.views.specs.Views.{terminatorOf, elemsAt, pathOf, constantAt, leftOf, lineOf, mirOf}
+use Rattle.refusals.specs.Refusals.{numberOf, reasonOf, refusalAt}
+use Rattle.pattern_matching.specs.Walking.{visited, project, localPlace, elseState, elseBlock, derefed, entered}
+use Rattle.pattern_matching.specs.Tests.{compare, patternMatchConst, literal, litBy, constantPath, rangeEnd, rangeEnd?, bindingRvalue, patternMatchBinding, localPath}
+use Rattle.pattern_matching.specs.Variants.{placeTy, shapeOf, patternMatchAdt, patternMatchTupleLike, ellipsisAt, tupleOn, tuplePattern, refOn, refPattern, resolved, recordFields, variantFields, discriminantTest, variantOn, adtOn, patternMatchingVariant, variantPattern}
+use Rattle.pattern_matching.specs.Slices.{lengthConstant, lengthCompared, lengthTest, restBound, sliceItems, sliceOn}
+use Rattle.pattern_matching.specs.Patterns.{alternatives, alternativesEnd, orPattern, rangePattern, pathPattern, bindPattern, restBy, restOf, patternMatchInner, lowerings, lowering?, patternMatch}
+use Rattle.pattern_matching.specs.Patterns.{matchSelfParam}
+use Rattle.lowered_params.specs.Params.{paramLocal, byValue, plainBind, plainBinding, boundTo, declareSelf, declareParam, declareParams, declareBinding, declareBindings, declare, shutElse, shut, unlessBound, unlessOwn, lowerSelf, lowerParam, lowerParams, selfCount, lowerAll, lowerParamsAndBindings}
+use Rattle.image.specs.Lists.{allTrue, distinct}
+use Rattle.image.specs.Integers.{leastValue, greatestValue, inRange, integerValue}
+use Rattle.meaning.specs.Values.{items, partsOf, intFits, kindNumber, fieldTypes, valueFits}
+use Rattle.meaning.specs.Typing.{behind, typeIsThePlaces, tupleFields, variantsOf, argumentsFit, discriminantsDiffer, integerFits}
+use Rattle.meaning.specs.Fitting.{literalFits, pathFits, rowFits, eachFits, typesFit}
+use Rattle.meaning.specs.Fit.{boundIn, bindingsFit}
+use Rattle.meaning.specs.Fits.{hasVariant, pathTaken, nothingRefused, present, localsDiffer, fits}
+use Rattle.meaning.specs.Matching.{crossed, created, matchAll, matchRow, isVariant, pathMatches, matches}
+use Rattle.meaning.specs.Differences.{asTheReference}
+use Rattle.meaning.specs.Running.{scalarOf, bytesOf, sameValue}
+use Rattle.param_runs.specs.Returned.{ownLocal}
+use Rattle.param_runs.specs.Through.{plain, patternFits, paramFits, paramsFit, allFit, paramsBound}
+use Rattle.param_runs.specs.Corner.{start, unbound, answer, Answer, accepted, refusal, Row, cornerFits}
+
+abbrev plain-row : Row
+plain-row = record { image = 0 ∷ 0 ∷ 0 ∷ 41 ∷ 1 ∷ 0 ∷ 1 ∷ 0 ∷ 0 ∷ 0 ∷ 1 ∷ 0 ∷ 1 ∷ 0 ∷ 0 ∷ 0 ∷ 0 ∷ 0 ∷ 1 ∷ 0 ∷ 1 ∷ 0 ∷ 0 ∷ 0 ∷ 0 ∷ 0 ∷ 1 ∷ 0 ∷ 11 ∷ 0 ∷ 0 ∷ 0 ∷ 0 ∷ 0 ∷ 0 ∷ 255 ∷ 255 ∷ 0 ∷ 0 ∷ 0 ∷ 0 ∷ 0 ∷ 0 ∷ 0 ∷ 1 ∷ []; self = SelfParam.None; params = (record { pattern = 0; ty = 0 } ∷ []); wanted = accepted (record { 0 = 0 }) (0 ∷ []) (record { terminators = (Terminator.Open ∷ []); lines = ([]); locals = (0 ∷ []) }) (0 ∷ []); values = (Int (pos 5) ∷ []); fit = true }
+
+abbrev mutable-row : Row
+mutable-row = record { image = 0 ∷ 0 ∷ 0 ∷ 41 ∷ 1 ∷ 0 ∷ 1 ∷ 0 ∷ 0 ∷ 0 ∷ 1 ∷ 0 ∷ 1 ∷ 0 ∷ 0 ∷ 0 ∷ 0 ∷ 0 ∷ 1 ∷ 0 ∷ 1 ∷ 0 ∷ 0 ∷ 0 ∷ 0 ∷ 0 ∷ 1 ∷ 0 ∷ 11 ∷ 0 ∷ 0 ∷ 0 ∷ 0 ∷ 0 ∷ 0 ∷ 255 ∷ 255 ∷ 0 ∷ 0 ∷ 0 ∷ 1 ∷ 0 ∷ 0 ∷ 0 ∷ 1 ∷ []; self = SelfParam.None; params = (record { pattern = 0; ty = 0 } ∷ []); wanted = accepted (record { 0 = 0 }) (0 ∷ []) (record { terminators = (Terminator.Open ∷ []); lines = ([]); locals = (0 ∷ []) }) (0 ∷ []); values = (Int (pos 5) ∷ []); fit = true }
+
+abbrev bound-some-row : Row
+bound-some-row = record { image = 0 ∷ 0 ∷ 0 ∷ 127 ∷ 1 ∷ 0 ∷ 2 ∷ 0 ∷ 2 ∷ 0 ∷ 3 ∷ 0 ∷ 1 ∷ 0 ∷ 2 ∷ 0 ∷ 32 ∷ 0 ∷ 1 ∷ 0 ∷ 1 ∷ 0 ∷ 0 ∷ 0 ∷ 0 ∷ 0 ∷ 1 ∷ 0 ∷ 6 ∷ 0 ∷ 0 ∷ 0 ∷ 2 ∷ 0 ∷ 1 ∷ 0 ∷ 0 ∷ 0 ∷ 0 ∷ 0 ∷ 1 ∷ 0 ∷ 0 ∷ 0 ∷ 1 ∷ 0 ∷ 0 ∷ 0 ∷ 16 ∷ 0 ∷ 3 ∷ 0 ∷ 0 ∷ 0 ∷ 0 ∷ 0 ∷ 0 ∷ 0 ∷ 0 ∷ 0 ∷ 0 ∷ 0 ∷ 0 ∷ 0 ∷ 12 ∷ 0 ∷ 1 ∷ 0 ∷ 0 ∷ 0 ∷ 1 ∷ 0 ∷ 1 ∷ 255 ∷ 255 ∷ 0 ∷ 0 ∷ 0 ∷ 11 ∷ 0 ∷ 1 ∷ 0 ∷ 0 ∷ 0 ∷ 0 ∷ 0 ∷ 1 ∷ 0 ∷ 0 ∷ 0 ∷ 0 ∷ 0 ∷ 1 ∷ 0 ∷ 1 ∷ 0 ∷ 0 ∷ 0 ∷ 0 ∷ 1 ∷ 0 ∷ 0 ∷ 0 ∷ 0 ∷ 0 ∷ 0 ∷ 0 ∷ 0 ∷ 0 ∷ 0 ∷ 0 ∷ 0 ∷ 0 ∷ 0 ∷ 0 ∷ 0 ∷ 0 ∷ 0 ∷ 0 ∷ 0 ∷ 0 ∷ 0 ∷ 0 ∷ 0 ∷ 0 ∷ 0 ∷ 0 ∷ 0 ∷ 0 ∷ 0 ∷ 0 ∷ []; self = SelfParam.None; params = (record { pattern = 2; ty = 1 } ∷ []); wanted = accepted (record { 0 = 1 }) (1 ∷ []) (record { terminators = (Terminator.Switch (record { 0 = 2 }) 1 0 (record { 0 = 1 }) (record { 0 = 2 }) ∷ Terminator.Open ∷ Terminator.Unreachable ∷ []); lines = (record { block = 0; statement = live 2 } ∷ record { block = 0; statement = set 2 (ofPlace PlaceRvalue.Discr (record { local = 0; elems = ([]) })) } ∷ record { block = 1; statement = live 1 } ∷ record { block = 1; statement = set 1 (ofPlace PlaceRvalue.Copy (record { local = 0; elems = ([]) })) } ∷ []); locals = (1 ∷ 1 ∷ 258 ∷ []) }) (2 ∷ 2 ∷ 2 ∷ []); values = (Variant 0 (cons (Int (pos 5)) nil) ∷ []); fit = true }
+
+abbrev by-reference-row : Row
+by-reference-row = record { image = 0 ∷ 0 ∷ 0 ∷ 51 ∷ 1 ∷ 0 ∷ 2 ∷ 0 ∷ 0 ∷ 0 ∷ 1 ∷ 0 ∷ 1 ∷ 0 ∷ 0 ∷ 0 ∷ 0 ∷ 0 ∷ 1 ∷ 0 ∷ 1 ∷ 0 ∷ 0 ∷ 0 ∷ 0 ∷ 0 ∷ 1 ∷ 0 ∷ 7 ∷ 0 ∷ 0 ∷ 0 ∷ 0 ∷ 0 ∷ 0 ∷ 0 ∷ 1 ∷ 0 ∷ 11 ∷ 0 ∷ 0 ∷ 0 ∷ 0 ∷ 0 ∷ 0 ∷ 255 ∷ 255 ∷ 0 ∷ 1 ∷ 0 ∷ 2 ∷ 0 ∷ 1 ∷ 0 ∷ 1 ∷ []; self = SelfParam.None; params = (record { pattern = 0; ty = 0 } ∷ []); wanted = accepted (record { 0 = 0 }) (1 ∷ []) (record { terminators = (Terminator.Open ∷ []); lines = (record { block = 0; statement = live 1 } ∷ record { block = 0; statement = set 1 (ofPlace PlaceRvalue.Ref (record { local = 0; elems = ([]) })) } ∷ []); locals = (0 ∷ 1 ∷ []) }) (2 ∷ []); values = (Int (pos 5) ∷ []); fit = true }
+
+abbrev refutable-row : Row
+refutable-row = record { image = 0 ∷ 0 ∷ 0 ∷ 59 ∷ 1 ∷ 0 ∷ 1 ∷ 0 ∷ 0 ∷ 0 ∷ 1 ∷ 0 ∷ 0 ∷ 0 ∷ 3 ∷ 0 ∷ 16 ∷ 0 ∷ 1 ∷ 0 ∷ 1 ∷ 0 ∷ 0 ∷ 0 ∷ 0 ∷ 0 ∷ 1 ∷ 0 ∷ 10 ∷ 0 ∷ 0 ∷ 0 ∷ 0 ∷ 0 ∷ 0 ∷ 0 ∷ 0 ∷ 0 ∷ 0 ∷ 0 ∷ 0 ∷ 0 ∷ 1 ∷ 0 ∷ 0 ∷ 0 ∷ 16 ∷ 7 ∷ 0 ∷ 0 ∷ 0 ∷ 0 ∷ 0 ∷ 0 ∷ 0 ∷ 0 ∷ 0 ∷ 0 ∷ 0 ∷ 0 ∷ 0 ∷ 0 ∷ 0 ∷ []; self = SelfParam.None; params = (record { pattern = 0; ty = 0 } ∷ []); wanted = accepted (record { 0 = 1 }) ([]) (record { terminators = (Terminator.Switch (record { 0 = 1 }) 1 0 (record { 0 = 1 }) (record { 0 = 2 }) ∷ Terminator.Open ∷ Terminator.Unreachable ∷ []); lines = (record { block = 0; statement = live 1 } ∷ record { block = 0; statement = set 1 (binary BinOp.Eq (Left.Constant (record { count = 1; ty = 0; offset = 0; low = 7; high = 0 })) (record { local = 0; elems = ([]) })) } ∷ []); locals = (0 ∷ 256 ∷ []) }) (2 ∷ []); values = (Int (pos 7) ∷ []); fit = true }
+
+abbrev two-enums-row : Row
+two-enums-row = record { image = 0 ∷ 0 ∷ 0 ∷ 123 ∷ 1 ∷ 0 ∷ 2 ∷ 0 ∷ 2 ∷ 0 ∷ 3 ∷ 0 ∷ 0 ∷ 0 ∷ 2 ∷ 0 ∷ 32 ∷ 0 ∷ 1 ∷ 0 ∷ 1 ∷ 0 ∷ 0 ∷ 0 ∷ 0 ∷ 0 ∷ 1 ∷ 0 ∷ 6 ∷ 0 ∷ 0 ∷ 0 ∷ 2 ∷ 0 ∷ 1 ∷ 0 ∷ 0 ∷ 0 ∷ 0 ∷ 0 ∷ 1 ∷ 0 ∷ 0 ∷ 0 ∷ 1 ∷ 0 ∷ 0 ∷ 0 ∷ 16 ∷ 0 ∷ 3 ∷ 0 ∷ 0 ∷ 0 ∷ 0 ∷ 0 ∷ 0 ∷ 0 ∷ 0 ∷ 0 ∷ 0 ∷ 0 ∷ 0 ∷ 0 ∷ 12 ∷ 0 ∷ 1 ∷ 0 ∷ 0 ∷ 0 ∷ 1 ∷ 0 ∷ 1 ∷ 255 ∷ 255 ∷ 0 ∷ 0 ∷ 0 ∷ 9 ∷ 0 ∷ 1 ∷ 0 ∷ 0 ∷ 0 ∷ 1 ∷ 0 ∷ 1 ∷ 0 ∷ 0 ∷ 0 ∷ 0 ∷ 0 ∷ 0 ∷ 0 ∷ 0 ∷ 1 ∷ 0 ∷ 0 ∷ 0 ∷ 0 ∷ 0 ∷ 0 ∷ 0 ∷ 0 ∷ 0 ∷ 0 ∷ 0 ∷ 0 ∷ 0 ∷ 0 ∷ 0 ∷ 0 ∷ 0 ∷ 0 ∷ 0 ∷ 0 ∷ 0 ∷ 0 ∷ 0 ∷ 0 ∷ 0 ∷ 0 ∷ 0 ∷ 0 ∷ 0 ∷ 0 ∷ 0 ∷ []; self = SelfParam.None; params = (record { pattern = 1; ty = 1 } ∷ record { pattern = 2; ty = 1 } ∷ []); wanted = accepted (record { 0 = 3 }) ([]) (record { terminators = (Terminator.Switch (record { 0 = 2 }) 1 0 (record { 0 = 1 }) (record { 0 = 2 }) ∷ Terminator.Switch (record { 0 = 2 }) 0 0 (record { 0 = 3 }) (record { 0 = 4 }) ∷ Terminator.Unreachable ∷ Terminator.Open ∷ Terminator.Unreachable ∷ []); lines = (record { block = 0; statement = live 2 } ∷ record { block = 0; statement = set 2 (ofPlace PlaceRvalue.Discr (record { local = 0; elems = ([]) })) } ∷ record { block = 1; statement = set 2 (ofPlace PlaceRvalue.Discr (record { local = 1; elems = ([]) })) } ∷ []); locals = (1 ∷ 1 ∷ 258 ∷ []) }) (2 ∷ 2 ∷ 2 ∷ []); values = (Variant 0 (cons (Int (pos 5)) nil) ∷ Variant 1 nil ∷ []); fit = true }
+
+abbrev receiver-and-pair-row : Row
+receiver-and-pair-row = record { image = 0 ∷ 0 ∷ 0 ∷ 109 ∷ 1 ∷ 0 ∷ 2 ∷ 0 ∷ 0 ∷ 0 ∷ 4 ∷ 0 ∷ 3 ∷ 0 ∷ 4 ∷ 0 ∷ 0 ∷ 0 ∷ 1 ∷ 0 ∷ 1 ∷ 0 ∷ 0 ∷ 0 ∷ 0 ∷ 0 ∷ 1 ∷ 0 ∷ 5 ∷ 0 ∷ 0 ∷ 0 ∷ 2 ∷ 0 ∷ 0 ∷ 0 ∷ 1 ∷ 0 ∷ 11 ∷ 0 ∷ 0 ∷ 0 ∷ 0 ∷ 0 ∷ 1 ∷ 255 ∷ 255 ∷ 0 ∷ 0 ∷ 0 ∷ 0 ∷ 0 ∷ 3 ∷ 0 ∷ 0 ∷ 0 ∷ 0 ∷ 0 ∷ 0 ∷ 0 ∷ 0 ∷ 0 ∷ 0 ∷ 0 ∷ 0 ∷ 0 ∷ 4 ∷ 0 ∷ 1 ∷ 0 ∷ 0 ∷ 0 ∷ 2 ∷ 0 ∷ 2 ∷ 255 ∷ 255 ∷ 0 ∷ 0 ∷ 0 ∷ 11 ∷ 0 ∷ 0 ∷ 0 ∷ 0 ∷ 0 ∷ 2 ∷ 255 ∷ 255 ∷ 0 ∷ 0 ∷ 0 ∷ 0 ∷ 0 ∷ 0 ∷ 0 ∷ 1 ∷ 0 ∷ 0 ∷ 0 ∷ 1 ∷ 0 ∷ 0 ∷ 0 ∷ 1 ∷ 0 ∷ 0 ∷ 0 ∷ 0 ∷ 0 ∷ 0 ∷ 0 ∷ 1 ∷ []; self = SelfParam.Some (record { 0 = 0 }) 0; params = (record { pattern = 2; ty = 1 } ∷ record { pattern = 3; ty = 0 } ∷ []); wanted = accepted (record { 0 = 0 }) (0 ∷ 3 ∷ 2 ∷ []) (record { terminators = (Terminator.Open ∷ []); lines = (record { block = 0; statement = live 3 } ∷ record { block = 0; statement = set 3 (ofPlace PlaceRvalue.Copy (record { local = 1; elems = ((ProjectionElem.Field 0) ∷ []) })) } ∷ []); locals = (0 ∷ 1 ∷ 0 ∷ 0 ∷ []) }) (2 ∷ 2 ∷ 2 ∷ 0 ∷ []); values = (Int (pos 9) ∷ Tuple (cons (Int (pos 2)) (cons (Int (pos 3)) nil)) ∷ Int (pos 4) ∷ []); fit = true }
+
+abbrev bound-twice-row : Row
+bound-twice-row = record { image = 0 ∷ 0 ∷ 0 ∷ 41 ∷ 1 ∷ 0 ∷ 1 ∷ 0 ∷ 0 ∷ 0 ∷ 1 ∷ 0 ∷ 1 ∷ 0 ∷ 0 ∷ 0 ∷ 0 ∷ 0 ∷ 1 ∷ 0 ∷ 1 ∷ 0 ∷ 0 ∷ 0 ∷ 0 ∷ 0 ∷ 1 ∷ 0 ∷ 11 ∷ 0 ∷ 0 ∷ 0 ∷ 0 ∷ 0 ∷ 0 ∷ 255 ∷ 255 ∷ 0 ∷ 0 ∷ 0 ∷ 0 ∷ 0 ∷ 0 ∷ 0 ∷ 1 ∷ []; self = SelfParam.Some (record { 0 = 0 }) 0; params = (record { pattern = 0; ty = 0 } ∷ []); wanted = accepted (record { 0 = 0 }) (1 ∷ []) (record { terminators = (Terminator.Open ∷ []); lines = (record { block = 0; statement = live 1 } ∷ record { block = 0; statement = set 1 (ofPlace PlaceRvalue.Copy (record { local = 0; elems = ([]) })) } ∷ []); locals = (0 ∷ 0 ∷ []) }) (0 ∷ []); values = (Int (pos 9) ∷ Int (pos 4) ∷ []); fit = false }
+
+abbrev pub rows : List Row
+rows = plain-row ∷ mutable-row ∷ bound-some-row ∷ by-reference-row ∷ refutable-row ∷ two-enums-row ∷ receiver-and-pair-row ∷ bound-twice-row ∷ []
+
+-- each row's image comes to the answer that is wanted
+pub as-wanted : map (λ (row : Row). answer (row .image) (row .self) (row .params)) rows ≡ map (λ (row : Row). row .wanted) rows
+unfolding wordAt littleEndian tablesOf typeAt variantAt patAt bindingAt listAt operandAt operandBytes member upFrom listed shapeBy tyOf variantOf bindingOf operandOf word? operand? trees tree? target nodeBy node treeOf tree elemOf wordOf projectionOf fieldOf derefTy adtFieldTy fieldTy elementTy subsliceTy adtDowncastTy downcastTy tyProjection variantProjection partProjection projectionTy multiProjectionTy termRow halves placeWords localTy constantWords leftWords placeRvalueKind binaryKind liveRow deadRow placeRvalueRow constantRow binaryRow newBlock setTerminator pushStatement newLocal pushScope pushEntry tryBlock tryStatement tryLocal tryScope tryEntry constantOf stringConstant integerConstant literalBy lowerLiteralToOperand lowerConstToOperand literalOrConstBy lowerLiteralOrConstToOperand isSlice pushStorageLiveForLocal temp bindingLocal discrTempPlace discrLocal terminatorOf elemsAt pathOf constantAt leftOf lineOf mirOf numberOf reasonOf refusalAt visited project localPlace elseState elseBlock derefed entered compare patternMatchConst literal litBy constantPath rangeEnd rangeEnd? bindingRvalue patternMatchBinding localPath placeTy shapeOf patternMatchAdt patternMatchTupleLike ellipsisAt tupleOn tuplePattern refOn refPattern resolved recordFields variantFields discriminantTest variantOn adtOn patternMatchingVariant variantPattern lengthConstant lengthCompared lengthTest restBound sliceItems sliceOn alternatives alternativesEnd orPattern rangePattern pathPattern bindPattern restBy restOf patternMatchInner lowerings lowering? patternMatch matchSelfParam paramLocal byValue plainBind plainBinding boundTo declareSelf declareParam declareParams declareBinding declareBindings declare shutElse shut unlessBound unlessOwn lowerSelf lowerParam lowerParams selfCount lowerAll lowerParamsAndBindings start unbound answer
+as-wanted = refl
+
+-- whether the parameters fit the values beside them, as the theorem on runs asks
+pub fit-as-said : map cornerFits rows ≡ map (λ (row : Row). row .fit) rows
+unfolding wordAt littleEndian tablesOf typeAt variantAt patAt bindingAt listAt operandAt operandBytes member upFrom listed shapeBy tyOf variantOf bindingOf operandOf word? operand? trees tree? target nodeBy node treeOf tree allTrue distinct leastValue greatestValue inRange integerValue items partsOf intFits kindNumber fieldTypes valueFits behind typeIsThePlaces tupleFields variantsOf argumentsFit discriminantsDiffer integerFits literalFits pathFits rowFits eachFits typesFit boundIn bindingsFit hasVariant pathTaken nothingRefused present localsDiffer fits crossed created matchAll matchRow isVariant pathMatches matches asTheReference scalarOf bytesOf sameValue Rattle.meaning.specs.Typing.variantFields ownLocal plain patternFits paramFits paramsFit allFit paramsBound cornerFits
+fit-as-said = refl

@@ -1,0 +1,17 @@
+mod Shutting
+mod Owning
+mod Words
+mod Plain
+mod Declaring
+mod Stepping
+pub mod OpenBlocks
+mod Tallying
+mod Typing
+pub mod Counts
+pub mod Corners
+mod Differing
+mod Walks
+mod Fitting
+mod Holding
+pub mod Through
+pub mod Runs

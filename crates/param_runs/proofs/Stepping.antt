@@ -1,0 +1,37 @@
+-- The steps of an accepted call: the locals are made, and then self and the parameters are lowered. Assumes nothing.
+use Prim.Native.Nat.{ℕ, _+_}
+use mathlib.Core.Path.{_≡_, refl, sym}
+use mathlib.Core.List.{List}
+use lib.ListN.{length}
+use Rattle.refusals.specs.Refusals.{Result, noPattern}
+use Rattle.refusals.specs.Refusals.{ok as done, refused as stopped}
+use Rattle.mir.specs.declared.BasicBlockId.{BasicBlockId}
+use Rattle.pattern_matching.specs.Walking.{Ctx, Out, Walk, ok, step, withState}
+use Rattle.lowered_params.specs.declared.SelfParam.{SelfParam}
+use Rattle.lowered_params.specs.Params.{Param, Declared, ParamsOut, declare, selfCount, lowerSelf, lowerParams, lowerAll, lowerParamsAndBindings}
+use Rattle.growth.proofs.Walks.{not-ok, ok-is, walked}
+
+-- what each step gave
+pub record Steps (image : List ℕ) (self : SelfParam) (params : List Param) (bindings : List ℕ) (ctx : Ctx) (current : BasicBlockId) (r : ParamsOut) : Type 0 where
+  pub made : Declared
+  pub declared : declare image self params (record { state = ctx .state; bindings = bindings }) ≡ done made
+  pub behind : Out
+  pub self-lowered : lowerSelf image (made .bindings) self (length (ctx .state .locals)) (withState ctx (made .state)) current ≡ ok behind
+  pub end : Out
+  pub params-lowered : lowerParams image (made .bindings) params (length (ctx .state .locals) + selfCount self) (behind .ctx) (behind .then) ≡ ok end
+  pub is : r ≡ record { ctx = end .ctx; then = end .then; bindings = made .bindings }
+
+-- a step, and what followed it
+stepped : {A B C : Type 0} (p : ℕ) (x : Result A) (k : A → Walk B) {b : B} → step p x k ≡ ok b → ((a : A) → x ≡ done a → k a ≡ ok b → C) → C
+stepped p (done a) k e f = f a refl e
+stepped p (stopped x) k e f = absurd (not-ok e)
+
+-- those of an accepted call
+pub steps : (image : List ℕ) (self : SelfParam) (params : List Param) (bindings : List ℕ) (ctx : Ctx) (current : BasicBlockId) (r : ParamsOut) →
+    lowerParamsAndBindings image self params bindings ctx current ≡ ok r → Steps image self params bindings ctx current r
+unfolding lowerParamsAndBindings lowerAll
+steps image self params bindings ctx current r e =
+    stepped noPattern (declare image self params (record { state = ctx .state; bindings = bindings })) _ e (λ d e₁ e₂.
+    walked (lowerSelf image (d .bindings) self (length (ctx .state .locals)) (withState ctx (d .state)) current) _ e₂ (λ r₁ e₃ e₄.
+    walked (lowerParams image (d .bindings) params (length (ctx .state .locals) + selfCount self) (r₁ .ctx) (r₁ .then)) _ e₄ (λ r₂ e₅ e₆.
+    record { made = d; declared = e₁; behind = r₁; self-lowered = e₃; end = r₂; params-lowered = e₅; is = sym (ok-is e₆) })))

@@ -1,0 +1,59 @@
+-- The start of the corners on parameters, block 0 open and one scope open, with no local yet, and what parameters come to from there.
+-- Assumes nothing: these are definitions.
+use Prim.Native.Nat.{ℕ}
+use mathlib.Core.Bool.{Bool, _&&_}
+use mathlib.Core.List.{List, [], _∷_, map}
+use Rattle.refusals.specs.Refusals.{Refusal, refusalAt}
+use Rattle.row_tables.specs.Rows.{zeros}
+use Rattle.image.specs.Tables.{patternCount, bindingCount}
+use Rattle.image.specs.Lists.{upFrom}
+use Rattle.mir.specs.declared.BasicBlockId.{BasicBlockId}
+use Rattle.lower.specs.declared.temps.DiscrTemp.{DiscrTemp}
+use Rattle.views.specs.Views.{Mir, mirOf}
+use Rattle.pattern_matching.specs.Walking.{Ctx, Walk, ok, refused}
+use Rattle.lowered_params.specs.declared.SelfParam.{SelfParam}
+use Rattle.lowered_params.specs.Params.{Param, ParamsOut, lowerParamsAndBindings}
+use Rattle.meaning.specs.Values.{Value}
+use Rattle.param_runs.specs.Through.{allFit, bindingsDiffer}
+
+-- the start
+unfoldable pub start : List ℕ → Ctx
+start image =
+    record { state = record { blocks = zeros 12 ∷ []; statements = []; locals = []; scopes = 0 ∷ []; entries = [] }; discr = DiscrTemp.None; visits = zeros (patternCount image) }
+
+-- no binding has a local
+unfoldable pub unbound : List ℕ → List ℕ
+unbound image = map (λ b. 65535) (upFrom 0 (bindingCount image))
+
+-- the block to go on from, the bindings' locals, the whole content of the listing, and the visits; or the three numbers of a refusal
+pub data Answer : Type 0 where
+  accepted : BasicBlockId → List ℕ → Mir → List ℕ → Answer
+  refusal : Refusal → Answer
+
+-- the answer of a walk
+abbrev pub answerOf : Walk ParamsOut → Answer
+answerOf (ok r) = accepted (r .then) (r .bindings) (mirOf (r .ctx .state)) (r .ctx .visits)
+answerOf (refused e p) = refusal (refusalAt e p)
+
+-- a list of parameters, lowered from there
+unfoldable pub answer : List ℕ → SelfParam → List Param → Answer
+answer image self params = answerOf (lowerParamsAndBindings image self params (unbound image) (start image) (record { 0 = 0 }))
+
+-- a corner: an image, self, the parameters, and the answer that is wanted; values for self and the parameters, and whether these fit
+pub record Row : Type 0 where
+  pub image : List ℕ
+  pub self : SelfParam
+  pub params : List Param
+  pub wanted : Answer
+  pub values : List Value
+  pub fit : Bool
+
+-- the bindings' locals of an answer
+abbrev pub boundAfter : Answer → List ℕ
+boundAfter (accepted then bindings body visits) = bindings
+boundAfter (refusal numbers) = []
+
+-- the parameters of a corner fit its values, and no binding stands in two of them
+unfoldable pub cornerFits : Row → Bool
+cornerFits row =
+    allFit (row .image) (boundAfter (row .wanted)) DiscrTemp.None (row .self) (row .params) 0 (row .values) && bindingsDiffer (row .image) (row .self) (row .params)

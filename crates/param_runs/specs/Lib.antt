@@ -1,0 +1,4 @@
+pub mod Returned
+pub mod Totals
+pub mod Through
+pub mod Corner

@@ -1,0 +1,52 @@
+-- How many blocks and statements a list of parameters makes: document 01's counts, over those parameters that are lowered. Assumes nothing: these are definitions.
+use Prim.Native.Nat.{ℕ, _+_, _<_}
+use mathlib.Core.Path.{_≡_}
+use mathlib.Core.Bool.{cond}
+use mathlib.Core.List.{List, [], _∷_, _++_}
+use lib.Dec.{eqb}
+use lib.ListN.{length, getD}
+use Rattle.image.specs.Tree.{tree}
+use Rattle.place.specs.declared.place_ty.PlaceTy.{PlaceTy}
+use Rattle.lower.specs.declared.temps.DiscrTemp.{DiscrTemp}
+use Rattle.lower.specs.declared.merging.OptBlock.{OptBlock}
+use Rattle.pattern_matching.specs.Walking.{Ctx}
+use Rattle.lowered_params.specs.declared.SelfParam.{SelfParam}
+use Rattle.lowered_params.specs.Params.{Param, ParamsOut, selfCount}
+use Rattle.counting.specs.Reaching.{Reached}
+use Rattle.counting.specs.Counting.{total, reachedFrom, visitsOf, newBlocks, statementsOf, someEnum, discrMade}
+use Rattle.param_runs.specs.Returned.{ownLocal}
+
+module _ (image bindings : List ℕ) where
+  -- the patterns reached from the parameters that are lowered; the local of the first parameter is l, and the others follow
+  unfoldable pub paramsReached : List Param → ℕ → List Reached
+  paramsReached [] l = []
+  paramsReached (q ∷ qs) l =
+      cond (ownLocal bindings (tree image (q .pattern)) l) [] (reachedFrom image (tree image (q .pattern)) (PlaceTy.Ty (q .ty))) ++ paramsReached qs (l + 1)
+
+  -- the total of their new blocks
+  unfoldable pub paramsBlocks : List Param → ℕ → ℕ
+  paramsBlocks [] l = 0
+  paramsBlocks (q ∷ qs) l =
+      cond (ownLocal bindings (tree image (q .pattern)) l) 0 (newBlocks image (tree image (q .pattern)) (PlaceTy.Ty (q .ty)) OptBlock.None) + paramsBlocks qs (l + 1)
+
+  -- the total of their new statements: the discriminant local is made once, at the first test of an enum, where none was handed in
+  unfoldable pub paramsStatements : List Param → ℕ → DiscrTemp → ℕ
+  paramsStatements qs l discr = total statementsOf (paramsReached qs l) + discrMade (someEnum (paramsReached qs l)) discr
+
+-- self, where it is lowered, is copied: no block and two statements
+unfoldable pub selfStatements : List ℕ → SelfParam → ℕ → ℕ
+selfStatements bindings SelfParam.None l = 0
+selfStatements bindings (SelfParam.Some b ty) l = cond (eqb l (getD bindings (b .0) 65535)) 0 2
+
+-- the local of the first parameter: behind self's, if there is one, which is the next one when the call comes
+abbrev pub firstLocal : SelfParam → Ctx → ℕ
+firstLocal self ctx = length (ctx .state .locals) + selfCount self
+
+-- what is counted of a list of parameters lowered from ctx on, which gave r
+pub record ParamsCounted (image : List ℕ) (self : SelfParam) (params : List Param) (ctx : Ctx) (r : ParamsOut) : Type 0 where
+  -- the new blocks and statements are the totals of the lowered parameters' counts
+  pub blocks : length (r .ctx .state .blocks) ≡ length (ctx .state .blocks) + paramsBlocks image (r .bindings) params (firstLocal self ctx)
+  pub statements : length (r .ctx .state .statements) ≡
+      length (ctx .state .statements) + (selfStatements (r .bindings) self (length (ctx .state .locals)) + paramsStatements image (r .bindings) params (firstLocal self ctx) (ctx .discr))
+  -- and so are the visits to each pattern
+  pub visits : (n : ℕ) → n < length (ctx .visits) → getD (r .ctx .visits) n 0 ≡ getD (ctx .visits) n 0 + visitsOf n (paramsReached image (r .bindings) params (firstLocal self ctx))
