@@ -16,7 +16,7 @@ ghost use Prim.Native.Nat.{_≤_};
 ghost use lib.ListN.{length};
 ghost use Rattle.handed.specs.Handed.{startHolds, elseHolds, placeHolds, bindingHolds, bindingsHold, discrHolds, patternHanded, matchHolds, selfHolds};
 
-fn start_holds(blocks: &[u16], counts: Counts, current: BasicBlockId) -> bool
+pub fn start_holds(blocks: &[u16], counts: Counts, current: BasicBlockId) -> bool
     requires { ⌜ (length (now blocks) ≡ 6144) × (counts .blocks ≤ 512) ⌝ }
     ensures { λ r. ⌜ r ≡ startHolds (now (blocks .entry)) counts current ⌝ }
 {
@@ -70,7 +70,7 @@ fn binding_holds(counts: Counts, l: u16) -> bool
     l < counts.locals
 }
 
-fn bindings_hold(count: u16, counts: Counts, bindings: &[u16]) -> bool
+pub fn bindings_hold(count: u16, counts: Counts, bindings: &[u16]) -> bool
     ensures { λ r. ⌜ r ≡ bindingsHold count counts (now (bindings .entry)) ⌝ }
 {
     if bindings.len() != (count as usize) {
@@ -86,7 +86,7 @@ fn bindings_hold(count: u16, counts: Counts, bindings: &[u16]) -> bool
     true
 }
 
-fn discr_holds(counts: Counts, discr: DiscrTemp) -> bool
+pub fn discr_holds(counts: Counts, discr: DiscrTemp) -> bool
     ensures { λ r. ⌜ r ≡ discrHolds counts discr ⌝ }
 {
     match discr {

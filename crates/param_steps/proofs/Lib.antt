@@ -1,0 +1,4 @@
+mod Telling
+mod Keeping
+pub mod Unreached
+pub mod Receiving

@@ -1,0 +1,50 @@
+-- The public call, by what `open_params` answers. Assumes nothing.
+use Prim.Native.Nat.{ℕ}
+use mathlib.Core.Path.{_≡_, refl}
+use mathlib.Core.List.{List}
+use Rattle.row_tables.specs.Rows.{zeros}
+use Rattle.image.specs.declared.Tables.{Tables}
+use Rattle.mir.specs.declared.BasicBlockId.{BasicBlockId}
+use Rattle.mir.specs.declared.Counts.{Counts}
+use Rattle.state.specs.State.{Body}
+use Rattle.lower.specs.declared.temps.DiscrTemp.{DiscrTemp}
+use Rattle.lower_calls.specs.declared.opening.Opened.{Opened}
+use Rattle.walks.specs.Answers.{ctxOf}
+use Rattle.lowered_params.specs.declared.SelfParam.{SelfParam}
+use Rattle.lowered_params.specs.declared.ParamsCall.{ParamsCall}
+use Rattle.lowered_params.specs.Params.{lowerParamsAndBindings}
+use Rattle.lowered_params.specs.Calls.{badImage, badCall, walked, paramsOf, paramsCall, GivesParams}
+use Rattle.param_locals.specs.Looking.{openedParams}
+use Rattle.param_locals.proofs.Opening.{not-image, not-call, params-taken}
+use Rattle.params_laws.proofs.Stepping.{params-by}
+
+module _ (image words : List ℕ) (self : SelfParam) (bindings : List ℕ) (b : Body) (visits : List ℕ) (c : Counts) (discr : DiscrTemp) (current : BasicBlockId) where
+  -- what the call comes to
+  no-image : Opened.BadImage ≡ openedParams image words self bindings b visits c discr current → badImage ≡ paramsCall image words self bindings b visits c discr current
+  unfolding paramsCall
+  no-image e = rw (not-image image words self bindings b visits c discr current e)
+
+  no-call : Opened.BadCall ≡ openedParams image words self bindings b visits c discr current → badCall ≡ paramsCall image words self bindings b visits c discr current
+  unfolding paramsCall
+  no-call e = let n = not-call image words self bindings b visits c discr current e in rw (n .0, n .1)
+
+  walks : {tables : Tables} → Opened.Image tables ≡ openedParams image words self bindings b visits c discr current →
+      walked (lowerParamsAndBindings image self (paramsOf words) bindings (ctxOf b c discr (zeros 512)) current) ≡ paramsCall image words self bindings b visits c discr current
+  unfolding paramsCall
+  walks e = let T = params-taken image words self bindings b visits c discr current e in rw (T .both .valid-image, T .list, T .both .body, T .call)
+
+  -- the image or the list breaks a rule
+  pub bad-image : Opened.BadImage ≡ openedParams image words self bindings b visits c discr current →
+      GivesParams bindings b visits c (paramsCall image words self bindings b visits c discr current) ParamsCall.BadImage bindings b visits
+  bad-image e = params-by (no-image e) (record { reply = refl; refusal = refl; tables = refl; reads = tt; locals = refl; visits = refl })
+
+  -- the body or a value of the call names nothing
+  pub bad-call : Opened.BadCall ≡ openedParams image words self bindings b visits c discr current →
+      GivesParams bindings b visits c (paramsCall image words self bindings b visits c discr current) ParamsCall.BadCall bindings b visits
+  bad-call e = params-by (no-call e) (record { reply = refl; refusal = refl; tables = refl; reads = tt; locals = refl; visits = refl })
+
+  -- all is taken, and the call comes to its own step
+  pub goes-on : {tables : Tables} {r : ParamsCall} {m v : List ℕ} {b₁ : Body} → Opened.Image tables ≡ openedParams image words self bindings b visits c discr current →
+      GivesParams bindings b visits c (walked (lowerParamsAndBindings image self (paramsOf words) bindings (ctxOf b c discr (zeros 512)) current)) r m b₁ v →
+      GivesParams bindings b visits c (paramsCall image words self bindings b visits c discr current) r m b₁ v
+  goes-on e G = params-by (walks e) G

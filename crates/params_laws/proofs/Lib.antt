@@ -1,0 +1,5 @@
+pub mod Typing
+pub mod Lowering
+pub mod Sequence
+pub mod Stepping
+pub mod Calling
