@@ -1,9 +1,11 @@
 """Prints the corners as rows of a theorem about the definitions of the lowering.
 
 `python3 samples/corner_theorems.py proved > crates/audit/proofs/Proved.antt` prints
-those that document 01 marks [P], and with `further` the others that are small, for
-crates/audit/proofs/Further.antt. The answers are those of lowering.py; then format
-the files. With `--check` it fails if a file is not what it prints, but for its layout.
+those that document 01 marks [P], with `further` the others that are small, for
+crates/audit/proofs/Further.antt, and with `params` those on parameters, for
+crates/param_runs/proofs/Corners.antt. The answers are those of lowering.py and of
+params.py; then format the files. With `--check` it fails if a file is not what it
+prints, but for its layout.
 """
 
 import contextlib
@@ -14,8 +16,9 @@ from pathlib import Path
 sys.dont_write_bytecode = True
 
 from corners import CORNERS
-from images import broken, decode
+from images import ABSENT, broken, decode
 from lowering import lower, root_type
+from params import PARAM_CORNERS, UNFIT, lower_params
 from theorems import byte_list
 
 PROVED = ["wild", "literal7", "range", "or_1_2", "wild_or_2", "or_none", "slice_two", "array",
@@ -54,12 +57,33 @@ MODULES = [
      "lowering? patternMatch"),
 ]
 
-HEAD = """-- {what}, lowered by computation from the images' bytes: each row has an image, the type of local 0, and the answer with the
+PARAM_MODULES = [
+    ("pattern_matching", "Patterns", "matchSelfParam"),
+    ("lowered_params", "Params", "paramLocal byValue plainBind plainBinding boundTo declareSelf declareParam declareParams declareBinding declareBindings declare "
+     "shutElse shut unlessBound unlessOwn lowerSelf lowerParam lowerParams selfCount lowerAll lowerParamsAndBindings"),
+]
+
+FIT_MODULES = [
+    ("image", "Lists", "allTrue distinct"),
+    ("image", "Integers", "leastValue greatestValue inRange integerValue"),
+    ("meaning", "Values", "items partsOf intFits kindNumber fieldTypes valueFits"),
+    ("meaning", "Typing", "behind typeIsThePlaces tupleFields variantsOf argumentsFit discriminantsDiffer integerFits"),
+    ("meaning", "Fitting", "literalFits pathFits rowFits eachFits typesFit"),
+    ("meaning", "Fit", "boundIn bindingsFit"),
+    ("meaning", "Fits", "hasVariant pathTaken nothingRefused present localsDiffer fits"),
+    ("meaning", "Matching", "crossed created matchAll matchRow isVariant pathMatches matches"),
+    ("meaning", "Differences", "asTheReference"),
+    ("meaning", "Running", "scalarOf bytesOf sameValue"),
+]
+
+FILES = {"proved": "audit/proofs/Proved", "further": "audit/proofs/Further", "params": "param_runs/proofs/Corners"}
+
+HEAD = """-- {what}, lowered by computation from the images' bytes: each row has {has}, and the answer with the
 -- whole content of its listing and the visits. The rows are written out by samples/corner_theorems.py. Assumes nothing.
 use Prim.Native.Nat.{{ℕ}}
 use mathlib.Core.Path.{{_≡_, refl}}
 use mathlib.Core.List.{{List, [], _∷_, map}}
-use Rattle.lower.specs.declared.merging.OptBlock.{{OptBlock}}
+{first}
 use Rattle.place.specs.declared.elems.ProjectionElem.{{ProjectionElem}}
 use Rattle.mir.specs.declared.blocks.Terminator.{{Terminator}}
 use Rattle.mir.specs.declared.rvalues.BinOp.{{BinOp}}
@@ -67,9 +91,11 @@ use Rattle.mir.specs.declared.rvalues.Left.{{Left}}
 use Rattle.mir.specs.declared.rvalues.PlaceRvalue.{{PlaceRvalue}}
 use Rattle.views.specs.Views.{{Rvalue, ofPlace, ofConstant, binary, Statement, live, dead, set}}
 {uses}
-use Rattle.audit.specs.Call.{{lowering}}
-use Rattle.audit.specs.Started.{{startState, start, answerBy, Answer, accepted, refusal, Row}}
+{own}
 """
+
+AUDIT = """use Rattle.audit.specs.Call.{lowering}
+use Rattle.audit.specs.Started.{startState, start, answerBy, Answer, accepted, refusal, Row}"""
 
 ELEMENTS = {"deref": "Deref", "f": "Field", "i": "Index", "e": "IndexFromEnd", "s": "Subslice", "v": "Downcast"}
 RVALUES = {"copy": "Copy", "ref": "Ref", "mut": "Mut", "len": "Len", "discr": "Discr"}
@@ -146,9 +172,13 @@ def wanted(body):
     if body.refusal:
         return "refusal (record {{ number = {}; pattern = {}; reason = {} }})".format(*body.refusal)
     other = "OptBlock.None" if body.other is None else f"(OptBlock.Some {number(body.other)})"
-    mir = (f"(record {{ terminators = {row_of(map(terminator, body.terminators))}; lines = {row_of(map(line, body.created))}; "
-           f"locals = {row_of(map(word, body.locals))} }})")
-    return f"accepted {number(body.then)} {other} {mir} {row_of(body.visits)}"
+    return f"accepted {number(body.then)} {other} {content(body)} {row_of(body.visits)}"
+
+
+def content(body):
+    """The whole content of a listing."""
+    return (f"(record {{ terminators = {row_of(map(terminator, body.terminators))}; lines = {row_of(map(line, body.created))}; "
+            f"locals = {row_of(map(word, body.locals))} }})")
 
 
 def rows(names):
@@ -172,37 +202,93 @@ def small(name, image):
     return root_type(m, len(m.patterns) - 1) is not None and name not in PROVED
 
 
+def value(of):
+    """A value."""
+    if isinstance(of, int):
+        return f"Int (pos {of})"
+    fields = "nil"
+    for field in reversed(of[1:]):
+        fields = f"(cons ({value(field)}) {fields})"
+    return f"Tuple {fields}" if of[0] == "tuple" else f"Variant {of[0]} {fields}"
+
+
+def param_rows():
+    """A declaration for each corner on parameters."""
+    for name, m, receiver, params, values in PARAM_CORNERS:
+        body = lower_params(m, receiver, params)
+        locals_ = row_of(ABSENT if local is None else local for local in body.binding_locals)
+        answer = f"accepted {number(body.then)} {locals_} {content(body)} {row_of(body.visits)}"
+        me = f"SelfParam.Some {number(receiver[0])} {receiver[1]}" if receiver else "SelfParam.None"
+        listed = row_of(f"record {{ pattern = {p}; ty = {type_} }}" for p, type_ in params)
+        label = name.replace("_", "-") + "-row"
+        given = f"values = {row_of(map(value, values))}; fit = {'false' if name in UNFIT else 'true'}"
+        print(f"abbrev {label} : Row\n{label} = record {{ image = {byte_list(m.encode())}; self = {me}; params = {listed}; wanted = {answer}; {given} }}\n")
+
+
 def differs(kind):
     """A file is not what is printed for it."""
     printed = io.StringIO()
     with contextlib.redirect_stdout(printed):
         print_file(kind)
-    path = Path(__file__).resolve().parent.parent / "crates/audit/proofs" / f"{kind.capitalize()}.antt"
+    path = Path(__file__).resolve().parent.parent / "crates" / f"{FILES[kind]}.antt"
     return printed.getvalue().split() != path.read_text().split()
 
 
 def main():
-    """Prints a file, or checks both."""
+    """Prints a file, or checks all."""
     if sys.argv[1] != "--check":
         print_file(sys.argv[1])
-    elif any(differs(kind) for kind in ("proved", "further")):
-        sys.exit("crates/audit/proofs are not what samples/corner_theorems.py prints")
+    elif wrong := [f"crates/{FILES[kind]}.antt" for kind in FILES if differs(kind)]:
+        sys.exit(f"not what samples/corner_theorems.py prints: {', '.join(wrong)}")
+
+
+def print_end(modules, present, opened, answer):
+    """Prints the list of the rows, and the theorem."""
+    unfolded = " ".join(names for _, _, names in modules)
+    print(f"abbrev pub rows : List Row\nrows = {row_of(present)[1:-1]}\n")
+    print("-- each row's image comes to the answer that is wanted")
+    print(f"pub as-wanted : map (λ (row : Row). {answer}) rows ≡ map (λ (row : Row). row .wanted) rows")
+    print(f"unfolding {unfolded} {opened}\nas-wanted = refl")
+
+
+def uses(modules):
+    """The lines that name the modules."""
+    return "\n".join(f"use Rattle.{crate}.specs.{module}.{{{', '.join(names.split())}}}" for crate, module, names in modules)
 
 
 def print_file(kind):
     """Prints a file."""
+    if kind == "params":
+        print_params()
+        return
     proved = kind == "proved"
     names = PROVED if proved else [name for name, image in CORNERS if small(name, image)]
     present = [name.replace("_", "-") + "-row" for name, _ in CORNERS if name in names]
     what = "The corners of pattern_matching.rs that document 01 marks [P]" if proved else "Further corners"
-    uses = "\n".join(f"use Rattle.{crate}.specs.{module}.{{{', '.join(names_.split())}}}" for crate, module, names_ in MODULES)
-    print(HEAD.format(what=what, uses=uses))
+    first = "use Rattle.lower.specs.declared.merging.OptBlock.{OptBlock}"
+    print(HEAD.format(what=what, has="an image, the type of local 0", first=first, uses=uses(MODULES), own=AUDIT))
     rows(names)
-    opened = " ".join(names_ for _, _, names_ in MODULES)
-    print(f"abbrev pub rows : List Row\nrows = {row_of(present)[1:-1]}\n")
-    print("-- each row's image comes to the answer that is wanted")
-    print("pub as-wanted : map (λ (row : Row). answerBy lowering (row .image) (row .ty)) rows ≡ map (λ (row : Row). row .wanted) rows")
-    print(f"unfolding {opened} startState start answerBy\nas-wanted = refl")
+    print_end(MODULES, present, "startState start answerBy", "answerBy lowering (row .image) (row .ty)")
+
+
+def print_params():
+    """Prints the file on parameters."""
+    first = """use mathlib.Core.Bool.{true, false}
+use lib.IntN.{pos}
+use Rattle.lowered_params.specs.declared.SelfParam.{SelfParam}
+use Rattle.meaning.specs.Values.{Value, Int, Tuple, Variant, nil, cons}"""
+    own = """use Rattle.param_runs.specs.Returned.{ownLocal}
+use Rattle.param_runs.specs.Through.{plain, patternFits, paramFits, paramsFit, allFit, paramsBound}
+use Rattle.param_runs.specs.Corner.{start, unbound, answer, Answer, accepted, refusal, Row, cornerFits}"""
+    print(HEAD.format(what="The corners of document 01 on parameters", has="an image, self, the parameters", first=first, uses=uses(MODULES + PARAM_MODULES + FIT_MODULES), own=own))
+    param_rows()
+    present = [corner[0].replace("_", "-") + "-row" for corner in PARAM_CORNERS]
+    print_end(MODULES + PARAM_MODULES, present, "start unbound answer", "answer (row .image) (row .self) (row .params)")
+    tables = [module for module in MODULES if module[0] == "image"]
+    unfolded = " ".join(names for _, _, names in tables + FIT_MODULES)
+    print("\n-- whether the parameters fit the values beside them, as the theorem on runs asks")
+    print("pub fit-as-said : map cornerFits rows ≡ map (λ (row : Row). row .fit) rows")
+    print(f"unfolding {unfolded} Rattle.meaning.specs.Typing.variantFields ownLocal plain patternFits paramFits paramsFit allFit paramsBound cornerFits\nfit-as-said = refl")
 
 
 if __name__ == "__main__":

@@ -1,3 +1,4 @@
 pub mod Proved
 pub mod Further
 pub mod Audit
+pub mod Parameters

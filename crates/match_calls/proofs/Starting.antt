@@ -53,7 +53,7 @@ test-named image (suc (suc zero)) = tt
 test-named image (suc (suc (suc k))) = tt
 
 -- the word of a type names one that there is
-word-named : (image : List ℕ) (word : ℕ) → isTypeWord (typeCount image) word ≡ true → Named image (localTy word)
+pub word-named : (image : List ℕ) (word : ℕ) → isTypeWord (typeCount image) word ≡ true → Named image (localTy word)
 unfolding isTypeWord localTy
 word-named image word e = go (ltb word 256) refl
   where

@@ -1,7 +1,7 @@
-use Rattle.replay_images.proofs.clear.Statement.{statement}
-use Rattle.replay_images.proofs.clear.Tie as tie
-use Rattle.replay_images.proofs.clear.Reads as reads
-use Rattle.replay_images.proofs.clear.Lts as lts
+use Rattle.stored_images.proofs.clear.Statement.{statement}
+use Rattle.stored_images.proofs.clear.Tie as tie
+use Rattle.stored_images.proofs.clear.Reads as reads
+use Rattle.stored_images.proofs.clear.Lts as lts
 use Prim.Native.Nat.{_-_, _≤_}
 use mathlib.Core.Path.{_≡_, refl, _∙_}
 use native.Mathlib.Omega.{arith}
