@@ -1,6 +1,6 @@
 -- What is printed for an image: the call of `pattern_match` that the program makes, and the ways before it. Assumes nothing.
 use Prim.Native.Nat.{ℕ, _+_, _≤_, _<_}
-use mathlib.Core.Path.{_≡_, sym, ap, subst, _∙_}
+use mathlib.Core.Path.{_≡_, refl, sym, ap, subst, _∙_}
 use mathlib.Core.Bool.{true, false}
 use mathlib.Core.Option.{none, some}
 use mathlib.Core.List.{List, _++_}
@@ -95,6 +95,7 @@ printed {before = before} {text = text} {pen = pen} {after = after} W ok =
       within = omega (arith, count, fits);
       stands = λ short.
           (count, ap (take (pen .at)) (W .stands ok) ∙ ap (λ (n : ℕ). take n (text ++ drop (0 + length text) before)) count ∙ take-append-seam text (drop (0 + length text) before));
+      no-room = λ short. absurd (omega (arith, fits, short));
     }
 
 -- and where there was none
@@ -102,4 +103,4 @@ pub not-printed : {before text : List ℕ} {pen : Pen} {after : List ℕ} → Wr
 not-printed {before = before} {text = text} {pen = pen} {after = after} W full =
     let room : leb (0 + length text) (length before) ≡ false = sym (W .room) ∙ full in
     let over : length before < 0 + length text = leb-false (0 + length text) (length before) room in
-    record { within = omega arith; stands = λ short. absurd (omega (arith, over, short)) }
+    record { within = omega arith; stands = λ short. absurd (omega (arith, over, short)); no-room = λ short. refl }

@@ -1,5 +1,5 @@
 -- What the listing program prints for an image. Assumes nothing: these are definitions.
-use Prim.Native.Nat.{ℕ, _≤_}
+use Prim.Native.Nat.{ℕ, _≤_, _<_}
 use mathlib.Core.Path.{_≡_}
 use mathlib.Core.Bool.{cond}
 use mathlib.Core.Option.{Option, none, some}
@@ -58,7 +58,8 @@ Listable blocks statements locals (MatchCall.Refused e p) = Unit
 Listable blocks statements locals MatchCall.BadCall = Unit
 Listable blocks statements locals MatchCall.BadImage = Unit
 
--- a text stands at the start of a buffer, and r says how many bytes it has, if there was room for it: `before` lies in the buffer before, and `after` after
+-- a text stands at the start of a buffer, and r says how many bytes it has, if there was room for it, and otherwise 0: `before` lies in the buffer before, and `after` after
 pub record Printed (before text : List ℕ) (r : ℕ) (after : List ℕ) : Type 0 where
   pub within : r ≤ length before
   pub stands : length text ≤ length before → (r ≡ length text) × (take r after ≡ text)
+  pub no-room : length before < length text → r ≡ 0
