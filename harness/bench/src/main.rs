@@ -38,7 +38,7 @@ fn main() {
         ["times"] => images::groups().iter().for_each(print_times),
         ["write", folder] => write(Path::new(folder)),
         ["spend", part, file, rounds] => {
-            let images = plan::stored(Path::new(file)).images;
+            let images = plan::stored(Path::new(file)).given;
             let tables = images.map(|image| image::read(&image).expect("an image")).collect();
             let group = Group { name: file.to_owned(), images: tables };
             let mut side = Side::new(part, ready(&group));
@@ -52,8 +52,8 @@ fn main() {
 /// A file for each group, numbered, and its name in another.
 fn write(folder: &Path) {
     for (number, group) in images::groups().iter().enumerate() {
-        let images: Vec<Vec<u8>> = group.images.iter().map(|m| m.encode()).collect();
-        fs::write(folder.join(format!("{number:02}.list")), other::list_of(&images)).expect("written");
+        let list: Vec<u8> = group.images.iter().flat_map(|m| other::image_entry(&m.encode())).collect();
+        fs::write(folder.join(format!("{number:02}.list")), list).expect("written");
         fs::write(folder.join(format!("{number:02}.name")), &group.name).expect("written");
     }
 }
