@@ -1,6 +1,6 @@
 mod Samples
 pub mod Pieces
-mod Loops
+pub mod Loops
 mod Digits
 mod Readings
 mod Texts

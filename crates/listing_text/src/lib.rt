@@ -1,7 +1,7 @@
 // Document 01's listing of a body, written into a lent buffer.
 mod blocks; // blocks.rt: blocks, with their statements and terminators
 mod locals; // locals.rt: locals and their types
-mod numbers; // numbers.rt: numbers in decimal and in hexadecimal
+pub mod numbers; // numbers.rt: numbers in decimal and in hexadecimal
 pub mod pen; // pen.rt: where the next byte goes, and how bytes are written
 mod places; // places.rt: places
 mod rows; // rows.rt: numbers of several words of a row

@@ -14,6 +14,7 @@ use Rattle.image.specs.Valid.{valid}
 use Rattle.mir.specs.declared.BasicBlockId.{BasicBlockId}
 use Rattle.mir.specs.declared.Counts.{Counts}
 use Rattle.state.specs.State.{Body, decode, encode, countsOf}
+use Rattle.state.specs.Contracts.{Ready}
 use Rattle.lower.specs.declared.temps.DiscrTemp.{DiscrTemp}
 use Rattle.lower_calls.specs.Calls.{bodyTaken}
 use Rattle.pattern_matching.specs.Walking.{Walk, ok, refused}
@@ -114,6 +115,16 @@ Reads badImage b = Unit
 Reads badCall b = Unit
 Reads (walked w) b = ReadsWalk w b
 
+-- and they are ready for the next step: the counts are within the limits, and zeros stand above them
+abbrev pub ReadyWalk : Walk ParamsOut → Body → Type 0
+ReadyWalk (ok r) b = Ready b (countsOf (r .ctx .state))
+ReadyWalk (refused e p) b = Unit
+
+abbrev pub ReadyAfter : ParamsCalled → Body → Type 0
+ReadyAfter badImage b = Unit
+ReadyAfter badCall b = Unit
+ReadyAfter (walked w) b = ReadyWalk w b
+
 -- the bindings' locals after the call: "as handed in" after a refusal
 abbrev pub walkBindings : List ℕ → Walk ParamsOut → List ℕ
 walkBindings bindings (ok r) = r .bindings
@@ -140,5 +151,6 @@ pub record GivesParams (bindings : List ℕ) (b : Body) (v : List ℕ) (c : Coun
   pub refusal : numbers r ≡ refusalOf defined
   pub tables : b′ ≡ bodyAfter b c defined
   pub reads : Reads defined b′
+  pub ready : ReadyAfter defined b′
   pub locals : bindings′ ≡ bindingsAfter bindings defined
   pub visits : v′ ≡ visitsAfter v defined

@@ -36,12 +36,12 @@ module _ (image words : List ℕ) (self : SelfParam) (bindings : List ℕ) (b : 
   -- the image or the list breaks a rule
   pub bad-image : Opened.BadImage ≡ openedParams image words self bindings b visits c discr current →
       GivesParams bindings b visits c (paramsCall image words self bindings b visits c discr current) ParamsCall.BadImage bindings b visits
-  bad-image e = params-by (no-image e) (record { reply = refl; refusal = refl; tables = refl; reads = tt; locals = refl; visits = refl })
+  bad-image e = params-by (no-image e) (record { reply = refl; refusal = refl; tables = refl; reads = tt; ready = tt; locals = refl; visits = refl })
 
   -- the body or a value of the call names nothing
   pub bad-call : Opened.BadCall ≡ openedParams image words self bindings b visits c discr current →
       GivesParams bindings b visits c (paramsCall image words self bindings b visits c discr current) ParamsCall.BadCall bindings b visits
-  bad-call e = params-by (no-call e) (record { reply = refl; refusal = refl; tables = refl; reads = tt; locals = refl; visits = refl })
+  bad-call e = params-by (no-call e) (record { reply = refl; refusal = refl; tables = refl; reads = tt; ready = tt; locals = refl; visits = refl })
 
   -- all is taken, and the call comes to its own step
   pub goes-on : {tables : Tables} {r : ParamsCall} {m v : List ℕ} {b₁ : Body} → Opened.Image tables ≡ openedParams image words self bindings b visits c discr current →

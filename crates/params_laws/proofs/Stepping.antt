@@ -21,6 +21,7 @@ use Rattle.mir.specs.declared.BasicBlockId.{BasicBlockId}
 use Rattle.mir.specs.declared.Counts.{Counts}
 use Rattle.mir.specs.Blocks.{isOpen}
 use Rattle.state.specs.State.{Body, State, body, decode, encode}
+use Rattle.state.specs.Contracts.{Ready}
 use Rattle.check_body.specs.Bodies.{isBlock}
 use Rattle.lower.specs.declared.temps.DiscrTemp.{DiscrTemp}
 use Rattle.lower.specs.declared.merging.OptBlock.{OptBlock}
@@ -144,6 +145,7 @@ module _ {image : List ℕ} {tables : Tables} {words : List ℕ} {self : SelfPar
           refusal = refl;
           tables = held after c′ ready;
           reads = ap (decode after) (counted after c′ ready);
+          ready = subst (Ready after) (sym (counted after c′ ready)) ready;
           locals = refl;
           visits = A .holds;
         })
@@ -169,6 +171,7 @@ module _ {image : List ℕ} {tables : Tables} {words : List ℕ} {self : SelfPar
           refusal = refl;
           tables = again ∙ ap encode same;
           reads = tt;
+          ready = tt;
           locals = put ∙ ap (λ (n : ℕ). take n saved) many ∙ kept;
           visits = visits-cleared v′ (seen ∙ ap length no-visit ∙ length-zeros 512) blank₃;
         })

@@ -1,0 +1,128 @@
+-- The text of what a call of `lower_params_and_bindings` answers: of the tables after it, or of its refusal. Assumes nothing.
+use Prim.Native.Nat.{ℕ, _+_, _≤_}
+use mathlib.Core.Path.{_≡_, refl, sym, ap, subst, _∙_}
+use mathlib.Core.List.{List, [], _++_}
+use native.Mathlib.Omega.{arith}
+use lib.ListN.{take}
+use Rattle.refusals.specs.declared.MirLowerError.{MirLowerError}
+use Rattle.refusals.specs.Refusals.{breaksARule, namesNothing, refusalAt}
+use Rattle.image.specs.declared.PatId.{PatId}
+use Rattle.place.specs.declared.LocalId.{LocalId}
+use Rattle.mir.specs.declared.BasicBlockId.{BasicBlockId}
+use Rattle.mir.specs.declared.Counts.{Counts}
+use Rattle.state.specs.State.{Body, State, body, decode, countsOf}
+use Rattle.state.specs.Contracts.{Ready}
+use Rattle.lower.specs.declared.temps.DiscrTemp.{DiscrTemp}
+use Rattle.lower.specs.declared.merging.OptBlock.{OptBlock}
+use Rattle.views.specs.Views.{mirOf}
+use Rattle.listing_text.specs.Listing.{listing, refusalText}
+use Rattle.pattern_matching.specs.Walking.{ok, refused}
+use Rattle.lowered_params.specs.declared.ParamsCall.{ParamsCall}
+use Rattle.lowered_params.specs.Calls.{ParamsCalled, badImage, badCall, walked, answer, bindingsAfter, Reads, ReadyAfter, GivesParams}
+use Rattle.params_text.specs.Texts.{linesText, walkText, callText, answerText, Listable}
+
+-- the text of a state, with the parameters' and the bindings' locals
+stateText : BasicBlockId → ℕ → ℕ → List ℕ → State → List ℕ
+stateText then first many bindings st = listing then OptBlock.None (mirOf st) ++ linesText first many bindings (st .entries)
+
+-- the listing takes neither the scopes nor the entries
+state-same : (b : Body) (c : Counts) (then : BasicBlockId) (first many : ℕ) (bindings : List ℕ) →
+    listing then OptBlock.None (mirOf (decode (body (b .blocks) (b .statements) (b .locals) [] []) c)) ++ linesText first many bindings (take (c .entries) (b .entries))
+    ≡ stateText then first many bindings (decode b c)
+unfolding mirOf decode stateText
+state-same b c then first many bindings = refl
+
+-- an accepted call
+accepted-text : (c : Counts) (many : ℕ) (defined : ParamsCalled) (b : Body) (bindings : List ℕ) {m : List ℕ} {c′ : Counts} {d : DiscrTemp} {then : BasicBlockId} {first : LocalId} →
+    ParamsCall.Lowered c′ d then first ≡ answer c defined → Reads defined b → m ≡ bindingsAfter bindings defined →
+    stateText then (first .0) many m (decode b c′) ≡ callText (c .locals) many defined
+unfolding callText walkText stateText
+accepted-text c many badImage b bindings is reads bound = absurd (let z : _≡_ {A = ℕ} 0 1 = cc in omega arith)
+accepted-text c many badCall b bindings is reads bound = absurd (let z : _≡_ {A = ℕ} 0 1 = cc in omega arith)
+accepted-text c many (walked (refused e p)) b bindings is reads bound = absurd (let z : _≡_ {A = ℕ} 0 1 = cc in omega arith)
+accepted-text c many (walked (ok r)) b bindings {m} {c′} {d} {then} {first} is reads bound =
+    let count : c′ ≡ countsOf (r .ctx .state) = cc in
+    let goes-on : then ≡ r .then = cc in
+    let begins : first ≡ record { 0 = c .locals } = cc in
+    let state : decode b c′ ≡ r .ctx .state = ap (decode b) count ∙ reads in
+    λ i. stateText (goes-on i) (begins i .0) many (bound i) (state i)
+
+accepted-ready : (c : Counts) (defined : ParamsCalled) (b : Body) {c′ : Counts} {d : DiscrTemp} {then : BasicBlockId} {first : LocalId} →
+    ParamsCall.Lowered c′ d then first ≡ answer c defined → ReadyAfter defined b → Ready b c′ × (first .0 ≡ c .locals)
+accepted-ready c badImage b is ready = absurd (let z : _≡_ {A = ℕ} 0 1 = cc in omega arith)
+accepted-ready c badCall b is ready = absurd (let z : _≡_ {A = ℕ} 0 1 = cc in omega arith)
+accepted-ready c (walked (refused e p)) b is ready = absurd (let z : _≡_ {A = ℕ} 0 1 = cc in omega arith)
+accepted-ready c (walked (ok r)) b {c′} {first = first} is ready =
+    let count : c′ ≡ countsOf (r .ctx .state) = cc in
+    let begins : first ≡ record { 0 = c .locals } = cc in
+    (subst (Ready b) (sym count) ready, λ i. begins i .0)
+
+-- a refused one
+refused-text : (c : Counts) (many : ℕ) (defined : ParamsCalled) {e : MirLowerError} {p : PatId} → ParamsCall.Refused e p ≡ answer c defined →
+    refusalText (refusalAt e (p .0)) ≡ callText (c .locals) many defined
+unfolding callText walkText
+refused-text c many badImage is = absurd (let z : _≡_ {A = ℕ} 0 1 = cc in omega arith)
+refused-text c many badCall is = absurd (let z : _≡_ {A = ℕ} 0 1 = cc in omega arith)
+refused-text c many (walked (ok r)) is = absurd (let z : _≡_ {A = ℕ} 0 1 = cc in omega arith)
+refused-text c many (walked (refused f q)) {e} {p} is =
+    let why : e ≡ f = cc in
+    let at : p ≡ record { 0 = q } = cc in
+    rw (why, at)
+
+bad-call-text : (c : Counts) (many : ℕ) (defined : ParamsCalled) → ParamsCall.BadCall ≡ answer c defined → refusalText namesNothing ≡ callText (c .locals) many defined
+unfolding callText
+bad-call-text c many badImage is = absurd (let z : _≡_ {A = ℕ} 0 1 = cc in omega arith)
+bad-call-text c many badCall is = refl
+bad-call-text c many (walked (ok r)) is = absurd (let z : _≡_ {A = ℕ} 0 1 = cc in omega arith)
+bad-call-text c many (walked (refused e p)) is = absurd (let z : _≡_ {A = ℕ} 0 1 = cc in omega arith)
+
+bad-image-text : (c : Counts) (many : ℕ) (defined : ParamsCalled) → ParamsCall.BadImage ≡ answer c defined → refusalText breaksARule ≡ callText (c .locals) many defined
+unfolding callText
+bad-image-text c many badImage is = refl
+bad-image-text c many badCall is = absurd (let z : _≡_ {A = ℕ} 0 1 = cc in omega arith)
+bad-image-text c many (walked (ok r)) is = absurd (let z : _≡_ {A = ℕ} 0 1 = cc in omega arith)
+bad-image-text c many (walked (refused e p)) is = absurd (let z : _≡_ {A = ℕ} 0 1 = cc in omega arith)
+
+-- of a call that answered r, with the tables b′ and the bindings' locals m at exit
+module _ {bindings : List ℕ} {b : Body} {v : List ℕ} {c : Counts} {defined : ParamsCalled} {m : List ℕ} {b′ : Body} {v′ : List ℕ} (many : ℕ) where
+  -- the text is what the definition prints
+  pub answered : (r : ParamsCall) → GivesParams bindings b v c defined r m b′ v′ → answerText (b′ .blocks) (b′ .statements) (b′ .locals) (b′ .entries) m many r ≡ callText (c .locals) many defined
+  unfolding answerText
+  answered (ParamsCall.Lowered c′ d then first) G =
+      state-same b′ c′ then (first .0) many m ∙ accepted-text c many defined b′ bindings (G .reply) (G .reads) (G .locals)
+  answered (ParamsCall.Refused e p) G = refused-text c many defined (G .reply)
+  answered ParamsCall.BadCall G = bad-call-text c many defined (G .reply)
+  answered ParamsCall.BadImage G = bad-image-text c many defined (G .reply)
+
+  -- and the tables can be listed
+  pub listable : c .locals + many ≤ 65535 → (r : ParamsCall) → GivesParams bindings b v c defined r m b′ v′ → Listable (b′ .blocks) (b′ .statements) (b′ .locals) (b′ .entries) many r
+  listable few (ParamsCall.Lowered c′ d then first) G =
+      let (R, begins) = accepted-ready c defined b′ (G .reply) (G .ready) in
+      ((R .blocks, R .statements, R .locals, R .block-count, R .statement-count, R .local-count), R .entries, R .entry-count, omega (arith, few, begins))
+  listable few (ParamsCall.Refused e p) G = tt
+  listable few ParamsCall.BadCall G = tt
+  listable few ParamsCall.BadImage G = tt
+
+-- the ways through `put_params_answer`
+module _ (blocks statements locals entries bindings : List ℕ) (many : ℕ) {answer : ParamsCall} where
+  pub listing-asked : {c : Counts} {d : DiscrTemp} {then : BasicBlockId} {first : LocalId} → answer ≡ ParamsCall.Lowered c d then first →
+      Listable blocks statements locals entries many answer → Listable blocks statements locals entries many (ParamsCall.Lowered c d then first)
+  listing-asked is L = subst (Listable blocks statements locals entries many) is L
+
+  pub lists : {c : Counts} {d : DiscrTemp} {then : BasicBlockId} {first : LocalId} → answer ≡ ParamsCall.Lowered c d then first →
+      listing then OptBlock.None (mirOf (decode (body blocks statements locals [] []) c)) ++ linesText (first .0) many bindings (take (c .entries) entries)
+      ≡ answerText blocks statements locals entries bindings many answer
+  unfolding answerText
+  lists is = sym (ap (answerText blocks statements locals entries bindings many) is)
+
+  pub refuses : {e : MirLowerError} {p : PatId} → answer ≡ ParamsCall.Refused e p → refusalText (refusalAt e (p .0)) ≡ answerText blocks statements locals entries bindings many answer
+  unfolding answerText
+  refuses is = sym (ap (answerText blocks statements locals entries bindings many) is)
+
+  pub refuses-call : answer ≡ ParamsCall.BadCall → refusalText namesNothing ≡ answerText blocks statements locals entries bindings many answer
+  unfolding answerText
+  refuses-call is = sym (ap (answerText blocks statements locals entries bindings many) is)
+
+  pub refuses-image : answer ≡ ParamsCall.BadImage → refusalText breaksARule ≡ answerText blocks statements locals entries bindings many answer
+  unfolding answerText
+  refuses-image is = sym (ap (answerText blocks statements locals entries bindings many) is)

@@ -1,0 +1,76 @@
+-- The text of what a call of `lower_params_and_bindings` answers: the listing, and the locals of the parameters, of the bindings and in the scopes. Assumes nothing: these
+-- are definitions.
+use Prim.Native.Nat.{ℕ, _+_, _≤_}
+use mathlib.Core.Path.{_≡_}
+use mathlib.Core.Bool.{cond}
+use mathlib.Core.List.{List, [], _∷_, _++_}
+use lib.Dec.{eqb}
+use lib.ListN.{length, take}
+use Rattle.refusals.specs.Refusals.{breaksARule, namesNothing, refusalAt}
+use Rattle.image.specs.Lists.{upFrom}
+use Rattle.state.specs.State.{body, decode}
+use Rattle.lower.specs.declared.merging.OptBlock.{OptBlock}
+use Rattle.views.specs.Views.{mirOf}
+use Rattle.listing_text.specs.Words.{space, dash, newline}
+use Rattle.listing_text.specs.Numbers.{decimal}
+use Rattle.listing_text.specs.Listing.{listing, refusalText}
+use Rattle.pattern_matching.specs.Walking.{Walk, ok, refused}
+use Rattle.lowered_params.specs.declared.ParamsCall.{ParamsCall}
+use Rattle.lowered_params.specs.Params.{ParamsOut}
+use Rattle.lowered_params.specs.Calls.{ParamsCalled, badImage, badCall, walked}
+
+-- "params"
+unfoldable pub paramsWord : List ℕ
+paramsWord = 112 ∷ 97 ∷ 114 ∷ 97 ∷ 109 ∷ 115 ∷ []
+
+-- "bindings"
+unfoldable pub bindingsWord : List ℕ
+bindingsWord = 98 ∷ 105 ∷ 110 ∷ 100 ∷ 105 ∷ 110 ∷ 103 ∷ 115 ∷ []
+
+-- "entries"
+unfoldable pub entriesWord : List ℕ
+entriesWord = 101 ∷ 110 ∷ 116 ∷ 114 ∷ 105 ∷ 101 ∷ 115 ∷ []
+
+-- a local behind a space; 65535 is none
+unfoldable pub wordText : ℕ → List ℕ
+wordText w = cond (eqb w 65535) (space ++ dash) (space ++ decimal w)
+
+-- locals in order
+unfoldable pub wordsText : List ℕ → List ℕ
+wordsText [] = []
+wordsText (w ∷ ws) = wordText w ++ wordsText ws
+
+-- a line: its name, and the locals
+unfoldable pub lineText : List ℕ → List ℕ → List ℕ
+lineText name ws = name ++ (wordsText ws ++ newline)
+
+-- the three lines behind the listing, of so many parameters from the first one's local on
+unfoldable pub linesText : ℕ → ℕ → List ℕ → List ℕ → List ℕ
+linesText first many bindings entries = lineText paramsWord (upFrom first many) ++ (lineText bindingsWord bindings ++ lineText entriesWord entries)
+
+-- the text of what the call gives, where the first parameter's local is `first` and there are so many
+unfoldable pub walkText : ℕ → ℕ → Walk ParamsOut → List ℕ
+walkText first many (ok r) = listing (r .then) OptBlock.None (mirOf (r .ctx .state)) ++ linesText first many (r .bindings) (r .ctx .state .entries)
+walkText first many (refused e p) = refusalText (refusalAt e p)
+
+unfoldable pub callText : ℕ → ℕ → ParamsCalled → List ℕ
+callText first many badImage = refusalText breaksARule
+callText first many badCall = refusalText namesNothing
+callText first many (walked w) = walkText first many w
+
+-- the text of an answer, where these are the tables and the bindings' locals
+unfoldable pub answerText : List ℕ → List ℕ → List ℕ → List ℕ → List ℕ → ℕ → ParamsCall → List ℕ
+answerText blocks statements locals entries bindings many (ParamsCall.Lowered c discr then first) =
+    listing then OptBlock.None (mirOf (decode (body blocks statements locals [] []) c)) ++ linesText (first .0) many bindings (take (c .entries) entries)
+answerText blocks statements locals entries bindings many (ParamsCall.Refused e p) = refusalText (refusalAt e (p .0))
+answerText blocks statements locals entries bindings many ParamsCall.BadCall = refusalText namesNothing
+answerText blocks statements locals entries bindings many ParamsCall.BadImage = refusalText breaksARule
+
+-- the tables of an accepted call can be listed: they have their sizes, the counts are within the limits, and so are the parameters' locals
+abbrev pub Listable : List ℕ → List ℕ → List ℕ → List ℕ → ℕ → ParamsCall → Type 0
+Listable blocks statements locals entries many (ParamsCall.Lowered c discr then first) =
+    ((length blocks ≡ 6144) × (length statements ≡ 50176) × (length locals ≡ 512) × (c .blocks ≤ 512) × (c .statements ≤ 1024) × (c .locals ≤ 512))
+    × (length entries ≡ 1024) × (c .entries ≤ 1024) × (first .0 + many ≤ 65535)
+Listable blocks statements locals entries many (ParamsCall.Refused e p) = Unit
+Listable blocks statements locals entries many ParamsCall.BadCall = Unit
+Listable blocks statements locals entries many ParamsCall.BadImage = Unit
