@@ -98,7 +98,7 @@ unfolding cleared
 all-zeros {size} t long = let all : length t - 0 ≡ size = omega arith in ap (λ (n : ℕ). zeros n) all
 
 -- the table with one open block
-open-block : encodeRows 6144 (zeros 12 ∷ []) ≡ zeros 6144
+pub open-block : encodeRows 6144 (zeros 12 ∷ []) ≡ zeros 6144
 unfolding encodeRows joined
 open-block = replicate-append-replicate 12 6132 0
 
