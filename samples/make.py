@@ -1,4 +1,4 @@
-"""Writes the samples and the stored lists of images, of calls and of listings.
+"""Writes the samples and the stored lists of images, of calls, of listings and of parameters.
 
 `python3 samples/make.py` writes every file; `python3 samples/make.py --check`
 writes none, and fails if a file is not what it would write.
@@ -15,6 +15,7 @@ from faults import fault_cases
 from images import RULES, broken, read_counts
 from listing_list import listing_files
 from lowering import listing
+from params_list import params_files
 from readable import sample_files
 from whole import valid_images
 
@@ -65,6 +66,10 @@ Written from document 01 and the Rust alone, not from the definitions:
   `refusals.py`. `python3 samples/corners.py` prints each with its listing's first line.
 - `params.py`: the same for lists of parameters, and document 01's corners on them. With
   `-` it answers the harness's calls.
+- `params_list.py`: the stored list of calls on parameters, `crates/replay_params`: the
+  corners, and random calls from a fixed seed. An entry is an image as in
+  `crates/replay_images`, four big-endian bytes k and k big-endian words, as `params.py`
+  says. `params.txt` has for each its number from 1, its name, and the first line printed.
 - `counts.py`: visits, blocks and statements counted from the tree. `python3
   samples/counts.py N` compares them with lowerings of N random images of each sort.
 - `typed_chance.py`: random images whose patterns follow their types.
@@ -165,6 +170,7 @@ def all_files():
         for number, (name, _, _, rules) in enumerate(cases, 1)).encode()
     files.update(call_files())
     files.update(listing_files(stored))
+    files.update(params_files(stored))
     files["crates/listing/stdin"] = sample
     files["crates/listing/stdout"] = listing(sample).encode()
     assert all(len(content) < LARGEST_FILE for content in files.values())

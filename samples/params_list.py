@@ -1,0 +1,106 @@
+"""The stored list of calls on parameters with their answers, for `crates/replay_params`."""
+
+import random
+import struct
+from collections import Counter
+
+from chance import random_image, word_damage
+from images import ABSENT, decode
+from params import PARAM_CORNERS, answered
+from typed_chance import typed_image
+
+PROGRAM = "crates/replay_params"
+SEED = 1851
+# So many random calls of each sort, and of a sort's answers at most so many that begin alike.
+RANDOM, ALIKE = 900, 12
+# A random call's answer is stored if it is at most so long.
+LONGEST = 1500
+
+
+def corner_calls():
+    """Name, image and words of document 01's corners, with a scope and without one."""
+    for name, m, receiver, params, _ in PARAM_CORNERS:
+        own = (1, *receiver) if receiver else (0, 0, 0)
+        listed = [word for param in params for word in param]
+        for scopes in (1, 0):
+            yield f"corner:{name}:{scopes}", m.encode(), (scopes, *own, *listed)
+
+
+def fitting_words(rng, m):
+    """Patterns with their own types, so that most are accepted."""
+    listed = []
+    for _ in range(rng.choice((0, 1, 1, 2, 3, 5))):
+        p = rng.randrange(len(m.patterns))
+        listed += [p, m.patterns[p][1]]
+    return listed
+
+
+def any_words(rng, m):
+    """Patterns and types, a number past the last among them, and lists of any length."""
+    count = rng.choice((0, 1, 2, 3, 4, 7, 64, 128, 129, 130))
+    limits = len(m.patterns), len(m.types)
+    listed = [rng.randrange(limits[place % 2]) for place in range(count)]
+    if listed and rng.randrange(4) == 0:
+        place = rng.randrange(count)
+        listed[place] = rng.choice((limits[place % 2], ABSENT))
+    return listed
+
+
+def own_words(rng, m):
+    """The words for self: mostly none, or a binding and a type."""
+    if not m.bindings or rng.randrange(3):
+        return 0, rng.choice((0, ABSENT)), 0
+    past = rng.randrange(8) == 0
+    return 1, len(m.bindings) if past else rng.randrange(len(m.bindings)), rng.randrange(len(m.types))
+
+
+def random_calls():
+    """Sort, image and words of random calls."""
+    rng = random.Random(SEED)
+    for _ in range(RANDOM):
+        for sort, image, words in (("fitting", typed_image(rng).encode(), fitting_words),
+                                   ("any", random_image(rng).encode(), any_words)):
+            m = decode(image)
+            listed = words(rng, m)
+            own = own_words(rng, m)
+            yield sort, image, (rng.choice((1, 1, 1, 0)), *own, *listed)
+            if rng.randrange(8) == 0:
+                yield "damaged", word_damage(rng, image), (1, *own, *listed)
+
+
+def entry(stored, image, words):
+    """A call as the stored list has it."""
+    return stored(image, 0) + struct.pack(f">I{len(words)}H", len(words), *words)
+
+
+def text(call):
+    """What is printed for a call."""
+    return "".join(f"{line}\n" for line in answered(call))
+
+
+def all_calls(stored):
+    """Name, bytes and answer of each call."""
+    for name, image, words in corner_calls():
+        call = entry(stored, image, words)
+        yield name, call, text(call)
+    alike = Counter()
+    for sort, image, words in random_calls():
+        call = entry(stored, image, words)
+        answer = text(call)
+        first = answer.split("\n", 1)[0].split(" ")
+        kind = (sort, first[1] if first[0] == "refused" else len(answer) // 200)
+        if len(answer) <= LONGEST and alike[kind] < ALIKE:
+            alike[kind] += 1
+            yield f"{sort}:{sum(alike.values())}", call, answer
+
+
+def params_files(stored):
+    """The contents of the program's files and of the list by their paths from the root."""
+    calls = list(all_calls(stored))
+    return {
+        f"{PROGRAM}/stdin": b"".join(call for _, call, _ in calls),
+        f"{PROGRAM}/stdout": "".join(answer for _, _, answer in calls).encode(),
+        "samples/params.txt": "".join(
+            f"{number} {name} {answer.split(chr(10), 1)[0]}\n"
+            for number, (name, _, answer) in enumerate(calls, 1)).encode(),
+    }
