@@ -1,8 +1,8 @@
 -- Tables of rows in a list of numbers: each row has w numbers, and zeros stand past the last row. Assumes nothing: these are definitions.
-use Prim.Native.Nat.{ℕ, zero, suc, _+_, _*_, _-_}
+use Prim.Native.Nat.{ℕ, zero, suc, _+_, _*_, _-_, _≤_, _<_}
 use mathlib.Core.Path.{_≡_}
 use mathlib.Core.List.{List, [], _∷_, _++_}
-use lib.ListN.{length, take, drop, replicate}
+use lib.ListN.{length, getD, take, drop, replicate}
 
 -- so many zeros
 abbrev pub zeros : ℕ → List ℕ
@@ -33,6 +33,14 @@ stored table at row = take at table ++ (row ++ drop (at + length row) table)
 -- the table with zeros from the number `at` on
 unfoldable pub cleared : List ℕ → ℕ → List ℕ
 cleared table at = take at table ++ zeros (length table - at)
+
+-- each of the n numbers of a table from `at` on is at most b
+abbrev pub AtMost : ℕ → List ℕ → ℕ → ℕ → Type 0
+AtMost b table at n = (k : ℕ) → k < n → getD table (at + k) 0 ≤ b
+
+-- from its number `from` on a table has zeros
+abbrev pub ZerosFrom : List ℕ → ℕ → Type 0
+ZerosFrom table from = (from ≤ length table) × (drop from table ≡ zeros (length table - from))
 
 -- past its first n rows a table has zeros
 abbrev pub Blank : ℕ → List ℕ → ℕ → Type 0
