@@ -28,7 +28,7 @@ fn discriminant_of(image: &[u8], tables: Tables, v: u16) -> Discriminant
     ensures { λ r. ⌜ discriminantNumber r ≡ variantOf (now (image .entry)) v .discriminant ⌝ }
 {
     let row = variant_at(image, tables, v);
-    let at = tables.bytes.at + (row.discriminant as usize);
+    let at = (tables.bytes.at as usize) + (row.discriminant as usize);
     Discriminant {
         low: half(image, at, 8),
         high: half(image, at + 8, 8),

@@ -16,7 +16,7 @@ pub struct BindingId(pub u16);
 
 // A table's place: the byte at which it begins, and its count of rows.
 pub struct Table {
-    pub at: usize,
+    pub at: u32,
     pub count: u16,
 }
 
@@ -56,11 +56,11 @@ pub fn tables_of(image: &[u8]) -> Tables
 fn placed(types: u16, variants: u16, patterns: u16, bindings: u16, list: u16, bytes: u16) -> Tables
     ensures { λ r. ⌜ r ≡ tablesBy types variants patterns bindings list bytes ⌝ }
 {
-    let variants_at = 17 + 10 * (types as usize);
-    let patterns_at = variants_at + 6 * (variants as usize);
-    let bindings_at = patterns_at + 14 * (patterns as usize);
-    let list_at = bindings_at + 4 * (bindings as usize);
-    let bytes_at = list_at + 2 * (list as usize);
+    let variants_at = 17 + 10 * (types as u32);
+    let patterns_at = variants_at + 6 * (variants as u32);
+    let bindings_at = patterns_at + 14 * (patterns as u32);
+    let list_at = bindings_at + 4 * (bindings as u32);
+    let bytes_at = list_at + 2 * (list as u32);
     Tables {
         types: Table {
             at: 17,

@@ -64,7 +64,7 @@ pub fn type_at(image: &[u8], tables: Tables, t: u16) -> TypeRow
     requires { ⌜ Whole (now image) tables × (t < tables .types .count) ⌝ }
     ensures { λ r. ⌜ r ≡ typeAt (now (image .entry)) t ⌝ }
 {
-    type_row(image, tables.types.at + 10 * (t as usize))
+    type_row(image, (tables.types.at as usize) + 10 * (t as usize))
 }
 
 fn variant_row(image: &[u8], at: usize) -> VariantRow
@@ -83,7 +83,7 @@ pub fn variant_at(image: &[u8], tables: Tables, v: u16) -> VariantRow
     requires { ⌜ Whole (now image) tables × (v < tables .variants .count) ⌝ }
     ensures { λ r. ⌜ r ≡ variantAt (now (image .entry)) v ⌝ }
 {
-    variant_row(image, tables.variants.at + 6 * (v as usize))
+    variant_row(image, (tables.variants.at as usize) + 6 * (v as usize))
 }
 
 fn pat_row(image: &[u8], at: usize) -> PatRow
@@ -106,7 +106,7 @@ pub fn pat_at(image: &[u8], tables: Tables, p: PatId) -> PatRow
     requires { ⌜ Whole (now image) tables × (p .0 < tables .patterns .count) ⌝ }
     ensures { λ r. ⌜ r ≡ patAt (now (image .entry)) (p .0) ⌝ }
 {
-    pat_row(image, tables.patterns.at + 14 * (p.0 as usize))
+    pat_row(image, (tables.patterns.at as usize) + 14 * (p.0 as usize))
 }
 
 fn binding_row(image: &[u8], at: usize) -> BindingRow
@@ -124,7 +124,7 @@ pub fn binding_at(image: &[u8], tables: Tables, b: BindingId) -> BindingRow
     requires { ⌜ Whole (now image) tables × (b .0 < tables .bindings .count) ⌝ }
     ensures { λ r. ⌜ r ≡ bindingAt (now (image .entry)) (b .0) ⌝ }
 {
-    binding_row(image, tables.bindings.at + 4 * (b.0 as usize))
+    binding_row(image, (tables.bindings.at as usize) + 4 * (b.0 as usize))
 }
 
 // The word i of the list.
@@ -132,7 +132,7 @@ pub fn list_at(image: &[u8], tables: Tables, i: u16) -> u16
     requires { ⌜ Whole (now image) tables × (i < tables .list .count) ⌝ }
     ensures { λ r. ⌜ r ≡ listAt (now (image .entry)) i ⌝ }
 {
-    word_at(image, tables.list.at + 2 * (i as usize))
+    word_at(image, (tables.list.at as usize) + 2 * (i as usize))
 }
 
 fn operand_row(image: &[u8], at: usize) -> OperandRow
@@ -151,7 +151,7 @@ pub fn operand_at(image: &[u8], tables: Tables, o: u16) -> OperandRow
     requires { ⌜ Whole (now image) tables × (o + 3 ≤ tables .list .count) ⌝ }
     ensures { λ r. ⌜ r ≡ operandAt (now (image .entry)) o ⌝ }
 {
-    operand_row(image, tables.list.at + 2 * (o as usize))
+    operand_row(image, (tables.list.at as usize) + 2 * (o as usize))
 }
 
 // The literal leaf: an operand's bytes, as the part of the lent image that holds them.
@@ -159,7 +159,7 @@ pub fn operand_bytes(image: &[u8], tables: Tables, operand: OperandRow) -> &[u8]
     requires { ⌜ Whole (now image) tables × (operand .offset + operand .count ≤ tables .bytes .count) ⌝ }
     ensures { λ r. ⌜ now r ≡ operandBytes (now (image .entry)) operand ⌝ }
 {
-    let from = tables.bytes.at + (operand.offset as usize);
+    let from = (tables.bytes.at as usize) + (operand.offset as usize);
     let to = from + (operand.count as usize);
     &image[from..to]
 }

@@ -60,7 +60,7 @@ fn read_tables(image: &[u8]) -> Read
     ensures { λ r. ⌜ r ≡ frameOf (now (image .entry)) ⌝ }
 {
     let tables = tables_of(image);
-    let end = tables.bytes.at;
+    let end = tables.bytes.at as usize;
     if image.len() < end {
         return Read::Refused;
     }

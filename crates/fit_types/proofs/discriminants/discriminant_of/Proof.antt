@@ -11,8 +11,8 @@ use Rattle.fit_types.proofs.Apart.{discriminant-lies, halves-are}
 variant-at-requires : tie.Need-variant-at-requires
 variant-at-requires c κs = (c .before .pre .1, omega (arith, c .before .pre .1 .variant-count, c .before .pre .2))
 
-cast-at : tie.Need-cast-at
-cast-at c = omega arith
+cast-at-2 : tie.Need-cast-at-2
+cast-at-2 c = omega arith
 
 half-requires : tie.Need-half-requires
 half-requires c κs = (omega (arith, discriminant-lies _ _ (c .before .before .variant-at .ensures) (c .before .before .before .before .pre .0) (c .before .before .before .before .pre .1) (c .before .before .before .before .pre .2)), omega arith)
@@ -26,4 +26,4 @@ returns c = halves-are _ _ (c .before .before .before .before .variant-at .ensur
 pub discriminant-of-spec : {M : Type 1} → statement M
 discriminant-of-spec =
     tie.close
-    (tie.spec variant-at-requires cast-at (λ c. search needs) half-requires (λ c. search needs) half-requires-2 returns)
+    (tie.spec variant-at-requires (λ c. search needs) cast-at-2 (λ c. search needs) half-requires (λ c. search needs) half-requires-2 returns)

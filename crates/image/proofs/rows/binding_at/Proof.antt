@@ -13,4 +13,4 @@ returns c = rw (c .before .before .before .before .pre .0 .bindings) at (c .bind
 pub binding-at-spec : {M : Type 1} → statement M
 binding-at-spec =
     tie.close
-    (tie.spec (λ c. search needs) (λ c. search needs) (λ c. search needs) (λ c κs. search needs) returns)
+    (tie.spec (λ c. search needs) (λ c. search needs) (λ c. search needs) (λ c. search needs) (λ c κs. search needs) returns)

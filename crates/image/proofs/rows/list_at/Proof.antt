@@ -11,4 +11,4 @@ unfolding listAt
 returns c = rw (c .before .before .before .pre .0 .list) at (c .word-at .ensures)
 
 pub list-at-spec : {M : Type 1} → statement M
-list-at-spec = tie.close (tie.spec (λ c. search needs) (λ c. search needs) (λ c κs. search needs) returns)
+list-at-spec = tie.close (tie.spec (λ c. search needs) (λ c. search needs) (λ c. search needs) (λ c κs. search needs) returns)

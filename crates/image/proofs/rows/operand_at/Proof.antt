@@ -11,4 +11,4 @@ unfolding operandAt
 returns c = rw (c .before .before .before .pre .0 .list) at (c .operand-row .ensures)
 
 pub operand-at-spec : {M : Type 1} → statement M
-operand-at-spec = tie.close (tie.spec (λ c. search needs) (λ c. search needs) (λ c κs. search needs) returns)
+operand-at-spec = tie.close (tie.spec (λ c. search needs) (λ c. search needs) (λ c. search needs) (λ c κs. search needs) returns)

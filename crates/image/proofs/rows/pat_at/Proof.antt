@@ -11,4 +11,4 @@ unfolding patAt
 returns c = rw (c .before .before .before .before .pre .0 .patterns) at (c .pat-row .ensures)
 
 pub pat-at-spec : {M : Type 1} → statement M
-pat-at-spec = tie.close (tie.spec (λ c. search needs) (λ c. search needs) (λ c. search needs) (λ c κs. search needs) returns)
+pat-at-spec = tie.close (tie.spec (λ c. search needs) (λ c. search needs) (λ c. search needs) (λ c. search needs) (λ c κs. search needs) returns)

@@ -11,4 +11,4 @@ unfolding typeAt
 returns c = rw (c .before .before .before .pre .0 .types) at (c .type-row .ensures)
 
 pub type-at-spec : {M : Type 1} → statement M
-type-at-spec = tie.close (tie.spec (λ c. search needs) (λ c. search needs) (λ c κs. search needs) returns)
+type-at-spec = tie.close (tie.spec (λ c. search needs) (λ c. search needs) (λ c. search needs) (λ c κs. search needs) returns)

@@ -11,4 +11,4 @@ unfolding variantAt
 returns c = rw (c .before .before .before .pre .0 .variants) at (c .variant-row .ensures)
 
 pub variant-at-spec : {M : Type 1} → statement M
-variant-at-spec = tie.close (tie.spec (λ c. search needs) (λ c. search needs) (λ c κs. search needs) returns)
+variant-at-spec = tie.close (tie.spec (λ c. search needs) (λ c. search needs) (λ c. search needs) (λ c κs. search needs) returns)
