@@ -1,10 +1,10 @@
 -- The locals of self and of the parameters: steps that make locals follow one another. Assumes nothing.
-use Prim.Native.Nat.{ℕ, _+_, _*_, _-_}
+use Prim.Native.Nat.{ℕ, _+_, _-_}
 use mathlib.Core.Path.{_≡_, refl, sym, ap, _∙_}
 use mathlib.Core.Bool.{true}
 use mathlib.Core.Logic.{inl}
-use mathlib.Core.List.{List, [], _∷_}
-use lib.ListN.{length, set, getD}
+use mathlib.Core.List.{List}
+use lib.ListN.{length, set}
 use borrow.Author.Tests.{ltb-true}
 use lib.Dec.{ltb}
 use Rattle.refusals.specs.declared.MirLowerError.{MirLowerError}
@@ -16,7 +16,7 @@ use Rattle.image.specs.Tree.{tree}
 use Rattle.image.proofs.Bools.{and-left}
 use Rattle.mir.specs.declared.Counts.{Counts}
 use Rattle.state.specs.declared.Stepped.{Stepped}
-use Rattle.state.specs.State.{State, body, decode}
+use Rattle.state.specs.State.{body, decode}
 use Rattle.state.proofs.Answering.{local-count, then, stops, done}
 use Rattle.walks.proofs.Following.{answers-by}
 use Rattle.lowered_params.specs.declared.SelfParam.{SelfParam}

@@ -1,17 +1,17 @@
 -- A plain parameter, by its row. Assumes nothing.
 use Prim.Native.Nat.{ℕ, zero, suc, _≤_, _<_}
-use mathlib.Core.Path.{_≡_, refl, sym, ap, _∙_}
+use mathlib.Core.Path.{_≡_, refl, sym, _∙_}
 use mathlib.Core.Bool.{Bool, true, false, cond, _&&_}
-use mathlib.Core.Option.{Option, none, some}
-use mathlib.Core.List.{List, []}
+use mathlib.Core.Option.{none, some}
+use mathlib.Core.List.{List}
 use native.Mathlib.Omega.{arith}
 use borrow.Author.Tests.{eqb-true, le-ltb, ne-eqb}
 use lib.Dec.{eqb, ltb}
-use lib.ListN.{set, List·getD-map}
+use lib.ListN.{set}
 use Rattle.image.specs.declared.kinds.PatKind.{PatKind}
 use Rattle.image.specs.declared.kinds.BindingAnnotation.{BindingAnnotation}
 use Rattle.image.specs.declared.rows.PatRow.{PatRow}
-use Rattle.image.specs.Kinds.{patKinds, patKind, bindingAnnotation}
+use Rattle.image.specs.Kinds.{patKind, bindingAnnotation}
 use Rattle.image.specs.Rows.{patAt}
 use Rattle.image.specs.Rules.{absent}
 use Rattle.image.specs.Tables.{patternCount, bindingCount}

@@ -18,11 +18,11 @@ use Rattle.pattern_matching.specs.Walking.{Ctx, Out, Walk, out, localPlace}
 use Rattle.pattern_matching.specs.Tests.{patternMatchBinding}
 use Rattle.pattern_matching.specs.Patterns.{matchSelfParam}
 use Rattle.walks.specs.declared.Lowered.{Lowered}
-use Rattle.walks.specs.Answers.{lent, Primed, Begins}
+use Rattle.walks.specs.Answers.{lent, Primed}
 use Rattle.walks.proofs.Sequences.{lowers-skips, lowers-refuses, lowers-walks, walks-by}
 use Rattle.pattern_parts.specs.Parts.{Fills}
 use Rattle.lowered_params.specs.declared.SelfParam.{SelfParam}
-use Rattle.lowered_params.specs.Params.{shut, unlessBound, lowerSelf}
+use Rattle.lowered_params.specs.Params.{shut, lowerSelf}
 use Rattle.param_steps.specs.declared.owning.Owned.{Owned}
 use Rattle.param_steps.specs.Owning.{TellsBinding}
 use Rattle.param_steps.specs.Shutting.{shutAnswer, shutBlocks, Shuttable, FillsSelf, LowersSelf}

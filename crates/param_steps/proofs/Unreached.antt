@@ -1,7 +1,7 @@
 -- An else that cannot be reached: a walk, and then its else is shut. Assumes nothing.
-use Prim.Native.Nat.{ℕ, _*_, _≤_, _<_}
-use mathlib.Core.Path.{_≡_, refl, ap, _∙_}
-use mathlib.Core.Logic.{_⊎_, inl, inr}
+use Prim.Native.Nat.{ℕ, _*_, _<_}
+use mathlib.Core.Path.{_≡_, refl, ap}
+use mathlib.Core.Logic.{inl, inr}
 use mathlib.Core.Option.{some}
 use mathlib.Core.List.{List}
 use native.Mathlib.Nat.{le-trans}
@@ -20,14 +20,13 @@ use Rattle.state.proofs.Answering.{kept-trans}
 use Rattle.state.proofs.Calls.{set-answers}
 use Rattle.lower.specs.declared.temps.DiscrTemp.{DiscrTemp}
 use Rattle.lower.specs.declared.merging.OptBlock.{OptBlock}
-use Rattle.lower.specs.Promises.{Within}
-use Rattle.pattern_matching.specs.Walking.{Ctx, Out, Walk, ok, out}
+use Rattle.pattern_matching.specs.Walking.{Ctx, Out, Walk, out}
 use Rattle.walks.specs.declared.Lowered.{Lowered}
-use Rattle.walks.specs.Answers.{Lent, lent, bodyOf, Primed, Begins, ctxOf, walkOf, OwnElse, Onward, OnwardBy, Walks}
+use Rattle.walks.specs.Answers.{Lent, lent, bodyOf, Primed, ctxOf, walkOf, OwnElse, Walks}
 use Rattle.walks.proofs.Following.{goes-on, next-then}
 use Rattle.walks.proofs.Sequences.{lowers-skips, lowers-walks, walks-stops, walks-then}
 use Rattle.lowered_params.specs.Params.{shutElse, shut}
-use Rattle.param_steps.specs.Shutting.{shutAnswer, shutBy, shutBlocks, HasRow, Shuttable}
+use Rattle.param_steps.specs.Shutting.{shutAnswer, shutBlocks, Shuttable}
 
 -- what follows the walk
 abbrev shutting : Out → Walk Out

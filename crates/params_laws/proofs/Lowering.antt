@@ -1,8 +1,8 @@
 -- A parameter, and the parameters in order: a law for each way through the code, and the invariant of the loop. Assumes nothing.
-use Prim.Native.Nat.{ℕ, suc, _+_, _-_, _≤_, _<_}
-use mathlib.Core.Path.{_≡_, refl, sym, ap, _∙_}
+use Prim.Native.Nat.{ℕ, _+_, _-_, _≤_, _<_}
+use mathlib.Core.Path.{_≡_, refl, _∙_}
 use mathlib.Core.Bool.{true}
-use mathlib.Core.Logic.{_⊎_, inl, inr}
+use mathlib.Core.Logic.{inl, inr}
 use mathlib.Core.List.{List}
 use native.Mathlib.Omega.{arith}
 use lib.ListN.{length, getD}
@@ -20,12 +20,12 @@ use Rattle.lower.specs.declared.merging.OptBlock.{OptBlock}
 use Rattle.pattern_matching.specs.Walking.{Ctx, Out, Walk, next, out, localPlace}
 use Rattle.pattern_matching.specs.Patterns.{patternMatch}
 use Rattle.walks.specs.declared.Lowered.{Lowered}
-use Rattle.walks.specs.Answers.{Lent, lent, Primed, Begins, Placed, OwnElse, Onward, OnwardBy, Walks}
+use Rattle.walks.specs.Answers.{Lent, lent, Primed, OwnElse, OnwardBy, Walks}
 use Rattle.walks.proofs.Sequences.{lowers-skips, lowers-refuses, lowers-walks, walks-by, walks-stops, walks-then, primed-after, placed-after}
 use Rattle.walking.specs.Walk.{Walkable}
-use Rattle.lowered_params.specs.Params.{Param, shut, unlessOwn, lowerParam, lowerParams}
-use Rattle.lowered_params.specs.Calls.{paramsFrom, paramCount, paramsOf, listHolds}
-use Rattle.param_locals.proofs.Listing.{paramAt, params-none, params-more, Listed, list-taken, listed-behind}
+use Rattle.lowered_params.specs.Params.{shut, lowerParam, lowerParams}
+use Rattle.lowered_params.specs.Calls.{paramsFrom, paramCount, paramsOf}
+use Rattle.param_locals.proofs.Listing.{params-none, params-more, Listed, list-taken, listed-behind}
 use Rattle.param_steps.specs.declared.owning.Owned.{Owned}
 use Rattle.param_steps.specs.Owning.{TellsParam}
 use Rattle.param_steps.specs.Shutting.{shutAnswer, shutBlocks}

@@ -11,7 +11,6 @@ use Rattle.refusals.specs.Refusals.{noPattern}
 use Rattle.row_tables.specs.Rows.{zeros}
 use Rattle.image.specs.declared.PatId.{PatId}
 use Rattle.image.specs.declared.Tables.{Tables}
-use Rattle.place.specs.declared.LocalId.{LocalId}
 use Rattle.mir.specs.declared.BasicBlockId.{BasicBlockId}
 use Rattle.mir.specs.declared.Counts.{Counts}
 use Rattle.state.specs.declared.Stepped.{Stepped}
@@ -20,19 +19,19 @@ use Rattle.state.specs.Contracts.{Ready}
 use Rattle.state.proofs.Answering.{local-count}
 use Rattle.lower.specs.declared.temps.DiscrTemp.{DiscrTemp}
 use Rattle.lower.specs.declared.merging.OptBlock.{OptBlock}
-use Rattle.pattern_matching.specs.Walking.{Ctx, Out, Walk, ok, refused, next, step, withState}
+use Rattle.pattern_matching.specs.Walking.{Ctx, Out, Walk, ok, refused, next, withState}
 use Rattle.walks.specs.declared.Lowered.{Lowered}
 use Rattle.walks.specs.Answers.{Lent, lent, bodyOf, Primed, ctxOf, Holds, Walks}
 use Rattle.walks.proofs.Following.{step-then, step-stops, next-then, next-stops, stays, answers-by}
 use Rattle.walks.proofs.Sequences.{walks-stops, walks-then, primed-after, placed-after}
 use Rattle.lowered_params.specs.declared.SelfParam.{SelfParam}
-use Rattle.lowered_params.specs.Params.{Declared, ParamsOut, declare, lowerSelf, lowerParams, selfCount, lowerAll, lowerParamsAndBindings}
-use Rattle.lowered_params.specs.Calls.{paramCount, paramsOf}
-use Rattle.param_locals.specs.Declaring.{Declarable, SelfBound, declaredOf, Declares}
+use Rattle.lowered_params.specs.Params.{ParamsOut, declare, lowerSelf, lowerParams, selfCount, lowerAll, lowerParamsAndBindings}
+use Rattle.lowered_params.specs.Calls.{paramsOf}
+use Rattle.param_locals.specs.Declaring.{Declarable, SelfBound, Declares}
 use Rattle.param_locals.proofs.Making.{self-there}
 use Rattle.param_steps.specs.Shutting.{LowersSelf}
 use Rattle.param_steps.proofs.Receiving.{primed-beside}
-use Rattle.params_laws.specs.Walking.{Startable, ParamsWalkable, paramsWalk, ParamsWalked, WalksParams}
+use Rattle.params_laws.specs.Walking.{Startable, ParamsWalkable, ParamsWalked, WalksParams}
 use Rattle.params_laws.proofs.Typing.{declared-placed}
 use Rattle.params_laws.proofs.Lowering.{any-else}
 

@@ -1,11 +1,11 @@
 -- The locals that are made: each parameter's has the parameter's type. Assumes nothing.
-use Prim.Native.Nat.{ℕ, zero, suc, _+_, _≤_, _<_}
+use Prim.Native.Nat.{ℕ, zero, suc, _+_, _<_}
 use mathlib.Core.Path.{_≡_, refl, sym, ap, _∙_}
-use mathlib.Core.Bool.{Bool, true, false, cond, _&&_, _||_}
+use mathlib.Core.Bool.{Bool, true, false, cond, _&&_}
 use mathlib.Core.List.{List, [], _∷_, _++_, map, append-nil, append-assoc}
 use native.Mathlib.Omega.{arith}
 use borrow.Author.Tests.{ltb-true, lt-ltb}
-use lib.Dec.{eqb, ltb, leb}
+use lib.Dec.{eqb, ltb}
 use lib.ListN.{length, getD, set, take, length-append, length-map, List·getD-append}
 use lib.Seq.{getD-append-add, getD-take}
 use Rattle.refusals.specs.declared.MirLowerError.{MirLowerError}
@@ -25,7 +25,7 @@ use Rattle.state.specs.Steps.{nextLocal, newLocal, pushEntry, tryLocal, tryEntr
 use Rattle.state.proofs.Answering.{local-count}
 use Rattle.check_body.specs.Bodies.{isTypeWord}
 use Rattle.pattern_matching.specs.Walking.{localPlace}
-use Rattle.walks.specs.Answers.{lent, bodyOf, Primed, Placed}
+use Rattle.walks.specs.Answers.{lent, Primed}
 use Rattle.match_calls.proofs.Starting.{word-named}
 use Rattle.lowered_params.specs.declared.SelfParam.{SelfParam}
 use Rattle.lowered_params.specs.Params.{Param, Declared, paramLocal, plainBinding, boundTo, declareSelf, declareParam, declareParams, declareBinding, declareBindings, declare, selfCount}

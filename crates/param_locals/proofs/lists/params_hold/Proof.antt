@@ -7,7 +7,6 @@ use Rattle.handed.proofs.bindings_hold.Reads as bindings-hold-reads
 use Rattle.handed.proofs.discr_holds.Reads as discr-holds-reads
 use Rattle.handed.proofs.start_holds.Reads as start-holds-reads
 use Rattle.param_locals.proofs.lists.self_named.Reads as self-named-reads
-use mathlib.Core.Path.{sym, ap, _∙_}
 use mathlib.Core.Bool.{and-true}
 use borrow.Author.Tests.{not-true, not-false}
 use Rattle.image.specs.Lists.{allTrue}

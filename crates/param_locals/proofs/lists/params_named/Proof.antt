@@ -2,9 +2,7 @@ use Rattle.param_locals.proofs.lists.params_named.Statement.{statement}
 use Rattle.param_locals.proofs.lists.params_named.Tie as tie
 use Rattle.param_locals.proofs.lists.params_named.Reads as reads
 use Rattle.param_locals.proofs.lists.params_named.Lts as lts
-use Prim.Native.Nat.{_-_}
 use native.Mathlib.Omega.{arith}
-use borrow.Author.Needs.{needs}
 use Rattle.param_locals.proofs.Looking.{Left, names-begin, names-end, in-list, no-pattern, no-type, names-again}
 
 abbrev Inv-loop : tie.InvT-loop
