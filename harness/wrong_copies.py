@@ -2,9 +2,9 @@
 """Does the comparison find errors of the Rattle code? Changes it in one place, and compares.
 
 `wrong_copies.py [NAME..]` copies the crates to a temporary folder, makes one change there,
-compiles replay_listings without a proof and makes the quick run's comparison of listings with
-it. A line for each change says how many images differ; it fails if a change is not found. The
-harness must be built. NAMEs choose changes.
+compiles replay_listings or replay_params without a proof and makes the quick run's comparison
+of listings, or of parameters, with it. A line for each change says how many images or calls
+differ; it fails if a change is not found. The harness must be built. NAMEs choose changes.
 """
 
 import shutil
@@ -16,6 +16,12 @@ from pathlib import Path
 HERE = Path(__file__).resolve().parent
 REPOSITORY = HERE.parent
 COMPARE = HERE / "target/release/compare"
+
+# How a program is compared, and the stored lists that come first.
+COMPARISONS = {
+    "replay_listings": (("run", "--counts"), ("replay_images", "replay_listings")),
+    "replay_params": (("parameters",), ("replay_params",)),
+}
 
 # Edits that the prover must refuse, of crates that the program stands on, whose effect a listing
 # shows: crates/CRATE/must-fail/LABEL.edit.
@@ -36,6 +42,17 @@ REFUSED = (
     "read_image/one_pattern_more",
     "marks/second_use",
     "pattern_rules/char_that_is_no_scalar_value",
+)
+
+# The same of what replay_params stands on besides.
+REFUSED_OF_PARAMETERS = (
+    "param_locals/local_missing_from_its_scope",
+    "param_locals/ref_x_by_the_parameters_own_local",
+    "param_steps/else_left_open",
+    "params_text/bindings_and_entries_exchanged",
+    "params_listing/a_scope_where_none_is_asked",
+    "params_listing/scope_by_the_word_of_self",
+    "params_listing/self_not_counted",
 )
 
 # Further changes: a name, the file below crates/, the text, and what it becomes.
@@ -118,9 +135,10 @@ def must_fail(label):
 
 
 def all_changes():
-    """Names, each with its changes."""
-    yield from ((name, [(file, old, new)]) for name, file, old, new in CHANGES)
-    yield from ((label, must_fail(label)) for label in REFUSED)
+    """Programs and names, each with its changes."""
+    yield from (("replay_listings", name, [(file, old, new)]) for name, file, old, new in CHANGES)
+    yield from (("replay_listings", label, must_fail(label)) for label in REFUSED)
+    yield from (("replay_params", label, must_fail(label)) for label in REFUSED_OF_PARAMETERS)
 
 
 def changed_copy(folder, changes):
@@ -134,16 +152,16 @@ def changed_copy(folder, changes):
         path.write_text(text.replace(old, new), encoding="utf-8")
 
 
-def found(changes):
+def found(name, changes):
     """What the comparison says last of the changed program, and whether it differs."""
+    how, lists = COMPARISONS[name]
     with tempfile.TemporaryDirectory() as folder:
         folder = Path(folder)
         changed_copy(folder, changes)
-        program = folder / "replay_listings"
-        subprocess.run([HERE / "build_unproved", "replay_listings", program, folder], check=True)
-        stored = [word for name in ("replay_images", "replay_listings")
-                  for word in ("--stored", REPOSITORY / "crates" / name / "stdin")]
-        done = subprocess.run([COMPARE, "run", "--counts", "--other", program, "--count", "1500", *stored],
+        program = folder / name
+        subprocess.run([HERE / "build_unproved", name, program, folder], check=True)
+        stored = [word for crate in lists for word in ("--stored", REPOSITORY / "crates" / crate / "stdin")]
+        done = subprocess.run([COMPARE, *how, "--other", program, "--count", "1500", *stored],
                               capture_output=True, text=True, check=False)
     return done.stdout.rstrip().rsplit("\n", 1)[-1], done.returncode == 1
 
@@ -151,10 +169,10 @@ def found(changes):
 def main():
     """Tries all changes, or those that are named."""
     tried = missed = 0
-    for name, changes in all_changes():
+    for program, name, changes in all_changes():
         if sys.argv[1:] and name not in sys.argv[1:]:
             continue
-        told, differs = found(changes)
+        told, differs = found(program, changes)
         tried += 1
         missed += not differs
         print(f"{name}: {told}", flush=True)
