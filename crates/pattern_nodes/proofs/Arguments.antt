@@ -71,10 +71,11 @@ smaller-zero : (n : ℕ) → smaller n 0 ≡ 0
 unfolding smaller
 smaller-zero n = rw (le-ltb n 0 (omega arith))
 
--- of none and some it is none
-zero-smaller : (n : ℕ) → smaller 0 (suc n) ≡ 0
+-- of none and a number too
+pub zero-smaller : (n : ℕ) → smaller 0 n ≡ 0
 unfolding smaller
-zero-smaller n = rw (lt-ltb 0 (suc n) (omega arith))
+zero-smaller zero = smaller-zero 0
+zero-smaller (suc n) = rw (lt-ltb 0 (suc n) (omega arith))
 
 -- and both may be one more
 smaller-suc : (m n : ℕ) → smaller (suc m) (suc n) ≡ suc (smaller m n)
@@ -91,7 +92,7 @@ module _ (image bindings : List ℕ) (p : ℕ) where
       patternMatchAdt p (map (λ i. ProjectionElem.Field i) (upFrom i f)) (lowered image bindings (from + i) n) ≡ argumentsFrom ArgumentRow.Fields image bindings p from fields i (smaller n f)
   unfolding patternMatchAdt argumentElems argumentElem argumentPats argumentPat lowered lowerings trees listed upFrom
   first-fields from fields zero n i = rw (smaller-zero n)
-  first-fields from fields (suc f) zero i = rw (zero-smaller f)
+  first-fields from fields (suc f) zero i = rw (zero-smaller (suc f))
   first-fields from fields (suc f) (suc n) i =
       let e : from + i + 1 ≡ from + (i + 1) = omega arith in
       rw (smaller-suc n f, e) (ap (argumentThen p (ProjectionElem.Field i) (patternMatchInner image bindings (tree image (listAt image (from + i))))) (first-fields from fields f n (i + 1)))
@@ -101,7 +102,7 @@ module _ (image bindings : List ℕ) (p : ℕ) where
       patternMatchAdt p (reverse (fieldsUpTo f)) (reverse (lowered image bindings a n)) ≡ argumentsFrom ArgumentRow.LastFields image bindings p from fields i (smaller n f)
   unfolding patternMatchAdt argumentElems argumentElem argumentPats argumentPat lowerings trees upFrom
   last-fields from fields a zero n i d e = rw (smaller-zero n)
-  last-fields from fields a (suc f) zero i d e = rw (zero-smaller f, fields-last f, lowered-none image bindings a)
+  last-fields from fields a (suc f) zero i d e = rw (zero-smaller (suc f), fields-last f, lowered-none image bindings a)
   last-fields from fields a (suc f) (suc n) i d e =
       let d′ : fields - 1 - i ≡ f = omega (arith, d) in
       let e′ : from - 1 - i ≡ a + n = omega (arith, e) in

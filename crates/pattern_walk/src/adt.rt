@@ -156,27 +156,32 @@ pub fn pattern_match_tuple_like(
         place,
     ) {
         Lowered::Refused(e, at) => Lowered::Refused(e, at),
-        Lowered::Done(c1, d1, then, other) => pattern_match_adt(
-            image,
-            tables,
-            bindings,
-            blocks,
-            statements,
-            locals,
-            entries,
-            visits,
-            c1,
-            d1,
-            mode,
-            p,
-            ArgumentRow::LastFields,
-            from + count,
-            fields,
-            least(count - before, fields),
-            then,
-            other,
-            place,
-        ),
+        Lowered::Done(c1, d1, then, other) => {
+            if count == before {
+                return Lowered::Done(c1, d1, then, other);
+            }
+            pattern_match_adt(
+                image,
+                tables,
+                bindings,
+                blocks,
+                statements,
+                locals,
+                entries,
+                visits,
+                c1,
+                d1,
+                mode,
+                p,
+                ArgumentRow::LastFields,
+                from + count,
+                fields,
+                least(count - before, fields),
+                then,
+                other,
+                place,
+            )
+        }
     }
 }
 

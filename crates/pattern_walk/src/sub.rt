@@ -336,27 +336,32 @@ pub fn slice(
                 place,
             ) {
                 Lowered::Refused(e, at) => Lowered::Refused(e, at),
-                Lowered::Done(c3, d3, b3, e3) => pattern_match_adt(
-                    image,
-                    tables,
-                    bindings,
-                    blocks,
-                    statements,
-                    locals,
-                    entries,
-                    visits,
-                    c3,
-                    d3,
-                    mode,
-                    p,
-                    ArgumentRow::LastItems,
-                    row.a + row.b,
-                    0,
-                    row.c,
-                    b3,
-                    e3,
-                    place,
-                ),
+                Lowered::Done(c3, d3, b3, e3) => {
+                    if row.c == 0 {
+                        return Lowered::Done(c3, d3, b3, e3);
+                    }
+                    pattern_match_adt(
+                        image,
+                        tables,
+                        bindings,
+                        blocks,
+                        statements,
+                        locals,
+                        entries,
+                        visits,
+                        c3,
+                        d3,
+                        mode,
+                        p,
+                        ArgumentRow::LastItems,
+                        row.a + row.b,
+                        0,
+                        row.c,
+                        b3,
+                        e3,
+                        place,
+                    )
+                }
             },
         },
     }

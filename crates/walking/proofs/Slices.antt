@@ -2,6 +2,7 @@
 use mathlib.Core.Path.{_≡_, refl, sym, ap, _∙_}
 use mathlib.Core.List.{List}
 use Prim.Native.Nat.{ℕ, _+_}
+use native.Mathlib.Omega.{arith}
 use lib.ListN.{length}
 use Rattle.refusals.specs.declared.MirLowerError.{MirLowerError}
 use Rattle.image.specs.declared.PatId.{PatId}
@@ -27,6 +28,7 @@ use Rattle.pattern_nodes.specs.Nodes.{sliceBehind}
 use Rattle.pattern_nodes.proofs.Nodes.{applied}
 use Rattle.pattern_nodes.proofs.Arguments.{argumentsFrom}
 use Rattle.pattern_nodes.proofs.Slices.{slice-behind-by-rows, slice-items-by-rows, slice-length}
+use Rattle.walking.proofs.Arguments.{arguments-end}
 use Rattle.walking.proofs.Looking.{fills-walks}
 
 -- a Slice pattern is its test, and then the items
@@ -67,6 +69,14 @@ module _ (image bindings : List ℕ) (p : PatId) (rest from front back : ℕ) (m
         Walks (λ ctx. argumentsFrom ArgumentRow.LastItems image bindings (p .0) from 0 0 back mode ctx then other place) c₁ d₁ then other (lent bl s₁ l e₁) v r t₂ v₂ →
         Walks (λ ctx. sliceBehind image bindings (p .0) rest from front back mode ctx current els place) c discr current els (lent bl s l e) v r t₂ v₂
     slice-behind-then F S = walks-by behind-as (walks-then (fills-walks v P F) P behindRest S)
+
+    -- no item at the end
+    pub slice-behind-none : {c₁ : Counts} {d₁ : DiscrTemp} {then : BasicBlockId} {other : OptBlock} →
+        Fills (λ ctx. restBound (restOf (tree? (tree image) rest)) bindings (p .0) front back mode ctx current els place) c discr current els s e (Lowered.Done c₁ d₁ then other) s₁ e₁ → back ≡ 0 →
+        Walks (λ ctx. sliceBehind image bindings (p .0) rest from front back mode ctx current els place) c discr current els (lent bl s l e) v (Lowered.Done c₁ d₁ then other) (lent bl s₁ l e₁) v
+    slice-behind-none {c₁} {d₁} {then} {other} F none =
+        slice-behind-then F (walks-by (λ ctx. ap (λ (k : ℕ). argumentsFrom ArgumentRow.LastItems image bindings (p .0) from 0 0 k mode ctx then other place) (sym none))
+        (arguments-end ArgumentRow.LastItems image bindings p from 0 0 mode place 0 c₁ d₁ then other (lent bl s₁ l e₁) v (omega arith) (fills-walks v P F .onward .begins)))
 
   -- what `slice_items` promises
   abbrev Items : Lent → List ℕ → Lowered → Lent → List ℕ → Type 0

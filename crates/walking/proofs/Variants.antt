@@ -3,6 +3,7 @@ use mathlib.Core.Path.{_≡_, refl, sym, ap, _∙_}
 use mathlib.Core.Bool.{true, false}
 use mathlib.Core.List.{List}
 use Prim.Native.Nat.{ℕ, _+_, _-_, _≤_, _<_}
+use native.Mathlib.Omega.{arith}
 use lib.ListN.{length, getD}
 use Rattle.refusals.specs.declared.MirLowerError.{MirLowerError}
 use Rattle.image.specs.declared.PatId.{PatId}
@@ -37,9 +38,10 @@ use Rattle.pattern_rows.specs.Rows.{beforeEllipsis, smaller}
 use Rattle.pattern_nodes.specs.Modes.{enumTest}
 use Rattle.pattern_nodes.specs.Arguments.{lowered, shapeOf}
 use Rattle.pattern_nodes.proofs.Nodes.{applied}
-use Rattle.pattern_nodes.proofs.Arguments.{argumentsFrom, tuple-like-refused, tuple-like-by-rows}
+use Rattle.pattern_nodes.proofs.Arguments.{argumentsFrom, zero-smaller, tuple-like-refused, tuple-like-by-rows}
 use Rattle.pattern_nodes.proofs.Shapes.{tuple-shape, record-by-rows, record-refused, unit-shape}
 use Rattle.pattern_nodes.proofs.Branches.{no-variant, with-variant}
+use Rattle.walking.proofs.Arguments.{arguments-end}
 use Rattle.walking.proofs.Looking.{walks-refuses, walks-skips, looks-stops, looks-then, place-ty-now}
 
 module _ (image bindings : List ℕ) (p : PatId) (mode : MatchingMode) (c : Counts) (discr : DiscrTemp) (current : BasicBlockId) (els : OptBlock) (place : Place) (t : Lent) (v : List ℕ) where
@@ -75,6 +77,15 @@ module _ (image bindings : List ℕ) (p : PatId) (mode : MatchingMode) (c : Coun
           n ≡ smaller (count - before) fields →
           Walks (λ ctx. argumentsFrom ArgumentRow.LastFields image bindings (p .0) (from + count) fields 0 n mode ctx then other place) c₁ d₁ then other t₁ v₁ r t₂ v₂ → TupleLike r t₂ v₂
       tuple-like-then n P W last S = walks-by tuple-like-as (walks-then W P behindEllipsis (rw last at S))
+
+      -- none is behind it
+      pub tuple-like-none-behind : {c₁ : Counts} {d₁ : DiscrTemp} {then : BasicBlockId} {other : OptBlock} {t₁ : Lent} {v₁ : List ℕ} → Primed t c →
+          Walks (λ ctx. argumentsFrom ArgumentRow.Fields image bindings (p .0) from fields 0 m mode ctx current els place) c discr current els t v (Lowered.Done c₁ d₁ then other) t₁ v₁ →
+          count ≡ before → TupleLike (Lowered.Done c₁ d₁ then other) t₁ v₁
+      tuple-like-none-behind {c₁} {d₁} {then} {other} {t₁} {v₁} P W none =
+          let e : count - before ≡ 0 = omega (arith, none) in
+          tuple-like-then 0 P W (sym (ap (λ (k : ℕ). smaller k fields) e ∙ zero-smaller fields))
+          (arguments-end ArgumentRow.LastFields image bindings p (from + count) fields 0 mode place 0 c₁ d₁ then other t₁ v₁ (omega arith) (W .onward .begins))
 
   -- `pattern_matching_variant_fields`
   module _ (fields : ℕ) where
