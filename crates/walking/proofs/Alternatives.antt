@@ -1,4 +1,4 @@
--- `alternatives` and `pattern_match_or`: a law for each way through them, and the invariant of the loop. Assumes nothing.
+-- `alts`: a law for each way through it, and the invariant of its loop. Assumes nothing.
 use mathlib.Core.Path.{_≡_, refl, sym, ap, _∙_}
 use mathlib.Core.Logic.{inl, inr}
 use mathlib.Core.Option.{some}
@@ -219,7 +219,7 @@ module _ {image : List ℕ} {tables : Tables} {bindings : List ℕ} {p : PatId} 
         rest = λ S. G .rest (alternatives-next image bindings p from count mode join els place i c d here t v h q names (K .begins) (K .primed) W set S);
       }
 
--- `pattern_match_or`
+-- where the loop begins and ends: the block that all alternatives go on at is made first
 module _ (image bindings : List ℕ) (p : PatId) (from count : ℕ) (mode : MatchingMode) (c : Counts) (discr : DiscrTemp) (current : BasicBlockId) (els : OptBlock) (place : Place) (t : Lent) (v : List ℕ) where
   -- what it promises
   abbrev Or : Lowered → Lent → List ℕ → Type 0

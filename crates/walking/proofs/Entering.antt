@@ -1,4 +1,4 @@
--- `pattern_match_inner` and `pattern_by_kind`: a law for each way through them. Assumes nothing.
+-- `pattern_match_inner` and `kind`: a law for each way through them. Assumes nothing.
 use mathlib.Core.Path.{_≡_, sym, ap, _∙_}
 use mathlib.Core.Bool.{Bool, true, false, cond}
 use mathlib.Core.List.{List}
@@ -84,7 +84,7 @@ module _ (image bindings : List ℕ) (p : PatId) (row : PatRow) (mode : Matching
   inner-leaf e leaf L =
       inner-goes e (walks-by (λ ctx. sym (applied (leaf-by-kind (patKind (row .kind)) image bindings (p .0) row leaf) mode ctx current els (b .place))) (lowers-walks v₁ L))
 
--- `pattern_by_kind`
+-- `kind`
 module _ (image bindings : List ℕ) (p : PatId) (row : PatRow) (mode : MatchingMode) (c : Counts) (discr : DiscrTemp) (current : BasicBlockId) (els : OptBlock) (place : Place) (t : Lent) (v : List ℕ) where
   -- what it promises
   abbrev Kind : Lowered → Lent → List ℕ → Type 0

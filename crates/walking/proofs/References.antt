@@ -1,4 +1,4 @@
--- `pattern_match_ref` and `pattern_match_bind`: a law for each way through them. Assumes nothing.
+-- Ref patterns in `kind`, and `bound`: a law for each way through them. Assumes nothing.
 use mathlib.Core.Path.{_≡_, refl, sym, ap, _∙_}
 use mathlib.Core.Bool.{true, false}
 use mathlib.Core.List.{List}
@@ -34,7 +34,7 @@ use Rattle.pattern_nodes.specs.Modes.{bound}
 use Rattle.pattern_nodes.proofs.Branches.{no-subpattern, with-subpattern}
 use Rattle.walking.proofs.Looking.{looks-stops, looks-then, fills-walks, place-ty-now}
 
--- `pattern_match_ref`
+-- a Ref pattern
 module _ (image : List ℕ) (p : PatId) (sub : Lowering) (mode : MatchingMode) (c : Counts) (discr : DiscrTemp) (current : BasicBlockId) (els : OptBlock) (place : Place) (t : Lent) (v : List ℕ) where
   -- what it promises
   abbrev Ref : Lowered → Lent → List ℕ → Type 0
@@ -71,7 +71,7 @@ module _ (image : List ℕ) (p : PatId) (sub : Lowering) (mode : MatchingMode) (
       ref-goes e W =
           ref-there (looks-then p (λ ctx. project place ProjectionElem.Deref) (λ onward ctx. sub mode ctx current els onward) (λ ctx. refl) (λ scopes visits. project-goes place ProjectionElem.Deref Q e) W)
 
--- `pattern_match_bind`: q is the word of the subpattern
+-- `bound`: q is the word of the subpattern
 module _ (image bindings : List ℕ) (p : PatId) (b q : ℕ) (how : BindingMode) (mode : MatchingMode) (c : Counts) (discr : DiscrTemp) (current : BasicBlockId) (els : OptBlock) (place : Place) where
   -- what it promises
   abbrev Bind : Lent → List ℕ → Lowered → Lent → List ℕ → Type 0

@@ -57,7 +57,7 @@ module _ (image bindings : List ℕ) (p : PatId) (rest from front back : ℕ) (m
   behind-as ctx = sym (applied (slice-behind-by-rows image bindings (p .0) rest from front back) mode ctx current els place)
 
   module _ {bl s l e s₁ e₁ v : List ℕ} (P : Primed (lent bl s l e) c) where
-    -- `slice_behind`: the rest is refused
+    -- in `slice`: the rest is refused
     pub slice-behind-stops : {x : MirLowerError} {at : PatId} →
         Fills (λ ctx. restBound (restOf (tree? (tree image) rest)) bindings (p .0) front back mode ctx current els place) c discr current els s e (Lowered.Refused x at) s₁ e₁ →
         Walks (λ ctx. sliceBehind image bindings (p .0) rest from front back mode ctx current els place) c discr current els (lent bl s l e) v (Lowered.Refused x at) (lent bl s₁ l e₁) v
@@ -78,7 +78,7 @@ module _ (image bindings : List ℕ) (p : PatId) (rest from front back : ℕ) (m
         slice-behind-then F (walks-by (λ ctx. ap (λ (k : ℕ). argumentsFrom ArgumentRow.LastItems image bindings (p .0) from 0 0 k mode ctx then other place) (sym none))
         (arguments-end ArgumentRow.LastItems image bindings p from 0 0 mode place 0 c₁ d₁ then other (lent bl s₁ l e₁) v (omega arith) (fills-walks v P F .onward .begins)))
 
-  -- what `slice_items` promises
+  -- what `slice` promises of the items, behind its test
   abbrev Items : Lent → List ℕ → Lowered → Lent → List ℕ → Type 0
   Items = Walks (λ ctx. sliceItems bindings (p .0) (lowered image bindings from front) (restOf (tree? (tree image) rest)) (lowered image bindings (from + front) back) mode ctx current els place) c discr current els
 
@@ -91,7 +91,7 @@ module _ (image bindings : List ℕ) (p : PatId) (rest from front back : ℕ) (m
       ≡ sliceItems bindings (p .0) (lowered image bindings from front) (restOf (tree? (tree image) rest)) (lowered image bindings (from + front) back) mode ctx current els place
   items-as ctx = sym (applied (slice-items-by-rows image bindings (p .0) rest from front back) mode ctx current els place)
 
-  -- `slice_items`: one in front is refused
+  -- one in front is refused
   pub slice-items-stop : {t t₁ : Lent} {v v₁ : List ℕ} {x : MirLowerError} {at : PatId} →
       Walks (λ ctx. argumentsFrom ArgumentRow.Items image bindings (p .0) from 0 0 front mode ctx current els place) c discr current els t v (Lowered.Refused x at) t₁ v₁ → Items t v (Lowered.Refused x at) t₁ v₁
   slice-items-stop W = walks-by items-as (walks-stops behindFront W)
@@ -102,7 +102,7 @@ module _ (image bindings : List ℕ) (p : PatId) (rest from front back : ℕ) (m
       Walks (λ ctx. sliceBehind image bindings (p .0) rest (from + front) front back mode ctx then other place) c₁ d₁ then other t₁ v₁ r t₂ v₂ → Items t v r t₂ v₂
   slice-items-then P W S = walks-by items-as (walks-then W P behindFront S)
 
-  -- `pattern_match_slice`, of the type ty
+  -- `slice`, of the type ty
   module _ (ty n : ℕ) (many : n ≡ front + back) where
     -- what it promises
     abbrev Slice : Lent → List ℕ → Lowered → Lent → List ℕ → Type 0

@@ -1,4 +1,4 @@
--- `alternative`: an alternative is tested, and beyond Check walked again; a law for each way through it. Assumes nothing.
+-- `alt`: an alternative is tested, and beyond Check walked again; a law for each way through it. Assumes nothing.
 use mathlib.Core.Path.{_≡_, refl, sym, ap}
 use mathlib.Core.Bool.{true, false, true≢false, false≢true}
 use mathlib.Core.List.{List}

@@ -115,7 +115,7 @@ module _ (image bindings : List ℕ) (p : PatId) (mode : MatchingMode) (c : Coun
     unfolding fieldsThere
     fields-record from count few e W = walks-by (λ ctx. sym (applied (record-by-rows image bindings (p .0) fields from count few e) mode ctx current els place)) W
 
-  -- `pattern_matching_variant` and `pattern_matching_enum`: the variant w, whose arguments have a shape
+  -- `pattern_matching_variant`: the variant w, whose arguments have a shape
   module _ (w : ℕ) (shape : AdtPatternShape) where
     -- what it promises
     abbrev Variant : Lowered → Lent → List ℕ → Type 0
@@ -190,7 +190,7 @@ module _ (image bindings : List ℕ) (p : PatId) (mode : MatchingMode) (c : Coun
           (looks-then p (λ ctx. project place (ProjectionElem.Downcast w)) (λ to ctx. variantFields (shapeOf image bindings shape) (p .0) (length (variantOf image w .fields)) mode ctx then other to) (λ ctx. refl) (λ scopes visits. project-goes place (ProjectionElem.Downcast w) Q e)
           (walks-by (λ ctx. ap (λ (m : ℕ). variantFields (shapeOf image bindings shape) (p .0) m mode ctx then other (chosen .place)) many) W)))
 
-    -- `pattern_match_variant`: the word is absent
+    -- in `kind`: the word is absent
     pub variant-none : w ≡ 65535 → Walks (λ ctx. variantPattern image (p .0) (word? w) (shapeOf image bindings shape) mode ctx current els place) c discr current els t v (Lowered.Refused MirLowerError.NotSupported p) t v
     variant-none e = walks-refuses (λ scopes visits. sym (applied (no-variant image (p .0) w (shapeOf image bindings shape) e) mode _ current els place))
 
