@@ -16,7 +16,7 @@ from pathlib import Path
 
 HERE = Path(__file__).resolve().parent
 BENCH = HERE / "bench/target/release/bench"
-PARTS = ("rust", "rattle", "read", "clear")
+PARTS = ("rust", "rattle", "read", "lone", "lone_read")
 # With so many rounds more, the instructions that one lowering takes are the difference.
 FEW, MANY = 1, 5
 # memset and memcpy are loops, and not one instruction that counts as many.
@@ -51,7 +51,8 @@ def instruction_lines(folder):
     subprocess.run([BENCH, "write", folder], check=True)
     for file in sorted(Path(folder).glob("*.list")):
         (rust, images), *others = [instructions(part, file) for part in PARTS]
-        rattle, read, clear = (spent for spent, _ in others)
+        rattle, read, lone, lone_read = (spent for spent, _ in others)
+        clear = lone - lone_read
         name = file.with_suffix(".name").read_text(encoding="utf-8")
         yield (f"| {name} | {images} | {rust:,.0f} | {rattle:,.0f} | {rattle / rust:.2f} | {read:,.0f} | {clear:,.0f} "
                f"| {rattle - read - clear:,.0f} |")

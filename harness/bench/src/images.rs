@@ -65,6 +65,13 @@ fn or_of_literals() -> Tables {
     m
 }
 
+/// A lone wildcard: besides its reading, its lowering is the clearing of the tables.
+pub fn lone() -> Tables {
+    let mut m = with_u8();
+    wild(&mut m);
+    m
+}
+
 fn range(m: &mut Tables) -> u16 {
     let operand = if m.list.is_empty() { m.add_operand(UINT, &7i128.to_le_bytes()) } else { 0 };
     m.add_pattern(RANGE, 0, 0, [operand, operand, 0, 0])

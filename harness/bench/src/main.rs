@@ -16,14 +16,14 @@ use rattle::{Given, Lent};
 const USAGE: &str = "bench times              prints nanoseconds for one lowering, by groups of images
 bench write FOLDER       writes each group's images to a file of the folder
 bench spend PART FILE ROUNDS  lowers the images of such a file so often, for a count of instructions,
-                         and prints how many images there are; PART is rust, rattle, read or clear";
+                         and prints how many images there are; PART is rust, rattle, read, lone or lone_read";
 
 /// A measurement is the least of so many, each at least so long.
 const REPEATS: usize = 301;
 const LEAST_SECONDS: f64 = 0.001;
 
-/// One side, or one part of the Rattle side.
-const PARTS: [&str; 4] = ["rust", "rattle", "read", "clear"];
+/// One side, the reading alone, or a lone wildcard and its reading in place of each image.
+const PARTS: [&str; 5] = ["rust", "rattle", "read", "lone", "lone_read"];
 
 /// An image, ready for both sides.
 struct Ready {
@@ -79,13 +79,14 @@ fn ready(group: &Group) -> Vec<Ready> {
 struct Side {
     part: &'static str,
     images: Vec<Ready>,
+    lone: Given,
     lent: Lent,
 }
 
 impl Side {
     fn new(part: &str, images: Vec<Ready>) -> Side {
         let part = PARTS.into_iter().find(|&known| known == part).expect("a part");
-        Side { part, images, lent: Lent::new() }
+        Side { part, images, lone: Given::new(&images::lone(), 0), lent: Lent::new() }
     }
 
     /// All images, so often.
@@ -103,9 +104,11 @@ impl Side {
                     "read" => {
                         black_box(self.lent.read(&image.given));
                     }
+                    "lone" => {
+                        black_box(self.lent.lower(&self.lone));
+                    }
                     _ => {
-                        self.lent.clear(&image.given);
-                        black_box(&self.lent);
+                        black_box(self.lent.read(&self.lone));
                     }
                 }
             }
@@ -121,7 +124,7 @@ impl Side {
     }
 
     /// Nanoseconds for one image, part by part; the parts are measured in turn.
-    fn times(&mut self) -> [f64; 4] {
+    fn times(&mut self) -> [f64; 5] {
         let rounds = PARTS.map(|part| {
             let mut rounds = 1;
             while self.seconds(part, rounds) < LEAST_SECONDS {
@@ -129,7 +132,7 @@ impl Side {
             }
             rounds
         });
-        let mut least = [f64::INFINITY; 4];
+        let mut least = [f64::INFINITY; 5];
         for _ in 0..REPEATS {
             for number in 0..PARTS.len() {
                 least[number] = least[number].min(self.seconds(PARTS[number], rounds[number]));
@@ -141,8 +144,9 @@ impl Side {
 
 fn print_times(group: &Group) {
     let mut side = Side::new("rust", ready(group));
-    let [rust, rattle, read, clear] = side.times();
-    let lowering = (rattle - read - clear).max(0.0);
+    let [rust, rattle, read, lone, lone_read] = side.times();
+    let clear = lone - lone_read;
+    let lowering = rattle - read - clear;
     println!(
         "| {} | {} | {rust:.0} | {rattle:.0} | {:.2} | {read:.0} | {clear:.0} | {lowering:.0} |",
         group.name,

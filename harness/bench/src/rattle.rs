@@ -85,16 +85,6 @@ impl Lent {
         self.call(given, ABSENT)[0]
     }
 
-    /// The zeros that a lowering writes before it begins.
-    pub fn clear(&mut self, given: &Given) {
-        self.blocks[12..].fill(0);
-        self.statements.fill(0);
-        self.locals[given.types.len()..].fill(0);
-        self.scopes[1..].fill(0);
-        self.entries.fill(0);
-        self.visits.fill(0);
-    }
-
     fn call(&mut self, given: &Given, pattern: u16) -> [u16; 11] {
         self.blocks[..12].fill(0);
         self.locals[..given.types.len()].copy_from_slice(&given.types);
