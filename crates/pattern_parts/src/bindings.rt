@@ -129,7 +129,7 @@ pub fn local_path(
     }
 }
 
-fn is_bind(kind: PatKind) -> bool
+pub fn is_bind(kind: PatKind) -> bool
     ensures { λ r. ⌜ r ≡ isBind kind ⌝ }
 {
     match kind {

@@ -1,11 +1,13 @@
 // The walk over patterns: the lowering of a pattern, of a variant, of fields and of arguments call each other. With each call a pair falls: the pattern's number, and
 // behind it the rank of the function. The tables are lent, the counts go in and come out by value, and the first refusal stops the walk.
 pub mod adt; // adt.rt: variants and arguments
+pub mod entering; // entering.rt: visits and derefs, and Binds in Check
 pub mod sub; // sub.rt: Bind, Or and Slice patterns
 
 use adt::pattern_match_adt;
 use adt::pattern_match_tuple_like;
 use adt::pattern_matching_variant;
+use entering::enter;
 use image::PatId;
 use image::Tables;
 use image::kinds::pat_kind;
@@ -25,8 +27,6 @@ use pattern_parts::adts::fields_there;
 use pattern_parts::adts::place_ty;
 use pattern_parts::adts::reference_at;
 use pattern_parts::adts::tuple_at;
-use pattern_parts::entering::deref_place;
-use pattern_parts::entering::visit;
 use pattern_rows::AdtPatternShape;
 use pattern_rows::ArgumentRow;
 use pattern_rows::CompoundKind;
@@ -56,7 +56,7 @@ ghost use Rattle.pattern_nodes.specs.Arguments.{shapeOf, ShapeThere};
 ghost use Rattle.pattern_nodes.specs.Nodes.{kindPattern};
 ghost use Rattle.walking.specs.Walk.{Walkable};
 
-// The pattern p: it is visited once more, and its derefs are appended to the place before its kind is looked at.
+// The pattern p: it is entered, and lowered by the kind of the pattern at which the walk then is.
 pub fn pattern_match_inner(
     image: &[u8],
     tables: Tables,
@@ -78,12 +78,13 @@ pub fn pattern_match_inner(
     requires { ⌜ p .0 < patternCount (now image) ⌝ }
     ensures { λ r. ⌜ Walks (λ ctx. patternMatchInner (now (image .entry)) (now (bindings .entry)) (tree (now (image .entry)) (p .0)) mode ctx current els place) counts discr current els (lent (now (blocks .entry)) (now (statements .entry)) (now (locals .entry)) (now (entries .entry))) (now (visits .entry)) r (lent (now (blocks .exit)) (now (statements .exit)) (now (locals .exit)) (now (entries .exit))) (now (visits .exit)) ⌝ }
 {
-    visit(visits, p);
-    let row = pat_at(image, tables, p);
-    let behind = deref_place(place, row.derefs);
-    if !behind.ok {
-        return Lowered::Refused(MirLowerError::Limit, p);
+    let entered = enter(image, tables, visits, mode, p, place);
+    let q = entered.p;
+    let here = entered.place;
+    if !entered.ok {
+        return Lowered::Refused(MirLowerError::Limit, q);
     }
+    let row = pat_at(image, tables, q);
     if is_leaf(pat_kind(row.kind), path_kind(row.a)) {
         return pattern_match_leaf(
             image,
@@ -96,11 +97,11 @@ pub fn pattern_match_inner(
             counts,
             discr,
             mode,
-            p,
+            q,
             row,
             current,
             els,
-            behind.place,
+            here,
         );
     }
     kind(
@@ -115,11 +116,11 @@ pub fn pattern_match_inner(
         counts,
         discr,
         mode,
-        p,
+        q,
         row,
         current,
         els,
-        behind.place,
+        here,
     )
 }
 

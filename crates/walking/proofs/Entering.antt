@@ -30,20 +30,21 @@ use Rattle.pattern_matching.specs.Variants.{placeTy, shapeOf, patternMatchTuple
 use Rattle.pattern_matching.specs.Slices.{sliceOn}
 use Rattle.pattern_matching.specs.Patterns.{orPattern, bindPattern, restOf, patternMatchInner, lowering?}
 use Rattle.walks.specs.declared.Lowered.{Lowered}
-use Rattle.walks.specs.Answers.{Lent, Placed, Lowers, Walks}
-use Rattle.walks.proofs.Sequences.{lowers-walks, walks-by}
+use Rattle.walks.specs.Answers.{Lent, Placed, Walks}
+use Rattle.walks.proofs.Sequences.{walks-by}
 use Rattle.pattern_parts.specs.declared.adts.TupleAt.{TupleAt}
 use Rattle.pattern_parts.specs.Parts.{projectedResult, derefsOf, tupleAt, tupleResult}
 use Rattle.pattern_parts.proofs.Visiting.{Reached, derefs-reach, visitedIn, enter-stops, enter-goes}
 use Rattle.pattern_parts.proofs.Needed.{tuple-needed}
 use Rattle.pattern_rows.specs.declared.CompoundKind.{CompoundKind}
 use Rattle.pattern_rows.specs.Rows.{compoundKind, variantWord, variantShape}
-use Rattle.pattern_nodes.specs.Leaves.{isLeaf, leafPattern}
+use Rattle.pattern_nodes.specs.Leaves.{isLeaf}
 use Rattle.pattern_nodes.specs.Arguments as arguments
 use Rattle.pattern_nodes.specs.Arguments.{lowered}
 use Rattle.pattern_nodes.specs.Nodes.{kindPattern}
-use Rattle.pattern_nodes.proofs.Nodes.{by-read-row, applied, leaf-by-kind}
+use Rattle.pattern_nodes.proofs.Nodes.{by-read-row, applied}
 use Rattle.pattern_nodes.proofs.Branches.{tuple-by-kind, or-by-kind, slice-by-kind, bind-by-kind, ref-by-kind, variant-by-kind}
+use Rattle.walking.specs.Walk.{Inner}
 use Rattle.walking.proofs.Looking.{looks-stops, looks-then, place-ty-now}
 
 -- the derefs of a pattern: there is no room for them, or the place behind them
@@ -55,11 +56,6 @@ derefs-done place n b is e = ap (λ (t : Bool). cond t (done (b .place)) (stoppe
 
 pub derefs-reached : (place : Place) (n : ℕ) (b : Projected) → projectedResult b ≡ derefsOf place n → b .ok ≡ true → Reached place (b .place)
 derefs-reached place n b is e = derefs-reach place n (derefs-done place n b is e)
-
--- what `pattern_match_inner` promises
-abbrev pub Inner : List ℕ → List ℕ → PatId → MatchingMode → Counts → DiscrTemp → BasicBlockId → OptBlock → Place → Lent → List ℕ → Lowered → Lent → List ℕ → Type 0
-Inner image bindings p mode c discr current els place t v =
-    Walks (λ ctx. patternMatchInner image bindings (tree image (p .0)) mode ctx current els place) c discr current els t v
 
 -- `pattern_match_inner`: v is the visits' table before, and v₁ the one after p is visited
 module _ (image bindings : List ℕ) (p : PatId) (row : PatRow) (mode : MatchingMode) (c : Counts) (discr : DiscrTemp) (current : BasicBlockId) (els : OptBlock) (place : Place) (t : Lent) (v : List ℕ) {v₁ : List ℕ} (b : Projected)
@@ -77,12 +73,6 @@ module _ (image bindings : List ℕ) (p : PatId) (row : PatRow) (mode : Matching
   inner-goes e W =
       walks-by (λ ctx. sym (applied (by-read-row image bindings (p .0) row good h same) mode ctx current els place))
       (enter-goes p (row .derefs) (kindPattern (patKind (row .kind)) image bindings (p .0) row) mode c discr current els place t v (derefs-done place (row .derefs) b is e) (rw seen at W))
-
-  -- one that has no subpattern
-  pub inner-leaf : {r : Lowered} {t₂ : Lent} → b .ok ≡ true → isLeaf (patKind (row .kind)) (pathKind (row .a)) ≡ true →
-      Lowers (λ ctx. leafPattern (patKind (row .kind)) image bindings (p .0) row mode ctx current els (b .place)) c discr current els t r t₂ → Inner image bindings p mode c discr current els place t v r t₂ v₁
-  inner-leaf e leaf L =
-      inner-goes e (walks-by (λ ctx. sym (applied (leaf-by-kind (patKind (row .kind)) image bindings (p .0) row leaf) mode ctx current els (b .place))) (lowers-walks v₁ L))
 
 -- `kind`
 module _ (image bindings : List ℕ) (p : PatId) (row : PatRow) (mode : MatchingMode) (c : Counts) (discr : DiscrTemp) (current : BasicBlockId) (els : OptBlock) (place : Place) (t : Lent) (v : List ℕ) where

@@ -1,6 +1,7 @@
 pub mod Asking
 pub mod Looking
 pub mod Entering
+pub mod Descending
 pub mod References
 pub mod Arguments
 pub mod Variants

@@ -212,11 +212,10 @@ pub +adt·pattern-match-adt+adt·pattern-match-tuple-like+adt·pattern-matching-
     (Kind.same-length-33 t)
     (Kind.returns-10 t))
     (λ t. pattern-match-inner-lts.spec (Inner.calls t) (pattern-match-inner-at t) pattern-match-inner.Post
-    (Inner.visit-requires t)
-    (Inner.pat-at-requires t)
-    (Inner.deref-place-requires t)
+    (Inner.enter-requires t)
     (Inner.same-length t)
     (Inner.returns t)
+    (Inner.pat-at-requires t)
     (Inner.pat-kind-requires t)
     (Inner.path-kind-requires t)
     (Inner.is-leaf-requires t)

@@ -2,9 +2,8 @@
 use Prim.Native.Nat.{ℕ}
 use Rattle.pattern_walk.proofs.pattern_match_inner.Reads as pattern-match-inner
 use Rattle.pattern_walk.proofs.+adt-pattern_match_adt+adt-pattern_match_tuple_like+adt-pattern_matching_variant+kind+pattern_match_inner+pattern_matching_variant_fields+sub-alt+sub-alts+sub-bound+sub-slice.Lts-pattern_match_inner as lts
-use Rattle.pattern_parts.proofs.entering.visit.Reads as visit-reads
+use Rattle.pattern_walk.proofs.entering.enter.Reads as enter-reads
 use Rattle.image.proofs.rows.pat_at.Reads as pat-at-reads
-use Rattle.pattern_parts.proofs.entering.deref_place.Reads as deref-place-reads
 use Rattle.image.proofs.kinds.pat_kind.Reads as pat-kind-reads
 use Rattle.image.proofs.kinds.path_kind.Reads as path-kind-reads
 use Rattle.pattern_leaves.proofs.kinds.is_leaf.Reads as is-leaf-reads
@@ -16,27 +15,24 @@ use native.Mathlib.Omega.{arith}
 use borrow.Author.Tests.{not-true, not-false}
 use Rattle.pattern_nodes.specs.Leaves.{isLeaf}
 use Rattle.pattern_nodes.proofs.Known.{row-typed, row-shape}
-use Rattle.walking.proofs.Asking.{walkable-at, walkable-visited, asks-visit, asks-row}
-use Rattle.walking.proofs.Entering.{derefs-reached, inner-stops, inner-goes, inner-leaf}
+use Rattle.walking.proofs.Asking.{walkable-at, walkable-visited, asks-row}
+use Rattle.walking.proofs.Descending.{entered-there, entered-reaches, entered-leaf}
 
 -- what it may use of the functions that it calls
 abbrev pub calls : ℕ → lts.Claims
-calls t = (visit-reads.Asked, visit-reads.Learnt, pat-at-reads.Asked, pat-at-reads.Learnt, deref-place-reads.Asked, deref-place-reads.Learnt, pat-kind-reads.Asked, pat-kind-reads.Learnt, path-kind-reads.Asked, path-kind-reads.Learnt, is-leaf-reads.Asked, is-leaf-reads.Learnt, pattern-match-leaf-reads.Asked, pattern-match-leaf-reads.Learnt, kind-below t, kind.Post)
+calls t = (enter-reads.Asked, enter-reads.Learnt, pat-at-reads.Asked, pat-at-reads.Learnt, pat-kind-reads.Asked, pat-kind-reads.Learnt, path-kind-reads.Asked, path-kind-reads.Learnt, is-leaf-reads.Asked, is-leaf-reads.Learnt, pattern-match-leaf-reads.Asked, pattern-match-leaf-reads.Learnt, kind-below t, kind.Post)
 
-pub visit-requires : (t : ℕ) → lts.Need-visit-requires (calls t) (pattern-match-inner-at t) pattern-match-inner.Post
-visit-requires t c κs = asks-visit (c .before .before .before .before .before .before .before .before .pre .1 .0) (c .before .before .before .before .before .before .before .before .pre .1 .1)
-
-pub pat-at-requires : (t : ℕ) → lts.Need-pat-at-requires (calls t) (pattern-match-inner-at t) pattern-match-inner.Post
-pat-at-requires t c κs = asks-row (c .before .before .before .before .before .before .before .before .before .before .before .pre .1 .0) (c .before .before .before .before .before .before .before .before .before .before .before .pre .1 .1)
-
-pub deref-place-requires : (t : ℕ) → lts.Need-deref-place-requires (calls t) (pattern-match-inner-at t) pattern-match-inner.Post
-deref-place-requires t c κs = tt
+pub enter-requires : (t : ℕ) → lts.Need-enter-requires (calls t) (pattern-match-inner-at t) pattern-match-inner.Post
+enter-requires t c κs = (c .before .before .before .before .before .before .before .before .pre .1 .0 .image-valid, c .before .before .before .before .before .before .before .before .pre .1 .0 .whole, c .before .before .before .before .before .before .before .before .pre .1 .0 .visits-sized, c .before .before .before .before .before .before .before .before .pre .1 .1)
 
 pub same-length : (t : ℕ) → lts.Need-same-length (calls t) (pattern-match-inner-at t) pattern-match-inner.Post
-same-length t c = c .before .before .before .before .before .before .visit .kept .0
+same-length t c = c .before .before .before .before .before .before .enter .ensures .same-length
 
 pub returns : (t : ℕ) → lts.Need-returns (calls t) (pattern-match-inner-at t) pattern-match-inner.Post
-returns t c = inner-stops (c .before .before .before .before .before .before .before .before .before .before .before .before .before .before .before .args .image .now) (c .before .before .before .before .before .before .before .before .before .before .before .before .before .before .before .args .bindings .now) (c .before .before .before .before .before .before .before .before .before .before .before .before .before .before .before .args .p) (c .before .before .before .pat-at .result) (c .before .before .before .before .before .before .before .before .before .before .before .before .before .before .before .args .mode) (c .before .before .before .before .before .before .before .before .before .before .before .before .before .before .before .args .counts) (c .before .before .before .before .before .before .before .before .before .before .before .before .before .before .before .args .discr) (c .before .before .before .before .before .before .before .before .before .before .before .before .before .before .before .args .current) (c .before .before .before .before .before .before .before .before .before .before .before .before .before .before .before .args .els) (c .before .before .before .before .before .before .before .before .before .before .before .before .before .before .before .args .place) _ _ (c .before .before .deref-place .result) (c .before .before .before .before .before .before .before .before .before .before .before .before .before .before .before .pre .1 .0 .image-valid) (c .before .before .before .before .before .before .before .before .before .before .before .before .before .before .before .pre .1 .1) (c .before .before .before .pat-at .ensures) (c .before .before .before .before .before .before .visit .ensures) (c .before .before .deref-place .ensures) (not-true _ (c .if1 .taken))
+returns t c = c .before .before .before .before .before .before .enter .ensures .stops (not-true _ (c .if1 .taken)) (c .before .before .before .before .before .before .before .before .before .before .before .before .before .before .before .args .bindings .now) (c .before .before .before .before .before .before .before .before .before .before .before .before .before .before .before .args .counts) (c .before .before .before .before .before .before .before .before .before .before .before .before .before .before .before .args .discr) (c .before .before .before .before .before .before .before .before .before .before .before .before .before .before .before .args .current) (c .before .before .before .before .before .before .before .before .before .before .before .before .before .before .before .args .els) _
+
+pub pat-at-requires : (t : ℕ) → lts.Need-pat-at-requires (calls t) (pattern-match-inner-at t) pattern-match-inner.Post
+pat-at-requires t c κs = asks-row (c .before .before .before .before .before .before .before .before .before .before .before .before .before .before .before .pre .1 .0) (omega (arith, c .before .before .before .before .before .before .enter .ensures .below, c .before .before .before .before .before .before .before .before .before .before .before .before .before .before .before .pre .1 .1))
 
 pub pat-kind-requires : (t : ℕ) → lts.Need-pat-kind-requires (calls t) (pattern-match-inner-at t) pattern-match-inner.Post
 pat-kind-requires t c κs = tt
@@ -48,7 +44,10 @@ pub is-leaf-requires : (t : ℕ) → lts.Need-is-leaf-requires (calls t) (patter
 is-leaf-requires t c κs = tt
 
 pub pattern-match-leaf-requires : (t : ℕ) → lts.Need-pattern-match-leaf-requires (calls t) (pattern-match-inner-at t) pattern-match-inner.Post
-pattern-match-leaf-requires t c κs = (((c .before .before .before .before .before .before .before .before .before .before .before .before .before .before .before .before .before .before .before .before .before .before .before .pre .1 .0 .image-valid), c .before .before .before .before .before .before .before .before .before .before .before .before .before .before .before .before .before .before .before .before .before .before .before .pre .1 .0 .whole, row-typed (c .before .before .before .before .before .before .before .before .before .before .before .before .before .before .before .before .before .before .before .before .before .before .before .args .image .now) _ _ (c .before .before .before .before .before .before .before .before .before .before .before .before .before .before .before .before .before .before .before .before .before .before .before .pre .1 .0 .image-valid) (c .before .before .before .before .before .before .before .before .before .before .before .before .before .before .before .before .before .before .before .before .before .before .before .pre .1 .1) (c .before .before .before .before .before .before .before .before .before .before .before .pat-at .ensures), row-shape (c .before .before .before .before .before .before .before .before .before .before .before .before .before .before .before .before .before .before .before .before .before .before .before .args .image .now) _ _ (c .before .before .before .before .before .before .before .before .before .before .before .before .before .before .before .before .before .before .before .before .before .before .before .pre .1 .0 .image-valid) (c .before .before .before .before .before .before .before .before .before .before .before .before .before .before .before .before .before .before .before .before .before .before .before .pre .1 .1) (c .before .before .before .before .before .before .before .before .before .before .before .pat-at .ensures), (c .before .before .before .before .before .before .before .before .before .before .before .before .before .before .before .before .before .before .before .before .before .before .before .pre .1 .0) .locals-of-bindings), ((c .before .before .before .before .before .before .before .before .before .before .before .before .before .before .before .before .before .before .before .before .before .before .before .pre .1 .0 .primed), (c .before .before .before .before .before .before .before .before .before .before .before .before .before .before .before .before .before .before .before .before .before .before .before .pre .1 .0 .begins)))
+pattern-match-leaf-requires t c κs =
+    let W = c .before .before .before .before .before .before .before .before .before .before .before .before .before .before .before .before .before .before .before .before .before .before .before .before .pre .1 .0 in
+    let there = entered-there (c .before .before .before .before .before .before .before .before .before .before .before .before .before .before .before .enter .ensures) (c .before .before .before .before .before .before .before .before .before .before .before .before .before .before .before .before .before .before .before .before .before .before .before .before .pre .1 .1) in
+    ((W .image-valid, W .whole, row-typed (c .before .before .before .before .before .before .before .before .before .before .before .before .before .before .before .before .before .before .before .before .before .before .before .before .args .image .now) _ _ (W .image-valid) there (c .before .before .before .before .before .before .before .before .pat-at .ensures), row-shape (c .before .before .before .before .before .before .before .before .before .before .before .before .before .before .before .before .before .before .before .before .before .before .before .before .args .image .now) _ _ (W .image-valid) there (c .before .before .before .before .before .before .before .before .pat-at .ensures), W .locals-of-bindings), (W .primed, W .begins))
 
 pub same-length-2 : (t : ℕ) → lts.Need-same-length-2 (calls t) (pattern-match-inner-at t) pattern-match-inner.Post
 same-length-2 t c = c .before .before .before .before .before .before .before .before .pattern-match-leaf .kept .1 .1 .1 .0
@@ -63,13 +62,15 @@ pub same-length-5 : (t : ℕ) → lts.Need-same-length-5 (calls t) (pattern-matc
 same-length-5 t c = c .before .before .before .before .before .before .before .before .pattern-match-leaf .kept .1 .1 .1 .1 .1 .1 .0
 
 pub same-length-6 : (t : ℕ) → lts.Need-same-length-6 (calls t) (pattern-match-inner-at t) pattern-match-inner.Post
-same-length-6 t c = c .before .before .before .before .before .before .before .before .before .before .before .before .before .before .before .before .before .before .before .before .before .before .before .visit .kept .0
+same-length-6 t c = c .before .before .before .before .before .before .before .before .before .before .before .before .before .before .before .before .before .before .before .before .before .before .before .before .enter .ensures .same-length
 
 pub returns-2 : (t : ℕ) → lts.Need-returns-2 (calls t) (pattern-match-inner-at t) pattern-match-inner.Post
-returns-2 t c = inner-leaf (c .before .before .before .before .before .before .before .before .before .before .before .before .before .before .before .before .before .before .before .before .before .before .before .before .before .before .before .before .before .before .before .before .args .image .now) (c .before .before .before .before .before .before .before .before .before .before .before .before .before .before .before .before .before .before .before .before .before .before .before .before .before .before .before .before .before .before .before .before .args .bindings .now) (c .before .before .before .before .before .before .before .before .before .before .before .before .before .before .before .before .before .before .before .before .before .before .before .before .before .before .before .before .before .before .before .before .args .p) (c .before .before .before .before .before .before .before .before .before .before .before .before .before .before .before .before .before .before .before .before .pat-at .result) (c .before .before .before .before .before .before .before .before .before .before .before .before .before .before .before .before .before .before .before .before .before .before .before .before .before .before .before .before .before .before .before .before .args .mode) (c .before .before .before .before .before .before .before .before .before .before .before .before .before .before .before .before .before .before .before .before .before .before .before .before .before .before .before .before .before .before .before .before .args .counts) (c .before .before .before .before .before .before .before .before .before .before .before .before .before .before .before .before .before .before .before .before .before .before .before .before .before .before .before .before .before .before .before .before .args .discr) (c .before .before .before .before .before .before .before .before .before .before .before .before .before .before .before .before .before .before .before .before .before .before .before .before .before .before .before .before .before .before .before .before .args .current) (c .before .before .before .before .before .before .before .before .before .before .before .before .before .before .before .before .before .before .before .before .before .before .before .before .before .before .before .before .before .before .before .before .args .els) (c .before .before .before .before .before .before .before .before .before .before .before .before .before .before .before .before .before .before .before .before .before .before .before .before .before .before .before .before .before .before .before .before .args .place) _ _ (c .before .before .before .before .before .before .before .before .before .before .before .before .before .before .before .before .before .before .before .deref-place .result) (c .before .before .before .before .before .before .before .before .before .before .before .before .before .before .before .before .before .before .before .before .before .before .before .before .before .before .before .before .before .before .before .before .pre .1 .0 .image-valid) (c .before .before .before .before .before .before .before .before .before .before .before .before .before .before .before .before .before .before .before .before .before .before .before .before .before .before .before .before .before .before .before .before .pre .1 .1) (c .before .before .before .before .before .before .before .before .before .before .before .before .before .before .before .before .before .before .before .before .pat-at .ensures) (c .before .before .before .before .before .before .before .before .before .before .before .before .before .before .before .before .before .before .before .before .before .before .before .visit .ensures) (c .before .before .before .before .before .before .before .before .before .before .before .before .before .before .before .before .before .before .before .deref-place .ensures) (not-false _ (c .before .before .before .before .before .before .before .before .before .before .before .before .before .before .before .before .before .if1 .left)) (sym (c .before .before .before .before .before .before .before .before .before .before .before .before .before .before .is-leaf .ensures ∙ ap₂ isLeaf (c .before .before .before .before .before .before .before .before .before .before .before .before .before .before .before .before .pat-kind .ensures) (c .before .before .before .before .before .before .before .before .before .before .before .before .before .before .before .path-kind .ensures)) ∙ c .before .before .before .before .before .before .before .before .before .before .before .before .before .if2 .taken) (c .before .before .before .before .before .before .before .before .pattern-match-leaf .ensures)
+returns-2 t c = entered-leaf (c .before .before .before .before .before .before .before .before .before .before .before .before .before .before .before .before .before .before .before .before .before .before .before .before .enter .ensures) (not-false _ (c .before .before .before .before .before .before .before .before .before .before .before .before .before .before .before .before .before .before .if1 .left)) (c .before .before .before .before .before .before .before .before .before .before .before .before .before .before .before .before .before .pat-at .result) (c .before .before .before .before .before .before .before .before .before .before .before .before .before .before .before .before .before .pat-at .ensures) (c .before .before .before .before .before .before .before .before .before .before .before .before .before .before .before .before .before .before .before .before .before .before .before .before .before .before .before .before .before .before .before .before .before .args .bindings .now) (c .before .before .before .before .before .before .before .before .before .before .before .before .before .before .before .before .before .before .before .before .before .before .before .before .before .before .before .before .before .before .before .before .before .args .counts) (c .before .before .before .before .before .before .before .before .before .before .before .before .before .before .before .before .before .before .before .before .before .before .before .before .before .before .before .before .before .before .before .before .before .args .discr) (c .before .before .before .before .before .before .before .before .before .before .before .before .before .before .before .before .before .before .before .before .before .before .before .before .before .before .before .before .before .before .before .before .before .args .current) (c .before .before .before .before .before .before .before .before .before .before .before .before .before .before .before .before .before .before .before .before .before .before .before .before .before .before .before .before .before .before .before .before .before .args .els) _ (sym (c .before .before .before .before .before .before .before .before .before .before .before .before .before .before .is-leaf .ensures ∙ ap₂ isLeaf (c .before .before .before .before .before .before .before .before .before .before .before .before .before .before .before .before .pat-kind .ensures) (c .before .before .before .before .before .before .before .before .before .before .before .before .before .before .before .path-kind .ensures)) ∙ c .before .before .before .before .before .before .before .before .before .before .before .before .before .if2 .taken) (c .before .before .before .before .before .before .before .before .pattern-match-leaf .ensures)
 
 pub kind-requires : (t : ℕ) → lts.Need-kind-requires (calls t) (pattern-match-inner-at t) pattern-match-inner.Post
-kind-requires t c κs = (omega (arith, c .before .before .before .before .before .before .before .before .before .before .before .before .before .before .before .before .before .before .before .before .before .before .before .before .pre .0), (walkable-at (walkable-visited (c .before .before .before .before .before .before .before .before .before .before .before .before .before .before .before .before .before .before .before .before .before .before .before .before .pre .1 .0) (c .before .before .before .before .before .before .before .before .before .before .before .before .before .before .before .visit .kept .0)) (derefs-reached _ _ (c .before .before .before .before .before .before .before .before .before .before .before .deref-place .result) (c .before .before .before .before .before .before .before .before .before .before .before .deref-place .ensures) (not-false _ (c .before .before .before .before .before .before .before .before .before .if1 .left))), ((c .before .before .before .before .before .before .before .before .before .before .before .before .before .before .before .before .before .before .before .before .before .before .before .before .pre .1 .1), c .before .before .before .before .before .before .before .before .before .before .before .before .pat-at .ensures, sym (c .before .before .before .before .before .before .is-leaf .ensures ∙ ap₂ isLeaf (c .before .before .before .before .before .before .before .before .pat-kind .ensures) (c .before .before .before .before .before .before .before .path-kind .ensures)) ∙ c .before .before .before .before .before .if2 .left)))
+kind-requires t c κs =
+    let E = c .before .before .before .before .before .before .before .before .before .before .before .before .before .before .before .before .enter .ensures in
+    (omega (arith, c .before .before .before .before .before .before .before .before .before .before .before .before .before .before .before .before .before .before .before .before .before .before .before .before .before .pre .0, E .below), (walkable-at (walkable-visited (c .before .before .before .before .before .before .before .before .before .before .before .before .before .before .before .before .before .before .before .before .before .before .before .before .before .pre .1 .0) (E .same-length)) (entered-reaches E (not-false _ (c .before .before .before .before .before .before .before .before .before .before .if1 .left))), (entered-there E (c .before .before .before .before .before .before .before .before .before .before .before .before .before .before .before .before .before .before .before .before .before .before .before .before .before .pre .1 .1), c .before .before .before .before .before .before .before .before .before .pat-at .ensures, sym (c .before .before .before .before .before .before .is-leaf .ensures ∙ ap₂ isLeaf (c .before .before .before .before .before .before .before .before .pat-kind .ensures) (c .before .before .before .before .before .before .before .path-kind .ensures)) ∙ c .before .before .before .before .before .if2 .left)))
 
 pub same-length-7 : (t : ℕ) → lts.Need-same-length-7 (calls t) (pattern-match-inner-at t) pattern-match-inner.Post
 same-length-7 t c = c .before .before .before .before .before .before .before .before .before .before .kind .kept .1 .1 .1 .0
@@ -84,7 +85,7 @@ pub same-length-10 : (t : ℕ) → lts.Need-same-length-10 (calls t) (pattern-ma
 same-length-10 t c = c .before .before .before .before .before .before .before .before .before .before .kind .kept .1 .1 .1 .1 .1 .1 .0
 
 pub same-length-11 : (t : ℕ) → lts.Need-same-length-11 (calls t) (pattern-match-inner-at t) pattern-match-inner.Post
-same-length-11 t c = c .before .before .before .before .before .before .before .before .before .before .kind .kept .1 .1 .1 .1 .1 .1 .1 .0 ∙ c .before .before .before .before .before .before .before .before .before .before .before .before .before .before .before .before .before .before .before .before .before .before .before .before .before .before .visit .kept .0
+same-length-11 t c = c .before .before .before .before .before .before .before .before .before .before .kind .kept .1 .1 .1 .1 .1 .1 .1 .0 ∙ c .before .before .before .before .before .before .before .before .before .before .before .before .before .before .before .before .before .before .before .before .before .before .before .before .before .before .before .enter .ensures .same-length
 
 pub returns-3 : (t : ℕ) → lts.Need-returns-3 (calls t) (pattern-match-inner-at t) pattern-match-inner.Post
-returns-3 t c = inner-goes (c .before .before .before .before .before .before .before .before .before .before .before .before .before .before .before .before .before .before .before .before .before .before .before .before .before .before .before .before .before .before .before .before .before .before .before .args .image .now) (c .before .before .before .before .before .before .before .before .before .before .before .before .before .before .before .before .before .before .before .before .before .before .before .before .before .before .before .before .before .before .before .before .before .before .before .args .bindings .now) (c .before .before .before .before .before .before .before .before .before .before .before .before .before .before .before .before .before .before .before .before .before .before .before .before .before .before .before .before .before .before .before .before .before .before .before .args .p) (c .before .before .before .before .before .before .before .before .before .before .before .before .before .before .before .before .before .before .before .before .before .before .before .pat-at .result) (c .before .before .before .before .before .before .before .before .before .before .before .before .before .before .before .before .before .before .before .before .before .before .before .before .before .before .before .before .before .before .before .before .before .before .before .args .mode) (c .before .before .before .before .before .before .before .before .before .before .before .before .before .before .before .before .before .before .before .before .before .before .before .before .before .before .before .before .before .before .before .before .before .before .before .args .counts) (c .before .before .before .before .before .before .before .before .before .before .before .before .before .before .before .before .before .before .before .before .before .before .before .before .before .before .before .before .before .before .before .before .before .before .before .args .discr) (c .before .before .before .before .before .before .before .before .before .before .before .before .before .before .before .before .before .before .before .before .before .before .before .before .before .before .before .before .before .before .before .before .before .before .before .args .current) (c .before .before .before .before .before .before .before .before .before .before .before .before .before .before .before .before .before .before .before .before .before .before .before .before .before .before .before .before .before .before .before .before .before .before .before .args .els) (c .before .before .before .before .before .before .before .before .before .before .before .before .before .before .before .before .before .before .before .before .before .before .before .before .before .before .before .before .before .before .before .before .before .before .before .args .place) _ _ (c .before .before .before .before .before .before .before .before .before .before .before .before .before .before .before .before .before .before .before .before .before .before .deref-place .result) (c .before .before .before .before .before .before .before .before .before .before .before .before .before .before .before .before .before .before .before .before .before .before .before .before .before .before .before .before .before .before .before .before .before .before .before .pre .1 .0 .image-valid) (c .before .before .before .before .before .before .before .before .before .before .before .before .before .before .before .before .before .before .before .before .before .before .before .before .before .before .before .before .before .before .before .before .before .before .before .pre .1 .1) (c .before .before .before .before .before .before .before .before .before .before .before .before .before .before .before .before .before .before .before .before .before .before .before .pat-at .ensures) (c .before .before .before .before .before .before .before .before .before .before .before .before .before .before .before .before .before .before .before .before .before .before .before .before .before .before .visit .ensures) (c .before .before .before .before .before .before .before .before .before .before .before .before .before .before .before .before .before .before .before .before .before .before .deref-place .ensures) (not-false _ (c .before .before .before .before .before .before .before .before .before .before .before .before .before .before .before .before .before .before .before .before .if1 .left)) (c .before .before .before .before .before .before .before .before .before .before .kind .ensures)
+returns-3 t c = c .before .before .before .before .before .before .before .before .before .before .before .before .before .before .before .before .before .before .before .before .before .before .before .before .before .before .before .enter .ensures .goes (not-false _ (c .before .before .before .before .before .before .before .before .before .before .before .before .before .before .before .before .before .before .before .before .before .if1 .left)) (c .before .before .before .before .before .before .before .before .before .before .before .before .before .before .before .before .before .before .before .before .pat-at .result) (c .before .before .before .before .before .before .before .before .before .before .before .before .before .before .before .before .before .before .before .before .pat-at .ensures) (c .before .before .before .before .before .before .before .before .before .before .before .before .before .before .before .before .before .before .before .before .before .before .before .before .before .before .before .before .before .before .before .before .before .before .before .before .args .bindings .now) (c .before .before .before .before .before .before .before .before .before .before .before .before .before .before .before .before .before .before .before .before .before .before .before .before .before .before .before .before .before .before .before .before .before .before .before .before .args .counts) (c .before .before .before .before .before .before .before .before .before .before .before .before .before .before .before .before .before .before .before .before .before .before .before .before .before .before .before .before .before .before .before .before .before .before .before .before .args .discr) (c .before .before .before .before .before .before .before .before .before .before .before .before .before .before .before .before .before .before .before .before .before .before .before .before .before .before .before .before .before .before .before .before .before .before .before .before .args .current) (c .before .before .before .before .before .before .before .before .before .before .before .before .before .before .before .before .before .before .before .before .before .before .before .before .before .before .before .before .before .before .before .before .before .before .before .before .args .els) _ (c .before .before .before .before .before .before .before .before .before .before .kind .ensures)

@@ -1,0 +1,70 @@
+use Rattle.pattern_walk.proofs.entering.enter.Statement.{statement}
+use Rattle.pattern_walk.proofs.entering.enter.Tie as tie
+use Rattle.pattern_walk.proofs.entering.enter.Reads as reads
+use Rattle.pattern_walk.proofs.entering.enter.Lts as lts
+use Rattle.image.proofs.rows.pat_at.Reads as pat-at-reads
+use Rattle.pattern_parts.proofs.entering.deref_place.Reads as deref-place-reads
+use Rattle.pattern_parts.proofs.entering.visit.Reads as visit-reads
+use Rattle.pattern_walk.proofs.entering.passes_on.Reads as passes-on-reads
+use mathlib.Core.Path.{sym, _∙_}
+use native.Mathlib.Omega.{arith}
+use borrow.Author.Tests.{not-true, not-false}
+use Rattle.pattern_nodes.proofs.Known.{limits}
+use Rattle.walking.proofs.Descending.{Descending, descending-begin, enter-full, enter-at, descending-again}
+
+abbrev Inv-loop : tie.InvT-loop
+Inv-loop image tables visits₀ mode q₀ here₀ visits q here = Descending image mode q₀ here₀ visits₀ q here visits
+
+abbrev μ-loop : tie.MeasureT-loop
+μ-loop image tables visits₀ mode q₀ here₀ visits q here = q .0
+
+loop-holds : tie.Need-loop-holds Inv-loop μ-loop
+loop-holds c = descending-begin _ _ _ _ _
+
+visit-requires : tie.Need-visit-requires Inv-loop μ-loop
+visit-requires c κs = omega (arith, c .before .before .before .before .pre .3, limits _ (c .before .before .before .before .pre .0) .patterns, c .before .loop .inv .below, c .before .loop .inv .same-length, c .before .before .before .before .pre .2)
+
+pat-at-requires : tie.Need-pat-at-requires Inv-loop μ-loop
+pat-at-requires c κs = (c .before .before .before .before .before .before .before .pre .1, omega (arith, c .before .before .before .before .before .before .before .pre .1 .pattern-count, c .before .before .before .before .before .before .before .pre .3, c .before .before .before .before .loop .inv .below))
+
+deref-place-requires : tie.Need-deref-place-requires Inv-loop μ-loop
+deref-place-requires c κs = tt
+
+same-length : tie.Need-same-length Inv-loop μ-loop
+same-length c = c .before .before .before .before .before .before .before .visit .kept .0 ∙ c .before .before .before .before .before .before .before .before .before .loop .inv .same-length
+
+returns : tie.Need-returns Inv-loop μ-loop
+returns c = enter-full (c .before .before .before .before .before .before .before .before .before .loop .inv) (c .before .before .before .before .pat-at .result) (c .before .before .before .deref-place .result) (c .before .before .before .before .before .before .before .before .before .before .before .before .pre .0) (c .before .before .before .before .before .before .before .before .before .before .before .before .pre .3) (c .before .before .before .before .pat-at .ensures) (c .before .before .before .before .before .before .before .visit .kept .0) (c .before .before .before .before .before .before .before .visit .ensures) (c .before .before .before .deref-place .ensures) (not-true _ (c .if1 .taken))
+
+passes-on-requires : tie.Need-passes-on-requires Inv-loop μ-loop
+passes-on-requires c κs = tt
+
+same-length-2 : tie.Need-same-length-2 Inv-loop μ-loop
+same-length-2 c = c .before .before .before .before .before .before .before .before .before .visit .kept .0 ∙ c .before .before .before .before .before .before .before .before .before .before .before .loop .inv .same-length
+
+returns-2 : tie.Need-returns-2 Inv-loop μ-loop
+returns-2 c = enter-at (c .before .before .before .before .before .before .before .before .before .before .before .loop .inv) (c .before .before .before .before .before .before .pat-at .result) (c .before .before .before .before .before .deref-place .result) (c .before .before .before .before .before .before .before .before .before .before .before .before .before .before .pre .0) (c .before .before .before .before .before .before .before .before .before .before .before .before .before .before .pre .3) (c .before .before .before .before .before .before .pat-at .ensures) (c .before .before .before .before .before .before .before .before .before .visit .kept .0) (c .before .before .before .before .before .before .before .before .before .visit .ensures) (c .before .before .before .before .before .deref-place .ensures) (not-false _ (c .before .before .if1 .left))
+
+loop-less : tie.Need-loop-less Inv-loop μ-loop
+loop-less c = descending-again (c .before .before .before .before .before .before .before .before .before .before .before .loop .inv) (c .before .before .before .before .before .before .pat-at .result) (c .before .before .before .before .before .deref-place .result) (c .before .before .before .before .before .before .before .before .before .before .before .before .before .before .pre .0) (c .before .before .before .before .before .before .before .before .before .before .before .before .before .before .pre .3) (c .before .before .before .before .before .before .pat-at .ensures) (c .before .before .before .before .before .before .before .before .before .visit .kept .0) (c .before .before .before .before .before .before .before .before .before .visit .ensures) (c .before .before .before .before .before .deref-place .ensures) (not-false _ (c .before .before .if1 .left)) (sym (c .before .passes-on .ensures) ∙ not-false _ (c .if2 .left)) .1
+
+loop-again : tie.Need-loop-again Inv-loop μ-loop
+loop-again c = descending-again (c .before .before .before .before .before .before .before .before .before .before .before .loop .inv) (c .before .before .before .before .before .before .pat-at .result) (c .before .before .before .before .before .deref-place .result) (c .before .before .before .before .before .before .before .before .before .before .before .before .before .before .pre .0) (c .before .before .before .before .before .before .before .before .before .before .before .before .before .before .pre .3) (c .before .before .before .before .before .before .pat-at .ensures) (c .before .before .before .before .before .before .before .before .before .visit .kept .0) (c .before .before .before .before .before .before .before .before .before .visit .ensures) (c .before .before .before .before .before .deref-place .ensures) (not-false _ (c .before .before .if1 .left)) (sym (c .before .passes-on .ensures) ∙ not-false _ (c .if2 .left)) .0
+
+pub enter-spec : {M : Type 1} → statement M
+enter-spec =
+    tie.close
+    (tie.spec
+    Inv-loop
+    μ-loop
+    loop-holds
+    visit-requires
+    pat-at-requires
+    deref-place-requires
+    same-length
+    returns
+    passes-on-requires
+    same-length-2
+    returns-2
+    loop-less
+    loop-again)
