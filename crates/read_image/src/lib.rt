@@ -1,11 +1,12 @@
 // Reads an image: every byte string is an image, whose tables' places are answered, or is refused.
 pub mod frame; // frame.rt: the bytes before the tables, and the limits
-mod tables_hold; // tables_hold.rt: the rows of each table
+mod patterns; // patterns.rt: the rows of patterns, and the numbers of their subpatterns
+mod tables_hold; // tables_hold.rt: the rows of types, variants and bindings
 
 use frame::read_frame;
 use image::Tables;
 use marks::adts_apart;
-use marks::uses_hold;
+use patterns::patterns_hold;
 use tables_hold::rows_hold;
 ghost use Rattle.read_image.specs.Read.{Reads};
 
@@ -28,7 +29,7 @@ pub fn read_image(image: &[u8]) -> Read
     if !adts_apart(image, tables) {
         return Read::Refused;
     }
-    if !uses_hold(image, tables) {
+    if !patterns_hold(image, tables) {
         return Read::Refused;
     }
     Read::Image(tables)

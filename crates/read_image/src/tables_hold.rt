@@ -1,8 +1,6 @@
-// The rules on single rows, over the rows of each table.
+// The rules on single rows, over the rows of the tables of types, variants and bindings.
 use image::BindingId;
-use image::PatId;
 use image::Tables;
-use pattern_rules::patterns::pattern_holds;
 use type_rules::binding_holds;
 use type_rules::type_holds;
 use type_rules::type_runs;
@@ -10,10 +8,9 @@ use type_rules::variant_holds;
 ghost use mathlib.Core.Path.{_≡_};
 ghost use mathlib.Core.Bool.{_&&_};
 ghost use Prim.Native.Nat.{_≤_};
-ghost use Rattle.image.specs.Tables.{Whole, typeCount, variantCount, patternCount, bindingCount, listCount};
+ghost use Rattle.image.specs.Tables.{Whole, typeCount, variantCount, bindingCount, listCount};
 ghost use Rattle.image.specs.Lists.{allBelow};
 ghost use Rattle.image.specs.Rules.{typeHolds, variantHolds, bindingHolds};
-ghost use Rattle.image.specs.Patterns.{patternHolds};
 ghost use Rattle.type_rules.specs.Runs.{Runs};
 ghost use Rattle.read_image.specs.Parts.{rowsHold};
 
@@ -40,21 +37,6 @@ fn variants_hold(image: &[u8], tables: Tables, runs: &[u16]) -> bool
     let mut i: u16 = 0;
     while i < count {
         if !variant_holds(image, tables, runs, i) {
-            return false;
-        }
-        i += 1;
-    }
-    true
-}
-
-fn patterns_hold(image: &[u8], tables: Tables) -> bool
-    requires { ⌜ Whole (now image) tables ⌝ }
-    ensures { λ r. ⌜ r ≡ allBelow (patternHolds (now (image .entry))) (patternCount (now (image .entry))) ⌝ }
-{
-    let count = tables.patterns.count;
-    let mut i: u16 = 0;
-    while i < count {
-        if !pattern_holds(image, tables, PatId(i)) {
             return false;
         }
         i += 1;
@@ -97,15 +79,12 @@ fn types_and_variants_hold(image: &[u8], tables: Tables) -> bool
     listed_rows_hold(image, tables, &runs)
 }
 
-// Every row of every table.
+// Every row of the three tables.
 pub fn rows_hold(image: &[u8], tables: Tables) -> bool
     requires { ⌜ Whole (now image) tables × (listCount (now image) ≤ 2048) ⌝ }
     ensures { λ r. ⌜ r ≡ rowsHold (now (image .entry)) ⌝ }
 {
     if !types_and_variants_hold(image, tables) {
-        return false;
-    }
-    if !patterns_hold(image, tables) {
         return false;
     }
     bindings_hold(image, tables)

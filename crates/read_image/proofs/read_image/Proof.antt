@@ -4,13 +4,13 @@ use Rattle.read_image.proofs.read_image.Tie as tie
 use Rattle.read_image.proofs.read_image.Reads as reads
 use Rattle.read_image.proofs.read_image.Lts as lts
 use Rattle.marks.proofs.adts_apart.Reads as adts-apart-reads
-use Rattle.marks.proofs.uses_hold.Reads as uses-hold-reads
 use Rattle.read_image.proofs.frame.read_frame.Reads as read-frame-reads
+use Rattle.read_image.proofs.patterns.patterns_hold.Reads as patterns-hold-reads
 use Rattle.read_image.proofs.tables_hold.rows_hold.Reads as rows-hold-reads
 use mathlib.Core.Path.{sym, _∙_}
 use borrow.Author.Tests.{not-true, not-false}
 use Rattle.read_image.proofs.Frames.{known, unknown}
-use Rattle.read_image.proofs.Reading.{no-frame, no-rows, shared-variant, misused, types-hold, patterns-hold, read}
+use Rattle.read_image.proofs.Reading.{no-frame, no-rows, shared-variant, no-patterns, types-hold, read}
 
 returns : tie.Need-returns
 returns c = no-frame _ (unknown _ (rw (c .enum-told .given .1) at (c .before .before .read-frame .ensures)))
@@ -31,18 +31,18 @@ adts-apart-requires c κs =
 returns-3 : tie.Need-returns-3
 returns-3 c = shared-variant _ (sym (c .before .adts-apart .ensures) ∙ not-true (c .before .adts-apart .result) (c .if2 .taken))
 
-uses-hold-requires : tie.Need-uses-hold-requires
-uses-hold-requires c κs =
+patterns-hold-requires : tie.Need-patterns-hold-requires
+patterns-hold-requires c κs =
     let frame = known _ _ (rw (c .before .before .before .before .before .tables .given .1) at (c .before .before .before .before .before .before .before .read-frame .ensures)) in
-    (frame .whole, frame .patterns, frame .list, patterns-hold _ (sym (c .before .before .before .rows-hold .ensures) ∙ not-false (c .before .before .before .rows-hold .result) (c .before .before .if1 .left)))
+    (frame .whole, frame .patterns, frame .list)
 
 returns-4 : tie.Need-returns-4
-returns-4 c = misused _ (sym (c .before .uses-hold .ensures) ∙ not-true (c .before .uses-hold .result) (c .if3 .taken))
+returns-4 c = no-patterns _ (sym (c .before .patterns-hold .ensures) ∙ not-true (c .before .patterns-hold .result) (c .if3 .taken))
 
 returns-5 : tie.Need-returns-5
 returns-5 c =
     let frame = known _ _ (rw (c .before .before .before .before .before .before .before .tables .given .1) at (c .before .before .before .before .before .before .before .before .before .read-frame .ensures)) in
-    read _ _ (frame .same) (frame .holds) (sym (c .before .before .before .before .before .rows-hold .ensures) ∙ not-false (c .before .before .before .before .before .rows-hold .result) (c .before .before .before .before .if1 .left)) (sym (c .before .before .before .adts-apart .ensures) ∙ not-false (c .before .before .before .adts-apart .result) (c .before .before .if2 .left)) (sym (c .before .uses-hold .ensures) ∙ not-false (c .before .uses-hold .result) (c .if3 .left))
+    read _ _ (frame .same) (frame .holds) (sym (c .before .before .before .before .before .rows-hold .ensures) ∙ not-false (c .before .before .before .before .before .rows-hold .result) (c .before .before .before .before .if1 .left)) (sym (c .before .before .before .adts-apart .ensures) ∙ not-false (c .before .before .before .adts-apart .result) (c .before .before .if2 .left)) (sym (c .before .patterns-hold .ensures) ∙ not-false (c .before .patterns-hold .result) (c .if3 .left))
 
 pub read-image-spec : {M : Type 1} → statement M
 read-image-spec =
@@ -56,6 +56,6 @@ read-image-spec =
     returns-2
     adts-apart-requires
     returns-3
-    uses-hold-requires
+    patterns-hold-requires
     returns-4
     returns-5)
