@@ -90,7 +90,7 @@ pub fn pattern_match_const(
 }
 
 // An operand of these kinds is a literal.
-fn is_literal(kind: OperandKind) -> bool
+pub fn is_literal(kind: OperandKind) -> bool
     ensures { λ r. ⌜ r ≡ isLiteral kind ⌝ }
 {
     match kind {

@@ -1,4 +1,5 @@
 // Variants, and the fields of variants and tuples.
+use super::idle::nothing_to_do;
 use super::pattern_match_inner;
 use super::pattern_matching_variant_fields;
 use image::PatId;
@@ -13,6 +14,7 @@ use pattern_matching::MatchingMode;
 use pattern_parts::adts::AdtAt;
 use pattern_parts::adts::adt_at;
 use pattern_parts::adts::place_ty;
+use pattern_parts::entering::visit;
 use pattern_rows::AdtPatternShape;
 use pattern_rows::ArgumentRow;
 use pattern_rows::argument_elem;
@@ -66,11 +68,16 @@ pub fn pattern_match_adt(
     let mut other = els;
     let mut i = 0u16;
     while i < count {
-        let onward = project(place, argument_elem(image, tables, row, from, fields, i));
-        if !onward.ok {
+        if 16 <= place.len {
             return Lowered::Refused(MirLowerError::Limit, p);
         }
         let q = argument_pat(image, tables, row, from, i);
+        if nothing_to_do(image, tables, mode, q) {
+            visit(visits, q);
+            i += 1;
+            continue;
+        }
+        let onward = project(place, argument_elem(image, tables, row, from, fields, i));
         match pattern_match_inner(
             image,
             tables,

@@ -56,23 +56,25 @@ pub fn enter(
     loop {
         visit(visits, q);
         let row = pat_at(image, tables, q);
-        let behind = deref_place(here, row.derefs);
-        let to = behind.place;
-        if !behind.ok {
-            return Entered {
-                ok: false,
-                p: q,
-                place: to,
-            };
+        if row.derefs != 0 {
+            let behind = deref_place(here, row.derefs);
+            let to = behind.place;
+            if !behind.ok {
+                return Entered {
+                    ok: false,
+                    p: q,
+                    place: to,
+                };
+            }
+            here = to;
         }
         if !passes_on(mode, row) {
             return Entered {
                 ok: true,
                 p: q,
-                place: to,
+                place: here,
             };
         }
         q = PatId(row.b);
-        here = to;
     }
 }

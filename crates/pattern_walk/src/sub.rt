@@ -1,5 +1,6 @@
 // Patterns that are more than their fields: Bind, Or, whose alternatives are tried from left to right, and Slice.
 use super::adt::pattern_match_adt;
+use super::idle::nothing_to_do;
 use super::pattern_match_inner;
 use image::BindingId;
 use image::PatId;
@@ -20,6 +21,7 @@ use pattern_leaves::modes::slice_test;
 use pattern_matching::MatchingMode;
 use pattern_matching::is_check;
 use pattern_parts::bindings::rest_bound;
+use pattern_parts::entering::visit;
 use pattern_rows::ArgumentRow;
 use place::Place;
 use refusals::MirLowerError;
@@ -154,6 +156,10 @@ pub fn alt(
         Lowered::Refused(e, at) => Lowered::Refused(e, at),
         Lowered::Done(c1, d1, then, other) => {
             if is_check(mode) {
+                return Lowered::Done(c1, d1, then, other);
+            }
+            if nothing_to_do(image, tables, mode, q) {
+                visit(visits, q);
                 return Lowered::Done(c1, d1, then, other);
             }
             match pattern_match_inner(

@@ -1,10 +1,12 @@
 -- `pattern_match_adt`: a law for each way through it, and the invariant of its loop. Assumes nothing.
-use mathlib.Core.Path.{_≡_, sym, ap, _∙_}
-use mathlib.Core.Bool.{true, false}
+use mathlib.Core.Path.{_≡_, refl, sym, ap, _∙_}
+use mathlib.Core.Bool.{true}
 use mathlib.Core.List.{List}
 use Prim.Native.Nat.{ℕ, _+_, _-_, _≤_, _<_}
+use borrow.Author.Tests.{lt-ltb, le-ltb}
 use lib.ListN.{length}
 use Rattle.refusals.specs.declared.MirLowerError.{MirLowerError}
+use Rattle.refusals.specs.Refusals.{ok as done, refused as stopped}
 use Rattle.image.specs.declared.PatId.{PatId}
 use Rattle.image.specs.declared.Tables.{Tables}
 use Rattle.image.specs.Tree.{tree}
@@ -12,7 +14,7 @@ use Rattle.place.specs.declared.Place.{Place}
 use Rattle.place.specs.declared.Projected.{Projected}
 use Rattle.place.specs.declared.elems.ProjectionElem.{ProjectionElem}
 use Rattle.place.specs.Elems.{Fits}
-use Rattle.place.specs.Places.{Projects}
+use Rattle.place.specs.Places.{onward, Projects}
 use Rattle.mir.specs.declared.BasicBlockId.{BasicBlockId}
 use Rattle.mir.specs.declared.Counts.{Counts}
 use Rattle.lower.specs.declared.temps.DiscrTemp.{DiscrTemp}
@@ -23,7 +25,6 @@ use Rattle.pattern_matching.specs.Patterns.{patternMatchInner}
 use Rattle.walks.specs.declared.Lowered.{Lowered}
 use Rattle.walks.specs.Answers.{Lent, Primed, Begins, Walks}
 use Rattle.walks.proofs.Sequences.{walks-by, walks-stops, walks-then}
-use Rattle.pattern_parts.proofs.Visiting.{project-stops, project-goes}
 use Rattle.pattern_rows.specs.declared.ArgumentRow.{ArgumentRow}
 use Rattle.pattern_rows.specs.Rows.{argumentElem, argumentPat}
 use Rattle.pattern_nodes.proofs.Nodes.{applied}
@@ -42,8 +43,8 @@ module _ (row : ArgumentRow) (image bindings : List ℕ) (p : PatId) (from field
     pub arguments-end : count ≤ i → Begins c here other → Walks (argumentsLeft i here other) c d here other t v (Lowered.Done c d here other) t v
     arguments-end h B = walks-skips (λ ctx. sym (applied (arguments-none row image bindings (p .0) from fields count i h) mode ctx here other place)) B
 
-    -- the argument i, which is the pattern q, on the place `on`
-    module _ (h : i < count) {elem : ProjectionElem} (on : Projected) (is : elem ≡ argumentElem row image from fields i) (P : Projects place elem on) where
+    -- the argument i, which is the pattern q, on the place `to`
+    module _ (h : i < count) {elem : ProjectionElem} (is : elem ≡ argumentElem row image from fields i) where
       -- it, and then the rest
       abbrev argument : Place → Ctx → Walk Out
       argument to ctx =
@@ -56,32 +57,46 @@ module _ (row : ArgumentRow) (image bindings : List ℕ) (p : PatId) (from field
           ∙ ap (λ (e : ProjectionElem). step (p .0) (project place e) (λ to. argument to ctx)) (sym is)
 
       -- there is no room for the element
-      pub argument-full : on .ok ≡ false → Walks (argumentsLeft i here other) c d here other t v (Lowered.Refused MirLowerError.Limit p) t v
-      argument-full e = looks-stops p (λ ctx. project place elem) argument argument-looks (λ scopes visits. project-stops place elem P e)
+      pub argument-full : stopped MirLowerError.Limit ≡ project place elem → Walks (argumentsLeft i here other) c d here other t v (Lowered.Refused MirLowerError.Limit p) t v
+      argument-full full = looks-stops p (λ ctx. project place elem) argument argument-looks (λ scopes visits. full)
 
-      module _ (e : on .ok ≡ true) (q : PatId) (names : q .0 ≡ argumentPat row image from i) where
-        argument-walks : {r : Lowered} {t₁ : Lent} {v₁ : List ℕ} → Walks (argument (on .place)) c d here other t v r t₁ v₁ → Walks (argumentsLeft i here other) c d here other t v r t₁ v₁
-        argument-walks W = looks-then p (λ ctx. project place elem) argument argument-looks (λ scopes visits. project-goes place elem P e) W
+      module _ {to : Place} (there : done to ≡ project place elem) (q : PatId) (names : q .0 ≡ argumentPat row image from i) where
+        argument-walks : {r : Lowered} {t₁ : Lent} {v₁ : List ℕ} → Walks (argument to) c d here other t v r t₁ v₁ → Walks (argumentsLeft i here other) c d here other t v r t₁ v₁
+        argument-walks W = looks-then p (λ ctx. project place elem) argument argument-looks (λ scopes visits. there) W
 
         -- its answer by the pattern's number
-        argument-named : {r : Lowered} {t₁ : Lent} {v₁ : List ℕ} → Walks (λ ctx. patternMatchInner image bindings (tree image (q .0)) mode ctx here other (on .place)) c d here other t v r t₁ v₁ →
-            Walks (λ ctx. patternMatchInner image bindings (tree image (argumentPat row image from i)) mode ctx here other (on .place)) c d here other t v r t₁ v₁
-        argument-named W = walks-by (λ ctx. ap (λ (n : ℕ). patternMatchInner image bindings (tree image n) mode ctx here other (on .place)) names) W
+        argument-named : {r : Lowered} {t₁ : Lent} {v₁ : List ℕ} → Walks (λ ctx. patternMatchInner image bindings (tree image (q .0)) mode ctx here other to) c d here other t v r t₁ v₁ →
+            Walks (λ ctx. patternMatchInner image bindings (tree image (argumentPat row image from i)) mode ctx here other to) c d here other t v r t₁ v₁
+        argument-named W = walks-by (λ ctx. ap (λ (n : ℕ). patternMatchInner image bindings (tree image n) mode ctx here other to) names) W
 
         -- it is refused
         pub argument-stops : {x : MirLowerError} {at : PatId} {t₁ : Lent} {v₁ : List ℕ} →
-            Walks (λ ctx. patternMatchInner image bindings (tree image (q .0)) mode ctx here other (on .place)) c d here other t v (Lowered.Refused x at) t₁ v₁ →
+            Walks (λ ctx. patternMatchInner image bindings (tree image (q .0)) mode ctx here other to) c d here other t v (Lowered.Refused x at) t₁ v₁ →
             Walks (argumentsLeft i here other) c d here other t v (Lowered.Refused x at) t₁ v₁
         argument-stops W =
             argument-walks (walks-stops (λ r. argumentsFrom row image bindings (p .0) from fields (i + 1) (count - (i + 1)) mode (r .ctx) (r .then) (r .else) place) (argument-named W))
 
         -- the rest behind it
         pub argument-goes : {c₁ : Counts} {d₁ : DiscrTemp} {then : BasicBlockId} {els : OptBlock} {t₁ : Lent} {v₁ : List ℕ} → Primed t c →
-            Walks (λ ctx. patternMatchInner image bindings (tree image (q .0)) mode ctx here other (on .place)) c d here other t v (Lowered.Done c₁ d₁ then els) t₁ v₁ →
+            Walks (λ ctx. patternMatchInner image bindings (tree image (q .0)) mode ctx here other to) c d here other t v (Lowered.Done c₁ d₁ then els) t₁ v₁ →
             {r : Lowered} {t₂ : Lent} {v₂ : List ℕ} → Walks (argumentsLeft (i + 1) then els) c₁ d₁ then els t₁ v₁ r t₂ v₂ →
             Walks (argumentsLeft i here other) c d here other t v r t₂ v₂
         argument-goes R W S =
             argument-walks (walks-then (argument-named W) R (λ r. argumentsFrom row image bindings (p .0) from fields (i + 1) (count - (i + 1)) mode (r .ctx) (r .then) (r .else) place) S)
+
+-- one element on: there is no room for it, or there is
+module _ (place : Place) (elem : ProjectionElem) where
+  pub no-room : 16 ≤ place .len → stopped MirLowerError.Limit ≡ project place elem
+  unfolding project
+  no-room h = rw (le-ltb (place .len) 16 h) refl
+
+  pub some-room : place .len < 16 → done (onward place elem) ≡ project place elem
+  unfolding project
+  some-room h = rw (lt-ltb (place .len) 16 h) refl
+
+  -- as it was projected
+  pub room-taken : {on : Projected} → Projects place elem on → place .len < 16 → on .ok ≡ true
+  room-taken P h = P .room ∙ lt-ltb (place .len) 16 h
 
 -- the element of an argument has a word
 pub argument-fits : (row : ArgumentRow) (image : List ℕ) (from fields i : ℕ) {elem : ProjectionElem} → elem ≡ argumentElem row image from fields i → Fits elem
@@ -112,11 +127,11 @@ arguments-begin row image tables bindings p from fields count mode place c d her
 module _ {row : ArgumentRow} {image : List ℕ} {tables : Tables} {bindings : List ℕ} {p : PatId} {from fields count : ℕ} {mode : MatchingMode} {place : Place} {c₀ : Counts} {d₀ : DiscrTemp} {b₀ : BasicBlockId} {e₀ : OptBlock} {t₀ : Lent} {v₀ : List ℕ}
     {c : Counts} {d : DiscrTemp} {here : BasicBlockId} {other : OptBlock} {t : Lent} {v : List ℕ} {i : ℕ}
     (G : ArgumentsGoing row image tables bindings p from fields count mode place c₀ d₀ b₀ e₀ t₀ v₀ c d here other t v i) where
-  pub arguments-again : (h : i < count) {elem : ProjectionElem} (on : Projected) → elem ≡ argumentElem row image from fields i → Projects place elem on → on .ok ≡ true →
+  pub arguments-again : (h : i < count) {elem : ProjectionElem} → elem ≡ argumentElem row image from fields i → {to : Place} → done to ≡ project place elem →
       (q : PatId) → q .0 ≡ argumentPat row image from i → {c₁ : Counts} {d₁ : DiscrTemp} {then : BasicBlockId} {els : OptBlock} {t₁ : Lent} {v₁ : List ℕ} → length v₁ ≡ length v →
-      Walks (λ ctx. patternMatchInner image bindings (tree image (q .0)) mode ctx here other (on .place)) c d here other t v (Lowered.Done c₁ d₁ then els) t₁ v₁ →
+      Walks (λ ctx. patternMatchInner image bindings (tree image (q .0)) mode ctx here other to) c d here other t v (Lowered.Done c₁ d₁ then els) t₁ v₁ →
       ArgumentsGoing row image tables bindings p from fields count mode place c₀ d₀ b₀ e₀ t₀ v₀ c₁ d₁ then els t₁ v₁ (i + 1)
-  arguments-again h on is P e q names same W = record {
+  arguments-again h is there q names same W = record {
     walkable = walkable-after (G .walkable) same W;
-    rest = λ S. G .rest (argument-goes row image bindings p from fields count mode place i c d here other t v h on is P e q names (G .walkable .primed) W S);
+    rest = λ S. G .rest (argument-goes row image bindings p from fields count mode place i c d here other t v h is there q names (G .walkable .primed) W S);
   }

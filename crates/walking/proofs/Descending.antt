@@ -38,7 +38,7 @@ use Rattle.pattern_nodes.proofs.Nodes.{applied, leaf-by-kind}
 use Rattle.pattern_nodes.proofs.Each.{subpattern-there}
 use Rattle.pattern_nodes.proofs.There.{bind-there}
 use Rattle.walking.specs.Walk.{Inner, passesOn, Enters}
-use Rattle.walking.proofs.Entering.{derefs-reached, inner-stops, inner-goes}
+use Rattle.walking.proofs.Entering.{derefs-done, derefs-reached, inner-stops, inner-goes}
 
 -- a kind that is Bind
 bind-is : (k : PatKind) → isBind k ≡ true → k ≡ PatKind.Bind
@@ -176,6 +176,15 @@ module _ {image : List ℕ} {mode : MatchingMode} {p : PatId} {place : Place} {v
           },
           falls,
         )
+
+-- the place behind derefs, and behind none
+module _ (here : Place) (n : ℕ) {to : Place} where
+  pub behind-derefs : (b : Projected) → projectedResult b ≡ derefsOf here n → b .ok ≡ true → to ≡ b .place → projectedResult (record { ok = true; place = to }) ≡ derefsOf here n
+  behind-derefs b is e same = ap (λ (q : Place). projectedResult (record { ok = true; place = q })) same ∙ derefs-done here n b is e
+
+  pub behind-none : n ≡ 0 → to ≡ here → projectedResult (record { ok = true; place = to }) ≡ derefsOf here n
+  unfolding derefsOf
+  behind-none e same = rw (e, same) refl
 
 -- a pattern that was entered
 module _ {image : List ℕ} {mode : MatchingMode} {p : PatId} {place : Place} {v : List ℕ} {room : Bool} {q : PatId} {to : Place} {v₁ : List ℕ} (E : Enters image mode p place v room q to v₁) where

@@ -51,7 +51,7 @@ use Rattle.walking.proofs.Looking.{looks-stops, looks-then, place-ty-no
 derefs-full : (place : Place) (n : ℕ) (b : Projected) → projectedResult b ≡ derefsOf place n → b .ok ≡ false → stopped MirLowerError.Limit ≡ derefsOf place n
 derefs-full place n b is e = ap (λ (t : Bool). cond t (done (b .place)) (stopped MirLowerError.Limit)) (sym e) ∙ is
 
-derefs-done : (place : Place) (n : ℕ) (b : Projected) → projectedResult b ≡ derefsOf place n → b .ok ≡ true → done (b .place) ≡ derefsOf place n
+pub derefs-done : (place : Place) (n : ℕ) (b : Projected) → projectedResult b ≡ derefsOf place n → b .ok ≡ true → done (b .place) ≡ derefsOf place n
 derefs-done place n b is e = ap (λ (t : Bool). cond t (done (b .place)) (stopped MirLowerError.Limit)) (sym e) ∙ is
 
 pub derefs-reached : (place : Place) (n : ℕ) (b : Projected) → projectedResult b ≡ derefsOf place n → b .ok ≡ true → Reached place (b .place)

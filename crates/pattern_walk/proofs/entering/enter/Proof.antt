@@ -6,11 +6,13 @@ use Rattle.image.proofs.rows.pat_at.Reads as pat-at-reads
 use Rattle.pattern_parts.proofs.entering.deref_place.Reads as deref-place-reads
 use Rattle.pattern_parts.proofs.entering.visit.Reads as visit-reads
 use Rattle.pattern_walk.proofs.entering.passes_on.Reads as passes-on-reads
-use mathlib.Core.Path.{sym, _∙_}
+use mathlib.Core.Path.{refl, sym, _∙_}
+use mathlib.Core.Bool.{true}
+use mathlib.Core.Logic.{⊎-elim}
 use native.Mathlib.Omega.{arith}
 use borrow.Author.Tests.{not-true, not-false}
 use Rattle.pattern_nodes.proofs.Known.{limits}
-use Rattle.walking.proofs.Descending.{Descending, descending-begin, enter-full, enter-at, descending-again}
+use Rattle.walking.proofs.Descending.{Descending, descending-begin, enter-full, enter-at, descending-again, behind-derefs, behind-none}
 
 abbrev Inv-loop : tie.InvT-loop
 Inv-loop image tables visits₀ mode q₀ here₀ visits q here = Descending image mode q₀ here₀ visits₀ q here visits
@@ -31,25 +33,33 @@ deref-place-requires : tie.Need-deref-place-requires Inv-loop μ-loop
 deref-place-requires c κs = tt
 
 same-length : tie.Need-same-length Inv-loop μ-loop
-same-length c = c .before .before .before .before .before .before .before .visit .kept .0 ∙ c .before .before .before .before .before .before .before .before .before .loop .inv .same-length
+same-length c = c .before .before .before .before .before .before .before .before .before .visit .kept .0 ∙ c .before .before .before .before .before .before .before .before .before .before .before .loop .inv .same-length
 
 returns : tie.Need-returns Inv-loop μ-loop
-returns c = enter-full (c .before .before .before .before .before .before .before .before .before .loop .inv) (c .before .before .before .before .pat-at .result) (c .before .before .before .deref-place .result) (c .before .before .before .before .before .before .before .before .before .before .before .before .pre .0) (c .before .before .before .before .before .before .before .before .before .before .before .before .pre .3) (c .before .before .before .before .pat-at .ensures) (c .before .before .before .before .before .before .before .visit .kept .0) (c .before .before .before .before .before .before .before .visit .ensures) (c .before .before .before .deref-place .ensures) (not-true _ (c .if1 .taken))
+returns c = enter-full (c .before .before .before .before .before .before .before .before .before .before .before .loop .inv) (c .before .before .before .before .before .before .pat-at .result) (c .before .before .before .deref-place .result) (c .before .before .before .before .before .before .before .before .before .before .before .before .before .before .pre .0) (c .before .before .before .before .before .before .before .before .before .before .before .before .before .before .pre .3) (c .before .before .before .before .before .before .pat-at .ensures) (c .before .before .before .before .before .before .before .before .before .visit .kept .0) (c .before .before .before .before .before .before .before .before .before .visit .ensures) (c .before .before .before .deref-place .ensures) (not-true _ (c .if2 .taken))
 
 passes-on-requires : tie.Need-passes-on-requires Inv-loop μ-loop
 passes-on-requires c κs = tt
 
 same-length-2 : tie.Need-same-length-2 Inv-loop μ-loop
-same-length-2 c = c .before .before .before .before .before .before .before .before .before .visit .kept .0 ∙ c .before .before .before .before .before .before .before .before .before .before .before .loop .inv .same-length
+same-length-2 c = c .before .before .before .before .before .before .before .visit .kept .0 ∙ c .before .before .before .before .before .before .before .before .before .loop .inv .same-length
 
 returns-2 : tie.Need-returns-2 Inv-loop μ-loop
-returns-2 c = enter-at (c .before .before .before .before .before .before .before .before .before .before .before .loop .inv) (c .before .before .before .before .before .before .pat-at .result) (c .before .before .before .before .before .deref-place .result) (c .before .before .before .before .before .before .before .before .before .before .before .before .before .before .pre .0) (c .before .before .before .before .before .before .before .before .before .before .before .before .before .before .pre .3) (c .before .before .before .before .before .before .pat-at .ensures) (c .before .before .before .before .before .before .before .before .before .visit .kept .0) (c .before .before .before .before .before .before .before .before .before .visit .ensures) (c .before .before .before .before .before .deref-place .ensures) (not-false _ (c .before .before .if1 .left))
+returns-2 c =
+    enter-at (c .before .before .before .before .before .before .before .before .before .loop .inv) (c .before .before .before .before .pat-at .result) (record { ok = true; place = c .before .before .if1 .here }) (c .before .before .before .before .before .before .before .before .before .before .before .before .pre .0) (c .before .before .before .before .before .before .before .before .before .before .before .before .pre .3) (c .before .before .before .before .pat-at .ensures) (c .before .before .before .before .before .before .before .visit .kept .0) (c .before .before .before .before .before .before .before .visit .ensures)
+    (⊎-elim (λ w. behind-derefs (c .before .before .before .before .before .before .before .before .before .loop .here) (c .before .before .before .before .pat-at .result .derefs) (w .1 .result) (w .1 .ensures) (not-false _ (w .4 .left)) (w .5)) (λ w. behind-none (c .before .before .before .before .before .before .before .before .before .loop .here) (c .before .before .before .before .pat-at .result .derefs) (w .0 .left) (w .1)) (c .before .before .if1 .came)) refl
 
 loop-less : tie.Need-loop-less Inv-loop μ-loop
-loop-less c = descending-again (c .before .before .before .before .before .before .before .before .before .before .before .loop .inv) (c .before .before .before .before .before .before .pat-at .result) (c .before .before .before .before .before .deref-place .result) (c .before .before .before .before .before .before .before .before .before .before .before .before .before .before .pre .0) (c .before .before .before .before .before .before .before .before .before .before .before .before .before .before .pre .3) (c .before .before .before .before .before .before .pat-at .ensures) (c .before .before .before .before .before .before .before .before .before .visit .kept .0) (c .before .before .before .before .before .before .before .before .before .visit .ensures) (c .before .before .before .before .before .deref-place .ensures) (not-false _ (c .before .before .if1 .left)) (sym (c .before .passes-on .ensures) ∙ not-false _ (c .if2 .left)) .1
+loop-less c =
+    descending-again (c .before .before .before .before .before .before .before .before .before .loop .inv) (c .before .before .before .before .pat-at .result) (record { ok = true; place = c .before .before .if1 .here }) (c .before .before .before .before .before .before .before .before .before .before .before .before .pre .0) (c .before .before .before .before .before .before .before .before .before .before .before .before .pre .3) (c .before .before .before .before .pat-at .ensures) (c .before .before .before .before .before .before .before .visit .kept .0) (c .before .before .before .before .before .before .before .visit .ensures)
+    (⊎-elim (λ w. behind-derefs (c .before .before .before .before .before .before .before .before .before .loop .here) (c .before .before .before .before .pat-at .result .derefs) (w .1 .result) (w .1 .ensures) (not-false _ (w .4 .left)) (w .5)) (λ w. behind-none (c .before .before .before .before .before .before .before .before .before .loop .here) (c .before .before .before .before .pat-at .result .derefs) (w .0 .left) (w .1)) (c .before .before .if1 .came)) refl
+    (sym (c .before .passes-on .ensures) ∙ not-false _ (c .if3 .left)) .1
 
 loop-again : tie.Need-loop-again Inv-loop μ-loop
-loop-again c = descending-again (c .before .before .before .before .before .before .before .before .before .before .before .loop .inv) (c .before .before .before .before .before .before .pat-at .result) (c .before .before .before .before .before .deref-place .result) (c .before .before .before .before .before .before .before .before .before .before .before .before .before .before .pre .0) (c .before .before .before .before .before .before .before .before .before .before .before .before .before .before .pre .3) (c .before .before .before .before .before .before .pat-at .ensures) (c .before .before .before .before .before .before .before .before .before .visit .kept .0) (c .before .before .before .before .before .before .before .before .before .visit .ensures) (c .before .before .before .before .before .deref-place .ensures) (not-false _ (c .before .before .if1 .left)) (sym (c .before .passes-on .ensures) ∙ not-false _ (c .if2 .left)) .0
+loop-again c =
+    descending-again (c .before .before .before .before .before .before .before .before .before .loop .inv) (c .before .before .before .before .pat-at .result) (record { ok = true; place = c .before .before .if1 .here }) (c .before .before .before .before .before .before .before .before .before .before .before .before .pre .0) (c .before .before .before .before .before .before .before .before .before .before .before .before .pre .3) (c .before .before .before .before .pat-at .ensures) (c .before .before .before .before .before .before .before .visit .kept .0) (c .before .before .before .before .before .before .before .visit .ensures)
+    (⊎-elim (λ w. behind-derefs (c .before .before .before .before .before .before .before .before .before .loop .here) (c .before .before .before .before .pat-at .result .derefs) (w .1 .result) (w .1 .ensures) (not-false _ (w .4 .left)) (w .5)) (λ w. behind-none (c .before .before .before .before .before .before .before .before .before .loop .here) (c .before .before .before .before .pat-at .result .derefs) (w .0 .left) (w .1)) (c .before .before .if1 .came)) refl
+    (sym (c .before .passes-on .ensures) ∙ not-false _ (c .if3 .left)) .0
 
 pub enter-spec : {M : Type 1} → statement M
 enter-spec =
