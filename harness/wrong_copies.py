@@ -32,6 +32,8 @@ REFUSED = (
     "pattern_leaves/an_arrays_length_tested",
     "pattern_rows/suffix_item_from_the_front",
     "pattern_walk/an_alternative_after_a_sure_one",
+    "pattern_walk/a_binding_passed_beyond_check",
+    "pattern_walk/a_range_not_tested",
     "image_text/reason_of_a_type_error_lost",
     "listing_start/bindings_from_local_two",
     "listing_start/type_zero_not_tried",
@@ -40,6 +42,7 @@ REFUSED = (
     "lower/str_for_slice",
     "mir/next_block_terminated",
     "read_image/one_pattern_more",
+    "read_image/first_pattern_not_looked_at",
     "marks/second_use",
     "pattern_rules/char_that_is_no_scalar_value",
 )
