@@ -13,7 +13,6 @@ use image::PatId;
 use image::Tables;
 use image::kinds::pat_kind;
 use image::kinds::path_kind;
-use image::rows::PatRow;
 use image::rows::pat_at;
 use lower::merging::OptBlock;
 use lower::temps::DiscrTemp;
@@ -42,19 +41,13 @@ use sub::alts;
 use sub::bound;
 use sub::slice;
 use walks::Lowered;
-ghost use mathlib.Core.Path.{_≡_};
 ghost use Prim.Native.Nat.{_<_};
-ghost use mathlib.Core.Bool.{false};
 ghost use Rattle.image.specs.Tables.{patternCount};
-ghost use Rattle.image.specs.Kinds.{patKind, pathKind};
-ghost use Rattle.image.specs.Rows.{patAt};
 ghost use Rattle.image.specs.Tree.{tree};
 ghost use Rattle.pattern_matching.specs.Variants.{variantFields};
 ghost use Rattle.pattern_matching.specs.Patterns.{patternMatchInner};
-ghost use Rattle.pattern_nodes.specs.Leaves.{isLeaf};
 ghost use Rattle.walks.specs.Answers.{lent, Walks};
 ghost use Rattle.pattern_nodes.specs.Arguments.{shapeOf, ShapeThere};
-ghost use Rattle.pattern_nodes.specs.Nodes.{kindPattern};
 ghost use Rattle.walking.specs.Walk.{Walkable};
 
 // The pattern p: it is entered, and lowered by the kind of the pattern at which the walk then is.
@@ -105,56 +98,13 @@ pub fn pattern_match_inner(
             here,
         );
     }
-    kind(
-        image,
-        tables,
-        bindings,
-        blocks,
-        statements,
-        locals,
-        entries,
-        visits,
-        counts,
-        discr,
-        mode,
-        q,
-        row,
-        current,
-        els,
-        here,
-    )
-}
-
-// A pattern that has subpatterns or names a variant, at a place behind its derefs: p, whose row is given.
-pub fn kind(
-    image: &[u8],
-    tables: Tables,
-    bindings: &[u16],
-    blocks: &mut [u16],
-    statements: &mut [u16],
-    locals: &mut [u16],
-    entries: &mut [u16],
-    visits: &mut [u16],
-    counts: Counts,
-    discr: DiscrTemp,
-    mode: MatchingMode,
-    p: PatId,
-    row: PatRow,
-    current: BasicBlockId,
-    els: OptBlock,
-    place: Place,
-) -> Lowered
-    requires { ⌜ Walkable (now image) tables (now bindings) (lent (now blocks) (now statements) (now locals) (now entries)) (now visits) counts current els place ⌝ }
-    requires { ⌜ (p .0 < patternCount (now image)) × (row ≡ patAt (now image) (p .0)) × (isLeaf (patKind (row .kind)) (pathKind (row .a)) ≡ false) ⌝ }
-    ensures { λ r. ⌜ Walks (λ ctx. kindPattern (patKind (row .kind)) (now (image .entry)) (now (bindings .entry)) (p .0) row mode ctx current els place) counts discr current els (lent (now (blocks .entry)) (now (statements .entry)) (now (locals .entry)) (now (entries .entry))) (now (visits .entry)) r (lent (now (blocks .exit)) (now (statements .exit)) (now (locals .exit)) (now (entries .exit))) (now (visits .exit)) ⌝ }
-{
     match compound_kind(pat_kind(row.kind)) {
         CompoundKind::Tuple => match tuple_at(
             image,
             tables,
-            place_ty(image, tables, locals, place),
+            place_ty(image, tables, locals, here),
         ) {
-            TupleAt::Refused(e) => Lowered::Refused(e, p),
+            TupleAt::Refused(e) => Lowered::Refused(e, q),
             TupleAt::Fields(fields) => pattern_match_tuple_like(
                 image,
                 tables,
@@ -167,14 +117,14 @@ pub fn kind(
                 counts,
                 discr,
                 mode,
-                p,
+                q,
                 row.a,
                 row.b,
                 row.c,
                 fields,
                 current,
                 els,
-                place,
+                here,
             ),
         },
         CompoundKind::Or => alts(
@@ -189,12 +139,12 @@ pub fn kind(
             counts,
             discr,
             mode,
-            p,
+            q,
             row.a,
             row.b,
             current,
             els,
-            place,
+            here,
         ),
         CompoundKind::Slice => slice(
             image,
@@ -208,11 +158,11 @@ pub fn kind(
             counts,
             discr,
             mode,
-            p,
+            q,
             row,
             current,
             els,
-            place,
+            here,
         ),
         CompoundKind::Bind => bound(
             image,
@@ -226,22 +176,22 @@ pub fn kind(
             counts,
             discr,
             mode,
-            p,
+            q,
             row,
             current,
             els,
-            place,
+            here,
         ),
         CompoundKind::Ref => match reference_at(
             image,
             tables,
-            place_ty(image, tables, locals, place),
+            place_ty(image, tables, locals, here),
         ) {
-            ReferenceAt::Refused(e) => Lowered::Refused(e, p),
+            ReferenceAt::Refused(e) => Lowered::Refused(e, q),
             ReferenceAt::Reference => {
-                let referent = project(place, ProjectionElem::Deref);
+                let referent = project(here, ProjectionElem::Deref);
                 if !referent.ok {
-                    return Lowered::Refused(MirLowerError::Limit, p);
+                    return Lowered::Refused(MirLowerError::Limit, q);
                 }
                 pattern_match_inner(
                     image,
@@ -265,7 +215,7 @@ pub fn kind(
         CompoundKind::Variant => {
             let v = variant_word(row);
             if v == 65535 {
-                return Lowered::Refused(MirLowerError::NotSupported, p);
+                return Lowered::Refused(MirLowerError::NotSupported, q);
             }
             pattern_matching_variant(
                 image,
@@ -279,12 +229,12 @@ pub fn kind(
                 counts,
                 discr,
                 mode,
-                p,
+                q,
                 v,
                 variant_shape(row),
                 current,
                 els,
-                place,
+                here,
             )
         }
     }

@@ -9,6 +9,7 @@ use lib.Dec.{eqb}
 use lib.ListN.{length}
 use Rattle.refusals.specs.declared.MirLowerError.{MirLowerError}
 use Rattle.image.specs.declared.PatId.{PatId}
+use Rattle.image.specs.declared.Tables.{Tables}
 use Rattle.image.specs.declared.kinds.PatKind.{PatKind}
 use Rattle.image.specs.declared.rows.PatRow.{PatRow}
 use Rattle.image.specs.Tables.{patternCount}
@@ -37,7 +38,8 @@ use Rattle.pattern_nodes.specs.Nodes.{kindPattern}
 use Rattle.pattern_nodes.proofs.Nodes.{applied, leaf-by-kind}
 use Rattle.pattern_nodes.proofs.Each.{subpattern-there}
 use Rattle.pattern_nodes.proofs.There.{bind-there}
-use Rattle.walking.specs.Walk.{Inner, passesOn, Enters}
+use Rattle.walking.specs.Walk.{Walkable, Inner, passesOn, Enters}
+use Rattle.walking.proofs.Asking.{walkable-at, walkable-visited}
 use Rattle.walking.proofs.Entering.{derefs-done, derefs-reached, inner-stops, inner-goes}
 
 -- a kind that is Bind
@@ -193,8 +195,13 @@ module _ {image : List ℕ} {mode : MatchingMode} {p : PatId} {place : Place} {v
   entered-there h = omega (arith, E .below)
 
   module _ (e : room ≡ true) where
-    pub entered-reaches : Reached place to
+    entered-reaches : Reached place to
     entered-reaches = record { local = E .root e .0; within = E .root e .1 }
+
+    -- where the walk may go on
+    pub entered-walkable : {tables : Tables} {bindings : List ℕ} {t : Lent} {c : Counts} {current : BasicBlockId} {els : OptBlock} → Walkable image tables bindings t v c current els place →
+        Walkable image tables bindings t v₁ c current els to
+    entered-walkable W = walkable-at (walkable-visited W (E .same-length)) entered-reaches
 
     -- it has no subpattern
     pub entered-leaf : (row : PatRow) → row ≡ patAt image (q .0) → (bindings : List ℕ) (c : Counts) (discr : DiscrTemp) (current : BasicBlockId) (els : OptBlock) (t : Lent) {r : Lowered} {t₂ : Lent} →

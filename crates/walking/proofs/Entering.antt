@@ -1,4 +1,4 @@
--- `pattern_match_inner` and `kind`: a law for each way through them. Assumes nothing.
+-- `pattern_match_inner`: a law for each way through it, before its kind is looked at and by its kind. Assumes nothing.
 use mathlib.Core.Path.{_≡_, sym, ap, _∙_}
 use mathlib.Core.Bool.{Bool, true, false, cond}
 use mathlib.Core.List.{List}
@@ -74,7 +74,7 @@ module _ (image bindings : List ℕ) (p : PatId) (row : PatRow) (mode : Matching
       walks-by (λ ctx. sym (applied (by-read-row image bindings (p .0) row good h same) mode ctx current els place))
       (enter-goes p (row .derefs) (kindPattern (patKind (row .kind)) image bindings (p .0) row) mode c discr current els place t v (derefs-done place (row .derefs) b is e) (rw seen at W))
 
--- `kind`
+-- by its kind
 module _ (image bindings : List ℕ) (p : PatId) (row : PatRow) (mode : MatchingMode) (c : Counts) (discr : DiscrTemp) (current : BasicBlockId) (els : OptBlock) (place : Place) (t : Lent) (v : List ℕ) where
   -- what it promises
   abbrev Kind : Lowered → Lent → List ℕ → Type 0

@@ -1,11 +1,11 @@
 -- `pattern_matching_variant_fields`: what its contract needs is answered. Assumes nothing.
 use Prim.Native.Nat.{ℕ}
 use Rattle.pattern_walk.proofs.pattern_matching_variant_fields.Reads as pattern-matching-variant-fields
-use Rattle.pattern_walk.proofs.+adt-pattern_match_adt+adt-pattern_match_tuple_like+adt-pattern_matching_variant+kind+pattern_match_inner+pattern_matching_variant_fields+sub-alt+sub-alts+sub-bound+sub-slice.Lts-pattern_matching_variant_fields as lts
+use Rattle.pattern_walk.proofs.+adt-pattern_match_adt+adt-pattern_match_tuple_like+adt-pattern_matching_variant+pattern_match_inner+pattern_matching_variant_fields+sub-alt+sub-alts+sub-bound+sub-slice.Lts-pattern_matching_variant_fields as lts
 use Rattle.pattern_walk.proofs.adt.pattern_match_tuple_like.Reads as adt·pattern-match-tuple-like
 use Rattle.pattern_parts.proofs.adts.fields_there.Reads as fields-there-reads
 use Rattle.pattern_walk.proofs.adt.pattern_match_adt.Reads as adt·pattern-match-adt
-use Rattle.pattern_walk.proofs.+adt-pattern_match_adt+adt-pattern_match_tuple_like+adt-pattern_matching_variant+kind+pattern_match_inner+pattern_matching_variant_fields+sub-alt+sub-alts+sub-bound+sub-slice.Proof.Measures.{pattern-matching-variant-fields-at, adt·pattern-match-tuple-like-below, adt·pattern-match-adt-below}
+use Rattle.pattern_walk.proofs.+adt-pattern_match_adt+adt-pattern_match_tuple_like+adt-pattern_matching_variant+pattern_match_inner+pattern_matching_variant_fields+sub-alt+sub-alts+sub-bound+sub-slice.Proof.Measures.{pattern-matching-variant-fields-at, adt·pattern-match-tuple-like-below, adt·pattern-match-adt-below}
 use mathlib.Core.Path.{sym, _∙_}
 use native.Mathlib.Omega.{arith}
 use borrow.Author.Needs.{needs}

@@ -8,8 +8,6 @@ use Rattle.pattern_walk.proofs.adt.pattern_match_tuple_like.Reads as ad
 use Rattle.pattern_walk.proofs.adt.pattern_match_tuple_like.Kinds as adt·pattern-match-tuple-like-kinds
 use Rattle.pattern_walk.proofs.adt.pattern_matching_variant.Reads as adt·pattern-matching-variant
 use Rattle.pattern_walk.proofs.adt.pattern_matching_variant.Kinds as adt·pattern-matching-variant-kinds
-use Rattle.pattern_walk.proofs.kind.Reads as kind
-use Rattle.pattern_walk.proofs.kind.Kinds as kind-kinds
 use Rattle.pattern_walk.proofs.pattern_match_inner.Reads as pattern-match-inner
 use Rattle.pattern_walk.proofs.pattern_match_inner.Kinds as pattern-match-inner-kinds
 use Rattle.pattern_walk.proofs.pattern_matching_variant_fields.Reads as pattern-matching-variant-fields
@@ -31,9 +29,6 @@ abbrev pub μ-adt·pattern-match-tuple-like : Measures 7 adt·pattern-match-tupl
 
 abbrev pub μ-adt·pattern-matching-variant : Measures 7 adt·pattern-matching-variant-kinds.ps ℕ
 μ-adt·pattern-matching-variant κs a = 16 * (a .1 .1 .1 .1 .1 .1 .1 .1 .1 .1 .1 .0 .0) + 4
-
-abbrev pub μ-kind : Measures 7 kind-kinds.ps ℕ
-μ-kind κs a = 16 * (a .1 .1 .1 .1 .1 .1 .1 .1 .1 .1 .1 .0 .0) + 5
 
 abbrev pub μ-pattern-match-inner : Measures 7 pattern-match-inner-kinds.ps ℕ
 μ-pattern-match-inner κs a = 16 * (a .1 .1 .1 .1 .1 .1 .1 .1 .1 .1 .1 .0 .0) + 6
@@ -70,12 +65,6 @@ adt·pattern-matching-variant-at t = and 7 adt·pattern-matching-variant-kinds.p
 
 abbrev pub adt·pattern-matching-variant-below : ℕ → In 7 adt·pattern-matching-variant-kinds.ps
 adt·pattern-matching-variant-below t = and 7 adt·pattern-matching-variant-kinds.ps (falls 7 adt·pattern-matching-variant-kinds.ps _<_ μ-adt·pattern-matching-variant t) adt·pattern-matching-variant.Pre
-
-abbrev pub kind-at : ℕ → In 7 kind-kinds.ps
-kind-at t = and 7 kind-kinds.ps (is 7 kind-kinds.ps μ-kind t) kind.Pre
-
-abbrev pub kind-below : ℕ → In 7 kind-kinds.ps
-kind-below t = and 7 kind-kinds.ps (falls 7 kind-kinds.ps _<_ μ-kind t) kind.Pre
 
 abbrev pub pattern-match-inner-at : ℕ → In 7 pattern-match-inner-kinds.ps
 pattern-match-inner-at t = and 7 pattern-match-inner-kinds.ps (is 7 pattern-match-inner-kinds.ps μ-pattern-match-inner t) pattern-match-inner.Pre

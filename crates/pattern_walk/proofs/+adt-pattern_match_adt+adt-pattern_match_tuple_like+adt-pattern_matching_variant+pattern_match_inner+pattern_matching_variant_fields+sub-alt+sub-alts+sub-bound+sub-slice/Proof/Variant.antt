@@ -1,14 +1,14 @@
 -- `pattern_matching_variant`: what its contract needs is answered. Assumes nothing.
 use Prim.Native.Nat.{ℕ}
 use Rattle.pattern_walk.proofs.adt.pattern_matching_variant.Reads as adt·pattern-matching-variant
-use Rattle.pattern_walk.proofs.+adt-pattern_match_adt+adt-pattern_match_tuple_like+adt-pattern_matching_variant+kind+pattern_match_inner+pattern_matching_variant_fields+sub-alt+sub-alts+sub-bound+sub-slice.Lts-adt-pattern_matching_variant as lts
+use Rattle.pattern_walk.proofs.+adt-pattern_match_adt+adt-pattern_match_tuple_like+adt-pattern_matching_variant+pattern_match_inner+pattern_matching_variant_fields+sub-alt+sub-alts+sub-bound+sub-slice.Lts-adt-pattern_matching_variant as lts
 use Rattle.image.proofs.rows.variant_at.Reads as variant-at-reads
 use Rattle.pattern_parts.proofs.adts.place_ty.Reads as place-ty-reads
 use Rattle.pattern_parts.proofs.adts.adt_at.Reads as adt-at-reads
 use Rattle.pattern_walk.proofs.pattern_matching_variant_fields.Reads as pattern-matching-variant-fields
 use Rattle.pattern_leaves.proofs.modes.enum_test.Reads as enum-test-reads
 use Rattle.place.proofs.project.Reads as project-reads
-use Rattle.pattern_walk.proofs.+adt-pattern_match_adt+adt-pattern_match_tuple_like+adt-pattern_matching_variant+kind+pattern_match_inner+pattern_matching_variant_fields+sub-alt+sub-alts+sub-bound+sub-slice.Proof.Measures.{adt·pattern-matching-variant-at, pattern-matching-variant-fields-below}
+use Rattle.pattern_walk.proofs.+adt-pattern_match_adt+adt-pattern_match_tuple_like+adt-pattern_matching_variant+pattern_match_inner+pattern_matching_variant_fields+sub-alt+sub-alts+sub-bound+sub-slice.Proof.Measures.{adt·pattern-matching-variant-at, pattern-matching-variant-fields-below}
 use mathlib.Core.Path.{refl, ap, _∙_}
 use native.Mathlib.Omega.{arith}
 use borrow.Author.Needs.{needs}

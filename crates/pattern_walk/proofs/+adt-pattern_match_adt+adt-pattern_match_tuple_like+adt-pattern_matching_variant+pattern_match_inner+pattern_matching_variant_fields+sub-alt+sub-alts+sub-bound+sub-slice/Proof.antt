@@ -3,7 +3,6 @@ mod Measures
 mod Arguments
 mod TupleLike
 mod Variant
-mod Kind
 mod Inner
 mod VariantFields
 mod Alternative
@@ -11,43 +10,40 @@ mod Alternatives
 mod Bind
 mod Slice
 use Prim.Native.Nat.{ℕ}
-use Rattle.pattern_walk.proofs.+adt-pattern_match_adt+adt-pattern_match_tuple_like+adt-pattern_matching_variant+kind+pattern_match_inner+pattern_matching_variant_fields+sub-alt+sub-alts+sub-bound+sub-slice.Proof.Measures.{μ-adt·pattern-match-adt, μ-adt·pattern-match-tuple-like, μ-adt·pattern-matching-variant, μ-kind, μ-pattern-match-inner, μ-pattern-matching-variant-fields, μ-sub·alt, μ-sub·alts, μ-sub·bound, μ-sub·slice, adt·pattern-match-adt-at, adt·pattern-match-tuple-like-at, adt·pattern-matching-variant-at, kind-at, pattern-match-inner-at, pattern-matching-variant-fields-at, sub·alt-at, sub·alts-at, sub·bound-at, sub·slice-at}
+use Rattle.pattern_walk.proofs.+adt-pattern_match_adt+adt-pattern_match_tuple_like+adt-pattern_matching_variant+pattern_match_inner+pattern_matching_variant_fields+sub-alt+sub-alts+sub-bound+sub-slice.Proof.Measures.{μ-adt·pattern-match-adt, μ-adt·pattern-match-tuple-like, μ-adt·pattern-matching-variant, μ-pattern-match-inner, μ-pattern-matching-variant-fields, μ-sub·alt, μ-sub·alts, μ-sub·bound, μ-sub·slice, adt·pattern-match-adt-at, adt·pattern-match-tuple-like-at, adt·pattern-matching-variant-at, pattern-match-inner-at, pattern-matching-variant-fields-at, sub·alt-at, sub·alts-at, sub·bound-at, sub·slice-at}
 use Rattle.pattern_walk.proofs.adt.pattern_match_adt.Reads as adt·pattern-match-adt
-use Rattle.pattern_walk.proofs.+adt-pattern_match_adt+adt-pattern_match_tuple_like+adt-pattern_matching_variant+kind+pattern_match_inner+pattern_matching_variant_fields+sub-alt+sub-alts+sub-bound+sub-slice.Lts-adt-pattern_match_adt as adt·pattern-match-adt-lts
-use Rattle.pattern_walk.proofs.+adt-pattern_match_adt+adt-pattern_match_tuple_like+adt-pattern_matching_variant+kind+pattern_match_inner+pattern_matching_variant_fields+sub-alt+sub-alts+sub-bound+sub-slice.Proof.Arguments as Arguments
+use Rattle.pattern_walk.proofs.+adt-pattern_match_adt+adt-pattern_match_tuple_like+adt-pattern_matching_variant+pattern_match_inner+pattern_matching_variant_fields+sub-alt+sub-alts+sub-bound+sub-slice.Lts-adt-pattern_match_adt as adt·pattern-match-adt-lts
+use Rattle.pattern_walk.proofs.+adt-pattern_match_adt+adt-pattern_match_tuple_like+adt-pattern_matching_variant+pattern_match_inner+pattern_matching_variant_fields+sub-alt+sub-alts+sub-bound+sub-slice.Proof.Arguments as Arguments
 use Rattle.pattern_walk.proofs.adt.pattern_match_tuple_like.Reads as adt·pattern-match-tuple-like
-use Rattle.pattern_walk.proofs.+adt-pattern_match_adt+adt-pattern_match_tuple_like+adt-pattern_matching_variant+kind+pattern_match_inner+pattern_matching_variant_fields+sub-alt+sub-alts+sub-bound+sub-slice.Lts-adt-pattern_match_tuple_like as adt·pattern-match-tuple-like-lts
-use Rattle.pattern_walk.proofs.+adt-pattern_match_adt+adt-pattern_match_tuple_like+adt-pattern_matching_variant+kind+pattern_match_inner+pattern_matching_variant_fields+sub-alt+sub-alts+sub-bound+sub-slice.Proof.TupleLike as TupleLike
+use Rattle.pattern_walk.proofs.+adt-pattern_match_adt+adt-pattern_match_tuple_like+adt-pattern_matching_variant+pattern_match_inner+pattern_matching_variant_fields+sub-alt+sub-alts+sub-bound+sub-slice.Lts-adt-pattern_match_tuple_like as adt·pattern-match-tuple-like-lts
+use Rattle.pattern_walk.proofs.+adt-pattern_match_adt+adt-pattern_match_tuple_like+adt-pattern_matching_variant+pattern_match_inner+pattern_matching_variant_fields+sub-alt+sub-alts+sub-bound+sub-slice.Proof.TupleLike as TupleLike
 use Rattle.pattern_walk.proofs.adt.pattern_matching_variant.Reads as adt·pattern-matching-variant
-use Rattle.pattern_walk.proofs.+adt-pattern_match_adt+adt-pattern_match_tuple_like+adt-pattern_matching_variant+kind+pattern_match_inner+pattern_matching_variant_fields+sub-alt+sub-alts+sub-bound+sub-slice.Lts-adt-pattern_matching_variant as adt·pattern-matching-variant-lts
-use Rattle.pattern_walk.proofs.+adt-pattern_match_adt+adt-pattern_match_tuple_like+adt-pattern_matching_variant+kind+pattern_match_inner+pattern_matching_variant_fields+sub-alt+sub-alts+sub-bound+sub-slice.Proof.Variant as Variant
-use Rattle.pattern_walk.proofs.kind.Reads as kind
-use Rattle.pattern_walk.proofs.+adt-pattern_match_adt+adt-pattern_match_tuple_like+adt-pattern_matching_variant+kind+pattern_match_inner+pattern_matching_variant_fields+sub-alt+sub-alts+sub-bound+sub-slice.Lts-kind as kind-lts
-use Rattle.pattern_walk.proofs.+adt-pattern_match_adt+adt-pattern_match_tuple_like+adt-pattern_matching_variant+kind+pattern_match_inner+pattern_matching_variant_fields+sub-alt+sub-alts+sub-bound+sub-slice.Proof.Kind as Kind
+use Rattle.pattern_walk.proofs.+adt-pattern_match_adt+adt-pattern_match_tuple_like+adt-pattern_matching_variant+pattern_match_inner+pattern_matching_variant_fields+sub-alt+sub-alts+sub-bound+sub-slice.Lts-adt-pattern_matching_variant as adt·pattern-matching-variant-lts
+use Rattle.pattern_walk.proofs.+adt-pattern_match_adt+adt-pattern_match_tuple_like+adt-pattern_matching_variant+pattern_match_inner+pattern_matching_variant_fields+sub-alt+sub-alts+sub-bound+sub-slice.Proof.Variant as Variant
 use Rattle.pattern_walk.proofs.pattern_match_inner.Reads as pattern-match-inner
-use Rattle.pattern_walk.proofs.+adt-pattern_match_adt+adt-pattern_match_tuple_like+adt-pattern_matching_variant+kind+pattern_match_inner+pattern_matching_variant_fields+sub-alt+sub-alts+sub-bound+sub-slice.Lts-pattern_match_inner as pattern-match-inner-lts
-use Rattle.pattern_walk.proofs.+adt-pattern_match_adt+adt-pattern_match_tuple_like+adt-pattern_matching_variant+kind+pattern_match_inner+pattern_matching_variant_fields+sub-alt+sub-alts+sub-bound+sub-slice.Proof.Inner as Inner
+use Rattle.pattern_walk.proofs.+adt-pattern_match_adt+adt-pattern_match_tuple_like+adt-pattern_matching_variant+pattern_match_inner+pattern_matching_variant_fields+sub-alt+sub-alts+sub-bound+sub-slice.Lts-pattern_match_inner as pattern-match-inner-lts
+use Rattle.pattern_walk.proofs.+adt-pattern_match_adt+adt-pattern_match_tuple_like+adt-pattern_matching_variant+pattern_match_inner+pattern_matching_variant_fields+sub-alt+sub-alts+sub-bound+sub-slice.Proof.Inner as Inner
 use Rattle.pattern_walk.proofs.pattern_matching_variant_fields.Reads as pattern-matching-variant-fields
-use Rattle.pattern_walk.proofs.+adt-pattern_match_adt+adt-pattern_match_tuple_like+adt-pattern_matching_variant+kind+pattern_match_inner+pattern_matching_variant_fields+sub-alt+sub-alts+sub-bound+sub-slice.Lts-pattern_matching_variant_fields as pattern-matching-variant-fields-lts
-use Rattle.pattern_walk.proofs.+adt-pattern_match_adt+adt-pattern_match_tuple_like+adt-pattern_matching_variant+kind+pattern_match_inner+pattern_matching_variant_fields+sub-alt+sub-alts+sub-bound+sub-slice.Proof.VariantFields as VariantFields
+use Rattle.pattern_walk.proofs.+adt-pattern_match_adt+adt-pattern_match_tuple_like+adt-pattern_matching_variant+pattern_match_inner+pattern_matching_variant_fields+sub-alt+sub-alts+sub-bound+sub-slice.Lts-pattern_matching_variant_fields as pattern-matching-variant-fields-lts
+use Rattle.pattern_walk.proofs.+adt-pattern_match_adt+adt-pattern_match_tuple_like+adt-pattern_matching_variant+pattern_match_inner+pattern_matching_variant_fields+sub-alt+sub-alts+sub-bound+sub-slice.Proof.VariantFields as VariantFields
 use Rattle.pattern_walk.proofs.sub.alt.Reads as sub·alt
-use Rattle.pattern_walk.proofs.+adt-pattern_match_adt+adt-pattern_match_tuple_like+adt-pattern_matching_variant+kind+pattern_match_inner+pattern_matching_variant_fields+sub-alt+sub-alts+sub-bound+sub-slice.Lts-sub-alt as sub·alt-lts
-use Rattle.pattern_walk.proofs.+adt-pattern_match_adt+adt-pattern_match_tuple_like+adt-pattern_matching_variant+kind+pattern_match_inner+pattern_matching_variant_fields+sub-alt+sub-alts+sub-bound+sub-slice.Proof.Alternative as Alternative
+use Rattle.pattern_walk.proofs.+adt-pattern_match_adt+adt-pattern_match_tuple_like+adt-pattern_matching_variant+pattern_match_inner+pattern_matching_variant_fields+sub-alt+sub-alts+sub-bound+sub-slice.Lts-sub-alt as sub·alt-lts
+use Rattle.pattern_walk.proofs.+adt-pattern_match_adt+adt-pattern_match_tuple_like+adt-pattern_matching_variant+pattern_match_inner+pattern_matching_variant_fields+sub-alt+sub-alts+sub-bound+sub-slice.Proof.Alternative as Alternative
 use Rattle.pattern_walk.proofs.sub.alts.Reads as sub·alts
-use Rattle.pattern_walk.proofs.+adt-pattern_match_adt+adt-pattern_match_tuple_like+adt-pattern_matching_variant+kind+pattern_match_inner+pattern_matching_variant_fields+sub-alt+sub-alts+sub-bound+sub-slice.Lts-sub-alts as sub·alts-lts
-use Rattle.pattern_walk.proofs.+adt-pattern_match_adt+adt-pattern_match_tuple_like+adt-pattern_matching_variant+kind+pattern_match_inner+pattern_matching_variant_fields+sub-alt+sub-alts+sub-bound+sub-slice.Proof.Alternatives as Alternatives
+use Rattle.pattern_walk.proofs.+adt-pattern_match_adt+adt-pattern_match_tuple_like+adt-pattern_matching_variant+pattern_match_inner+pattern_matching_variant_fields+sub-alt+sub-alts+sub-bound+sub-slice.Lts-sub-alts as sub·alts-lts
+use Rattle.pattern_walk.proofs.+adt-pattern_match_adt+adt-pattern_match_tuple_like+adt-pattern_matching_variant+pattern_match_inner+pattern_matching_variant_fields+sub-alt+sub-alts+sub-bound+sub-slice.Proof.Alternatives as Alternatives
 use Rattle.pattern_walk.proofs.sub.bound.Reads as sub·bound
-use Rattle.pattern_walk.proofs.+adt-pattern_match_adt+adt-pattern_match_tuple_like+adt-pattern_matching_variant+kind+pattern_match_inner+pattern_matching_variant_fields+sub-alt+sub-alts+sub-bound+sub-slice.Lts-sub-bound as sub·bound-lts
-use Rattle.pattern_walk.proofs.+adt-pattern_match_adt+adt-pattern_match_tuple_like+adt-pattern_matching_variant+kind+pattern_match_inner+pattern_matching_variant_fields+sub-alt+sub-alts+sub-bound+sub-slice.Proof.Bind as Bind
+use Rattle.pattern_walk.proofs.+adt-pattern_match_adt+adt-pattern_match_tuple_like+adt-pattern_matching_variant+pattern_match_inner+pattern_matching_variant_fields+sub-alt+sub-alts+sub-bound+sub-slice.Lts-sub-bound as sub·bound-lts
+use Rattle.pattern_walk.proofs.+adt-pattern_match_adt+adt-pattern_match_tuple_like+adt-pattern_matching_variant+pattern_match_inner+pattern_matching_variant_fields+sub-alt+sub-alts+sub-bound+sub-slice.Proof.Bind as Bind
 use Rattle.pattern_walk.proofs.sub.slice.Reads as sub·slice
-use Rattle.pattern_walk.proofs.+adt-pattern_match_adt+adt-pattern_match_tuple_like+adt-pattern_matching_variant+kind+pattern_match_inner+pattern_matching_variant_fields+sub-alt+sub-alts+sub-bound+sub-slice.Lts-sub-slice as sub·slice-lts
-use Rattle.pattern_walk.proofs.+adt-pattern_match_adt+adt-pattern_match_tuple_like+adt-pattern_matching_variant+kind+pattern_match_inner+pattern_matching_variant_fields+sub-alt+sub-alts+sub-bound+sub-slice.Proof.Slice as Slice
-use Rattle.pattern_walk.proofs.+adt-pattern_match_adt+adt-pattern_match_tuple_like+adt-pattern_matching_variant+kind+pattern_match_inner+pattern_matching_variant_fields+sub-alt+sub-alts+sub-bound+sub-slice.{statement}
-use Rattle.pattern_walk.proofs.+adt-pattern_match_adt+adt-pattern_match_tuple_like+adt-pattern_matching_variant+kind+pattern_match_inner+pattern_matching_variant_fields+sub-alt+sub-alts+sub-bound+sub-slice.Tie.{close}
+use Rattle.pattern_walk.proofs.+adt-pattern_match_adt+adt-pattern_match_tuple_like+adt-pattern_matching_variant+pattern_match_inner+pattern_matching_variant_fields+sub-alt+sub-alts+sub-bound+sub-slice.Lts-sub-slice as sub·slice-lts
+use Rattle.pattern_walk.proofs.+adt-pattern_match_adt+adt-pattern_match_tuple_like+adt-pattern_matching_variant+pattern_match_inner+pattern_matching_variant_fields+sub-alt+sub-alts+sub-bound+sub-slice.Proof.Slice as Slice
+use Rattle.pattern_walk.proofs.+adt-pattern_match_adt+adt-pattern_match_tuple_like+adt-pattern_matching_variant+pattern_match_inner+pattern_matching_variant_fields+sub-alt+sub-alts+sub-bound+sub-slice.{statement}
+use Rattle.pattern_walk.proofs.+adt-pattern_match_adt+adt-pattern_match_tuple_like+adt-pattern_matching_variant+pattern_match_inner+pattern_matching_variant_fields+sub-alt+sub-alts+sub-bound+sub-slice.Tie.{close}
 
-pub +adt·pattern-match-adt+adt·pattern-match-tuple-like+adt·pattern-matching-variant+kind+pattern-match-inner+pattern-matching-variant-fields+sub·alt+sub·alts+sub·bound+sub·slice-spec : {M : Type 1} → statement M
-+adt·pattern-match-adt+adt·pattern-match-tuple-like+adt·pattern-matching-variant+kind+pattern-match-inner+pattern-matching-variant-fields+sub·alt+sub·alts+sub·bound+sub·slice-spec =
-    close μ-adt·pattern-match-adt μ-adt·pattern-match-tuple-like μ-adt·pattern-matching-variant μ-kind μ-pattern-match-inner μ-pattern-matching-variant-fields μ-sub·alt μ-sub·alts μ-sub·bound μ-sub·slice
+pub +adt·pattern-match-adt+adt·pattern-match-tuple-like+adt·pattern-matching-variant+pattern-match-inner+pattern-matching-variant-fields+sub·alt+sub·alts+sub·bound+sub·slice-spec : {M : Type 1} → statement M
++adt·pattern-match-adt+adt·pattern-match-tuple-like+adt·pattern-matching-variant+pattern-match-inner+pattern-matching-variant-fields+sub·alt+sub·alts+sub·bound+sub·slice-spec =
+    close μ-adt·pattern-match-adt μ-adt·pattern-match-tuple-like μ-adt·pattern-matching-variant μ-pattern-match-inner μ-pattern-matching-variant-fields μ-sub·alt μ-sub·alts μ-sub·bound μ-sub·slice
     (λ t. adt·pattern-match-adt-lts.spec (Arguments.calls t) (adt·pattern-match-adt-at t) adt·pattern-match-adt.Post Arguments.Inv-loop Arguments.μ-loop
     (Arguments.loop-holds t)
     (Arguments.same-length t) (Arguments.same-length-2 t) (Arguments.same-length-3 t) (Arguments.same-length-4 t) (Arguments.same-length-5 t)
@@ -135,75 +131,6 @@ pub +adt·pattern-match-adt+adt·pattern-match-tuple-like+adt·pattern-matching-
     (Variant.same-length-18 t)
     (Variant.same-length-19 t)
     (Variant.returns-5 t))
-    (λ t. kind-lts.spec (Kind.calls t) (kind-at t) kind.Post
-    (Kind.pat-kind-requires t)
-    (Kind.compound-kind-requires t)
-    (Kind.enum-told t)
-    (Kind.place-ty-requires t)
-    (Kind.tuple-at-requires t)
-    (Kind.enum-known-e t)
-    (Kind.enum-known-fields t)
-    (Kind.pattern-match-tuple-like-requires t)
-    (Kind.enum-told-2 t)
-    (Kind.alts-requires t)
-    (Kind.enum-told-3 t)
-    (Kind.slice-requires t)
-    (Kind.enum-told-4 t)
-    (Kind.bound-requires t)
-    (Kind.enum-told-5 t)
-    (Kind.place-ty-requires-2 t)
-    (Kind.reference-at-requires t)
-    (Kind.enum-known-e-2 t)
-    (Kind.enum-told-6 t)
-    (Kind.project-requires t)
-    (Kind.same-length t)
-    (Kind.returns t)
-    (Kind.pattern-match-inner-requires t)
-    (Kind.enum-told-7 t)
-    (Kind.variant-word-requires t)
-    (Kind.returns-2 t)
-    (Kind.variant-shape-requires t)
-    (Kind.pattern-matching-variant-requires t)
-    (Kind.same-length-2 t)
-    (Kind.returns-3 t)
-    (Kind.same-length-3 t)
-    (Kind.same-length-4 t)
-    (Kind.same-length-5 t)
-    (Kind.same-length-6 t)
-    (Kind.same-length-7 t)
-    (Kind.returns-4 t)
-    (Kind.same-length-8 t)
-    (Kind.same-length-9 t)
-    (Kind.same-length-10 t)
-    (Kind.same-length-11 t)
-    (Kind.same-length-12 t)
-    (Kind.returns-5 t)
-    (Kind.same-length-13 t)
-    (Kind.same-length-14 t)
-    (Kind.same-length-15 t)
-    (Kind.same-length-16 t)
-    (Kind.same-length-17 t)
-    (Kind.returns-6 t)
-    (Kind.same-length-18 t)
-    (Kind.same-length-19 t)
-    (Kind.same-length-20 t)
-    (Kind.same-length-21 t)
-    (Kind.same-length-22 t)
-    (Kind.returns-7 t)
-    (Kind.same-length-23 t)
-    (Kind.returns-8 t)
-    (Kind.same-length-24 t)
-    (Kind.same-length-25 t)
-    (Kind.same-length-26 t)
-    (Kind.same-length-27 t)
-    (Kind.same-length-28 t)
-    (Kind.returns-9 t)
-    (Kind.same-length-29 t)
-    (Kind.same-length-30 t)
-    (Kind.same-length-31 t)
-    (Kind.same-length-32 t)
-    (Kind.same-length-33 t)
-    (Kind.returns-10 t))
     (λ t. pattern-match-inner-lts.spec (Inner.calls t) (pattern-match-inner-at t) pattern-match-inner.Post
     (Inner.enter-requires t)
     (Inner.same-length t)
@@ -213,19 +140,53 @@ pub +adt·pattern-match-adt+adt·pattern-match-tuple-like+adt·pattern-matching-
     (Inner.path-kind-requires t)
     (Inner.is-leaf-requires t)
     (Inner.pattern-match-leaf-requires t)
-    (Inner.same-length-2 t)
-    (Inner.same-length-3 t)
-    (Inner.same-length-4 t)
-    (Inner.same-length-5 t)
-    (Inner.same-length-6 t)
+    (Inner.same-length-2 t) (Inner.same-length-3 t) (Inner.same-length-4 t) (Inner.same-length-5 t) (Inner.same-length-6 t)
     (Inner.returns-2 t)
-    (Inner.kind-requires t)
-    (Inner.same-length-7 t)
-    (Inner.same-length-8 t)
+    (Inner.pat-kind-requires-2 t)
+    (Inner.compound-kind-requires t)
+    (Inner.enum-told t)
+    (Inner.place-ty-requires t)
+    (Inner.tuple-at-requires t)
+    (Inner.enum-known-e t)
+    (Inner.enum-known-fields t)
+    (Inner.pattern-match-tuple-like-requires t)
+    (Inner.enum-told-2 t)
+    (Inner.alts-requires t)
+    (Inner.enum-told-3 t)
+    (Inner.slice-requires t)
+    (Inner.enum-told-4 t)
+    (Inner.bound-requires t)
+    (Inner.enum-told-5 t)
+    (Inner.place-ty-requires-2 t)
+    (Inner.reference-at-requires t)
+    (Inner.enum-known-e-2 t)
+    (Inner.enum-told-6 t)
+    (Inner.project-requires t)
+    (Inner.same-length-7 t) (Inner.same-length-8 t)
+    (Inner.returns-3 t)
+    (Inner.pattern-match-inner-requires t)
+    (Inner.enum-told-7 t)
+    (Inner.variant-word-requires t)
     (Inner.same-length-9 t)
-    (Inner.same-length-10 t)
-    (Inner.same-length-11 t)
-    (Inner.returns-3 t))
+    (Inner.returns-4 t)
+    (Inner.variant-shape-requires t)
+    (Inner.pattern-matching-variant-requires t)
+    (Inner.same-length-10 t) (Inner.same-length-11 t)
+    (Inner.returns-5 t)
+    (Inner.same-length-12 t) (Inner.same-length-13 t) (Inner.same-length-14 t) (Inner.same-length-15 t) (Inner.same-length-16 t)
+    (Inner.returns-6 t)
+    (Inner.same-length-17 t) (Inner.same-length-18 t) (Inner.same-length-19 t) (Inner.same-length-20 t) (Inner.same-length-21 t)
+    (Inner.returns-7 t)
+    (Inner.same-length-22 t) (Inner.same-length-23 t) (Inner.same-length-24 t) (Inner.same-length-25 t) (Inner.same-length-26 t)
+    (Inner.returns-8 t)
+    (Inner.same-length-27 t) (Inner.same-length-28 t) (Inner.same-length-29 t) (Inner.same-length-30 t) (Inner.same-length-31 t)
+    (Inner.returns-9 t)
+    (Inner.same-length-32 t) (Inner.same-length-33 t)
+    (Inner.returns-10 t)
+    (Inner.same-length-34 t) (Inner.same-length-35 t) (Inner.same-length-36 t) (Inner.same-length-37 t) (Inner.same-length-38 t)
+    (Inner.returns-11 t)
+    (Inner.same-length-39 t) (Inner.same-length-40 t) (Inner.same-length-41 t) (Inner.same-length-42 t) (Inner.same-length-43 t)
+    (Inner.returns-12 t))
     (λ t. pattern-matching-variant-fields-lts.spec (VariantFields.calls t) (pattern-matching-variant-fields-at t) pattern-matching-variant-fields.Post
     (VariantFields.enum-told t)
     (VariantFields.enum-known-shape t)

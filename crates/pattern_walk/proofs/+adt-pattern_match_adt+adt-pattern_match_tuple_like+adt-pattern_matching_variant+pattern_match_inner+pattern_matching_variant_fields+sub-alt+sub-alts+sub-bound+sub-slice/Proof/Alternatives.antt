@@ -1,13 +1,13 @@
 -- `alts`: what its contract needs is answered. Assumes nothing.
 use Prim.Native.Nat.{ℕ}
 use Rattle.pattern_walk.proofs.sub.alts.Reads as sub·alts
-use Rattle.pattern_walk.proofs.+adt-pattern_match_adt+adt-pattern_match_tuple_like+adt-pattern_matching_variant+kind+pattern_match_inner+pattern_matching_variant_fields+sub-alt+sub-alts+sub-bound+sub-slice.Lts-sub-alts as lts
+use Rattle.pattern_walk.proofs.+adt-pattern_match_adt+adt-pattern_match_tuple_like+adt-pattern_matching_variant+pattern_match_inner+pattern_matching_variant_fields+sub-alt+sub-alts+sub-bound+sub-slice.Lts-sub-alts as lts
 use Rattle.mir.proofs.blocks.new_basic_block.Reads as new-basic-block-reads
 use Rattle.image.proofs.rows.list_at.Reads as list-at-reads
 use Rattle.pattern_walk.proofs.sub.alt.Reads as sub·alt
 use Rattle.mir.proofs.blocks.set_goto.Reads as set-goto-reads
 use Rattle.pattern_leaves.proofs.modes.alternatives_end.Reads as alternatives-end-reads
-use Rattle.pattern_walk.proofs.+adt-pattern_match_adt+adt-pattern_match_tuple_like+adt-pattern_matching_variant+kind+pattern_match_inner+pattern_matching_variant_fields+sub-alt+sub-alts+sub-bound+sub-slice.Proof.Measures.{sub·alts-at, sub·alt-below}
+use Rattle.pattern_walk.proofs.+adt-pattern_match_adt+adt-pattern_match_tuple_like+adt-pattern_matching_variant+pattern_match_inner+pattern_matching_variant_fields+sub-alt+sub-alts+sub-bound+sub-slice.Proof.Measures.{sub·alts-at, sub·alt-below}
 use mathlib.Core.Path.{sym, _∙_}
 use Prim.Native.Nat.{_-_}
 use native.Mathlib.Omega.{arith}

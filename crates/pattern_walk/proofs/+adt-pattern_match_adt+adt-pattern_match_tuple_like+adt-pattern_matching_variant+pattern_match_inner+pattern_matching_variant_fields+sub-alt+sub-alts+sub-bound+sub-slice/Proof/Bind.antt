@@ -1,11 +1,11 @@
 -- `bound`: what its contract needs is answered. Assumes nothing.
 use Prim.Native.Nat.{ℕ}
 use Rattle.pattern_walk.proofs.sub.bound.Reads as sub·bound
-use Rattle.pattern_walk.proofs.+adt-pattern_match_adt+adt-pattern_match_tuple_like+adt-pattern_matching_variant+kind+pattern_match_inner+pattern_matching_variant_fields+sub-alt+sub-alts+sub-bound+sub-slice.Lts-sub-bound as lts
+use Rattle.pattern_walk.proofs.+adt-pattern_match_adt+adt-pattern_match_tuple_like+adt-pattern_matching_variant+pattern_match_inner+pattern_matching_variant_fields+sub-alt+sub-alts+sub-bound+sub-slice.Lts-sub-bound as lts
 use Rattle.image.proofs.kinds.binding_mode.Reads as binding-mode-reads
 use Rattle.pattern_leaves.proofs.modes.bind.Reads as bind-reads
 use Rattle.pattern_walk.proofs.pattern_match_inner.Reads as pattern-match-inner
-use Rattle.pattern_walk.proofs.+adt-pattern_match_adt+adt-pattern_match_tuple_like+adt-pattern_matching_variant+kind+pattern_match_inner+pattern_matching_variant_fields+sub-alt+sub-alts+sub-bound+sub-slice.Proof.Measures.{sub·bound-at, pattern-match-inner-below}
+use Rattle.pattern_walk.proofs.+adt-pattern_match_adt+adt-pattern_match_tuple_like+adt-pattern_matching_variant+pattern_match_inner+pattern_matching_variant_fields+sub-alt+sub-alts+sub-bound+sub-slice.Proof.Measures.{sub·bound-at, pattern-match-inner-below}
 use mathlib.Core.Path.{_∙_}
 use native.Mathlib.Omega.{arith}
 use borrow.Author.Needs.{needs}

@@ -1,11 +1,11 @@
 -- `pattern_match_tuple_like`: what its contract needs is answered. Assumes nothing.
 use Prim.Native.Nat.{ℕ}
 use Rattle.pattern_walk.proofs.adt.pattern_match_tuple_like.Reads as adt·pattern-match-tuple-like
-use Rattle.pattern_walk.proofs.+adt-pattern_match_adt+adt-pattern_match_tuple_like+adt-pattern_matching_variant+kind+pattern_match_inner+pattern_matching_variant_fields+sub-alt+sub-alts+sub-bound+sub-slice.Lts-adt-pattern_match_tuple_like as lts
+use Rattle.pattern_walk.proofs.+adt-pattern_match_adt+adt-pattern_match_tuple_like+adt-pattern_matching_variant+pattern_match_inner+pattern_matching_variant_fields+sub-alt+sub-alts+sub-bound+sub-slice.Lts-adt-pattern_match_tuple_like as lts
 use Rattle.pattern_rows.proofs.ellipsis_at.Reads as ellipsis-at-reads
 use Rattle.pattern_rows.proofs.least.Reads as least-reads
 use Rattle.pattern_walk.proofs.adt.pattern_match_adt.Reads as adt·pattern-match-adt
-use Rattle.pattern_walk.proofs.+adt-pattern_match_adt+adt-pattern_match_tuple_like+adt-pattern_matching_variant+kind+pattern_match_inner+pattern_matching_variant_fields+sub-alt+sub-alts+sub-bound+sub-slice.Proof.Measures.{adt·pattern-match-tuple-like-at, adt·pattern-match-adt-below}
+use Rattle.pattern_walk.proofs.+adt-pattern_match_adt+adt-pattern_match_tuple_like+adt-pattern_matching_variant+pattern_match_inner+pattern_matching_variant_fields+sub-alt+sub-alts+sub-bound+sub-slice.Proof.Measures.{adt·pattern-match-tuple-like-at, adt·pattern-match-adt-below}
 use mathlib.Core.Path.{_∙_}
 use native.Mathlib.Omega.{arith}
 use borrow.Author.Needs.{needs}

@@ -1,14 +1,14 @@
 -- `pattern_match_adt`: what its contract needs is answered. Assumes nothing.
 use Prim.Native.Nat.{ℕ}
 use Rattle.pattern_walk.proofs.adt.pattern_match_adt.Reads as adt·pattern-match-adt
-use Rattle.pattern_walk.proofs.+adt-pattern_match_adt+adt-pattern_match_tuple_like+adt-pattern_matching_variant+kind+pattern_match_inner+pattern_matching_variant_fields+sub-alt+sub-alts+sub-bound+sub-slice.Lts-adt-pattern_match_adt as lts
+use Rattle.pattern_walk.proofs.+adt-pattern_match_adt+adt-pattern_match_tuple_like+adt-pattern_matching_variant+pattern_match_inner+pattern_matching_variant_fields+sub-alt+sub-alts+sub-bound+sub-slice.Lts-adt-pattern_match_adt as lts
 use Rattle.pattern_rows.proofs.argument_elem.Reads as argument-elem-reads
 use Rattle.place.proofs.project.Reads as project-reads
 use Rattle.pattern_rows.proofs.argument_pat.Reads as argument-pat-reads
 use Rattle.pattern_walk.proofs.idle.nothing_to_do.Reads as nothing-to-do-reads
 use Rattle.pattern_parts.proofs.entering.visit.Reads as visit-reads
 use Rattle.pattern_walk.proofs.pattern_match_inner.Reads as pattern-match-inner
-use Rattle.pattern_walk.proofs.+adt-pattern_match_adt+adt-pattern_match_tuple_like+adt-pattern_matching_variant+kind+pattern_match_inner+pattern_matching_variant_fields+sub-alt+sub-alts+sub-bound+sub-slice.Proof.Measures.{adt·pattern-match-adt-at, pattern-match-inner-below}
+use Rattle.pattern_walk.proofs.+adt-pattern_match_adt+adt-pattern_match_tuple_like+adt-pattern_matching_variant+pattern_match_inner+pattern_matching_variant_fields+sub-alt+sub-alts+sub-bound+sub-slice.Proof.Measures.{adt·pattern-match-adt-at, pattern-match-inner-below}
 use mathlib.Core.Path.{refl, sym, _∙_}
 use Prim.Native.Nat.{_-_, _<_}
 use native.Mathlib.Omega.{arith}
