@@ -1,7 +1,7 @@
 -- Patterns at which there is nothing to do: they are visited, and the walk goes on as it was. Assumes nothing.
 use Prim.Native.Nat.{ℕ, _<_}
-use mathlib.Core.Path.{_≡_, refl, sym, ap, _∙_}
-use mathlib.Core.Bool.{Bool, true, false, cond, _&&_, true≢false, false≢true}
+use mathlib.Core.Path.{_≡_, refl, _∙_}
+use mathlib.Core.Bool.{Bool, true, false, cond, false≢true}
 use mathlib.Core.List.{List}
 use borrow.Author.Tests.{eqb-true, ne-eqb, eq-eqb}
 use lib.Dec.{eqb}
@@ -24,13 +24,14 @@ use Rattle.lower.specs.declared.temps.DiscrTemp.{DiscrTemp}
 use Rattle.lower.specs.declared.merging.OptBlock.{OptBlock}
 use Rattle.pattern_matching.specs.declared.MatchingMode.{MatchingMode}
 use Rattle.pattern_matching.specs.Modes.{isCheck}
-use Rattle.pattern_matching.specs.Walking.{Ctx, Out, Walk, Lowering, out}
+use Rattle.pattern_matching.specs.Walking.{Ctx, Lowering, out}
 use Rattle.pattern_matching.specs.Tests.{literal, litBy, constantPath}
 use Rattle.pattern_matching.specs.Patterns.{rangePattern, pathPattern, bindPattern, patternMatchInner}
 use Rattle.walks.specs.declared.Lowered.{Lowered}
 use Rattle.walks.specs.Answers.{Lent, Begins}
 use Rattle.pattern_parts.proofs.Visiting.{visitedIn}
 use Rattle.pattern_tests.specs.Testing.{isLiteral}
+use Rattle.pattern_tests.proofs.Cutting.{not-in-check}
 use Rattle.pattern_nodes.specs.Leaves.{leafPattern}
 use Rattle.pattern_nodes.specs.Nodes.{kindPattern}
 use Rattle.walking.specs.Walk.{Inner}
@@ -66,34 +67,30 @@ module _ (image bindings : List ℕ) (p : ℕ) (row : PatRow) where
   idle-checked PatKind.Deref e = absurd (false≢true e)
   idle-checked PatKind.Unknown e = absurd (false≢true e)
 
--- a test that is not made, beyond Check
-module _ (image : List ℕ) (p : ℕ) (ty : ℕ) (operand : Operand) where
-  no-literal : (mode : MatchingMode) → isCheck mode ≡ false → Idle (literal image p ty operand) mode
-  unfolding isCheck literal
-  no-literal MatchingMode.Check d = absurd (true≢false d)
-  no-literal MatchingMode.Bind d = λ ctx current els place. refl
-  no-literal MatchingMode.Assign d = λ ctx current els place. refl
+-- what is not tested, beyond Check
+module _ (image : List ℕ) (p : ℕ) (ty : ℕ) (operand : Operand) (mode : MatchingMode) (d : isCheck mode ≡ false) where
+  no-literal : Idle (literal image p ty operand) mode
+  unfolding literal
+  no-literal ctx current els place = not-in-check mode _ _ d
 
-  no-constant : (mode : MatchingMode) → isCheck mode ≡ false → Idle (constantPath image p ty operand) mode
-  unfolding isCheck constantPath
-  no-constant MatchingMode.Check d = absurd (true≢false d)
-  no-constant MatchingMode.Bind d = λ ctx current els place. refl
-  no-constant MatchingMode.Assign d = λ ctx current els place. refl
+  no-constant : Idle (constantPath image p ty operand) mode
+  unfolding constantPath
+  no-constant ctx current els place = not-in-check mode _ _ d
 
   -- a literal
-  idle-literal : (k : OperandKind) (mode : MatchingMode) → isCheck mode ≡ false → isLiteral k ≡ true → Idle (litBy k image p ty operand) mode
+  idle-literal : (k : OperandKind) → isLiteral k ≡ true → Idle (litBy k image p ty operand) mode
   unfolding isLiteral litBy
-  idle-literal OperandKind.Int mode d e = no-literal mode d
-  idle-literal OperandKind.Uint mode d e = no-literal mode d
-  idle-literal OperandKind.Char mode d e = no-literal mode d
-  idle-literal OperandKind.Bool mode d e = no-literal mode d
-  idle-literal OperandKind.Str mode d e = no-literal mode d
-  idle-literal OperandKind.CStr mode d e = no-literal mode d
-  idle-literal OperandKind.ByteStr mode d e = no-literal mode d
-  idle-literal OperandKind.Constant mode d e = absurd (false≢true e)
-  idle-literal OperandKind.Float mode d e = no-literal mode d
-  idle-literal OperandKind.Other mode d e = absurd (false≢true e)
-  idle-literal OperandKind.Unknown mode d e = absurd (false≢true e)
+  idle-literal OperandKind.Int e = no-literal
+  idle-literal OperandKind.Uint e = no-literal
+  idle-literal OperandKind.Char e = no-literal
+  idle-literal OperandKind.Bool e = no-literal
+  idle-literal OperandKind.Str e = no-literal
+  idle-literal OperandKind.CStr e = no-literal
+  idle-literal OperandKind.ByteStr e = no-literal
+  idle-literal OperandKind.Constant e = absurd (false≢true e)
+  idle-literal OperandKind.Float e = no-literal
+  idle-literal OperandKind.Other e = absurd (false≢true e)
+  idle-literal OperandKind.Unknown e = absurd (false≢true e)
 
 module _ (image bindings : List ℕ) (p : ℕ) (row : PatRow) (mode : MatchingMode) (d : isCheck mode ≡ false) where
   -- a path
@@ -107,11 +104,9 @@ module _ (image bindings : List ℕ) (p : ℕ) (row : PatRow) (mode : MatchingMo
   idle-path PathKind.Unknown e = absurd (false≢true e)
 
   -- a range
-  idle-range : (m : MatchingMode) → isCheck m ≡ false → Idle (kindPattern PatKind.Range image bindings p row) m
-  unfolding isCheck kindPattern leafPattern rangePattern
-  idle-range MatchingMode.Check z = absurd (true≢false z)
-  idle-range MatchingMode.Bind z = λ ctx current els place. refl
-  idle-range MatchingMode.Assign z = λ ctx current els place. refl
+  idle-range : Idle (kindPattern PatKind.Range image bindings p row) mode
+  unfolding kindPattern leafPattern rangePattern
+  idle-range ctx current els place = not-in-check mode _ _ d
 
   idle-beyond : (k : PatKind) → idleBeyondCheck k image row ≡ true → Idle (kindPattern k image bindings p row) mode
   unfolding idleBeyondCheck kindPattern leafPattern
@@ -122,10 +117,10 @@ module _ (image bindings : List ℕ) (p : ℕ) (row : PatRow) (mode : MatchingMo
   idle-beyond PatKind.Tuple e = absurd (false≢true e)
   idle-beyond PatKind.Or e = absurd (false≢true e)
   idle-beyond PatKind.Record e = absurd (false≢true e)
-  idle-beyond PatKind.Range e = idle-range mode d
+  idle-beyond PatKind.Range e = idle-range
   idle-beyond PatKind.Slice e = absurd (false≢true e)
   idle-beyond PatKind.Path e = idle-path (pathKind (row .a)) e
-  idle-beyond PatKind.Lit e = idle-literal image p (row .ty) (operandOf image (row .a)) (operandOf image (row .a) .kind) mode d e
+  idle-beyond PatKind.Lit e = idle-literal image p (row .ty) (operandOf image (row .a)) mode d (operandOf image (row .a) .kind) e
   idle-beyond PatKind.Bind e = absurd (false≢true e)
   idle-beyond PatKind.TupleStruct e = absurd (false≢true e)
   idle-beyond PatKind.Ref e = absurd (false≢true e)

@@ -36,7 +36,7 @@ ghost use Rattle.pattern_nodes.specs.Arguments.{shapeOf, lowered, ArgumentsTher
 ghost use Rattle.walking.specs.Walk.{Walkable};
 ghost use Rattle.pattern_rows.specs.declared.ArgumentRow.{ArgumentRow};
 
-// Arguments in a row, so many, each on the place one element on.
+// Arguments in a row, so many, each on the place one element on. One at which there is nothing to do is visited where it stands.
 pub fn pattern_match_adt(
     image: &[u8],
     tables: Tables,

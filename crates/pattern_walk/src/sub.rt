@@ -115,7 +115,7 @@ pub fn bound(
     }
 }
 
-// An alternative q: it is tested, and beyond Check walked again in the mode that is asked for.
+// An alternative q: it is tested, and beyond Check walked again in the mode that is asked for, or only visited where there is nothing to do.
 pub fn alt(
     image: &[u8],
     tables: Tables,

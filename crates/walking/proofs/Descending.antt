@@ -1,21 +1,20 @@
 -- `enter`: in Check the walk goes down through Binds. Assumes nothing.
 use Prim.Native.Nat.{ℕ, _≤_, _<_}
 use mathlib.Core.Path.{_≡_, refl, sym, ap, _∙_}
-use mathlib.Core.Bool.{Bool, true, false, not, cond, _&&_, true≢false, false≢true}
+use mathlib.Core.Bool.{Bool, true, false, not, _&&_, true≢false, false≢true}
 use mathlib.Core.List.{List}
 use native.Mathlib.Omega.{arith}
 use borrow.Author.Tests.{ne-eqb}
 use lib.Dec.{eqb}
 use lib.ListN.{length}
-use Rattle.refusals.specs.declared.MirLowerError.{MirLowerError}
 use Rattle.image.specs.declared.PatId.{PatId}
 use Rattle.image.specs.declared.Tables.{Tables}
 use Rattle.image.specs.declared.kinds.PatKind.{PatKind}
 use Rattle.image.specs.declared.rows.PatRow.{PatRow}
 use Rattle.image.specs.Tables.{patternCount}
-use Rattle.image.specs.Kinds.{patKind, pathKind, bindingMode}
+use Rattle.image.specs.Kinds.{patKind, pathKind}
 use Rattle.image.specs.Rows.{patAt}
-use Rattle.image.specs.Tree.{PatOpt, no, sub, tree, tree?}
+use Rattle.image.specs.Tree.{tree, tree?}
 use Rattle.image.specs.Valid.{valid}
 use Rattle.image.proofs.Bools.{and-left, and-right}
 use Rattle.place.specs.declared.Place.{Place}
@@ -26,7 +25,7 @@ use Rattle.lower.specs.declared.temps.DiscrTemp.{DiscrTemp}
 use Rattle.lower.specs.declared.merging.OptBlock.{OptBlock}
 use Rattle.pattern_matching.specs.declared.MatchingMode.{MatchingMode}
 use Rattle.pattern_matching.specs.Modes.{isCheck}
-use Rattle.pattern_matching.specs.Walking.{Ctx, Out, Walk, ok, refused, next}
+use Rattle.pattern_matching.specs.Walking.{Ctx, Out, Walk, ok, refused, next, inCheck}
 use Rattle.pattern_matching.specs.Patterns.{bindPattern, patternMatchInner, lowering?}
 use Rattle.walks.specs.declared.Lowered.{Lowered}
 use Rattle.walks.specs.Answers.{Lent, Lowers}
@@ -40,6 +39,7 @@ use Rattle.pattern_nodes.proofs.Each.{subpattern-there}
 use Rattle.pattern_nodes.proofs.There.{bind-there}
 use Rattle.walking.specs.Walk.{Walkable, Inner, passesOn, Enters}
 use Rattle.walking.proofs.Asking.{walkable-at, walkable-visited}
+use Rattle.walking.proofs.Trying.{in-check}
 use Rattle.walking.proofs.Entering.{derefs-done, derefs-reached, inner-stops, inner-goes}
 
 -- a kind that is Bind
@@ -64,10 +64,10 @@ bind-is PatKind.Box e = absurd (false≢true e)
 bind-is PatKind.Deref e = absurd (false≢true e)
 bind-is PatKind.Unknown e = absurd (false≢true e)
 
--- a walk that is handed on as it is
-handed-on : (w : Walk Out) → next w (λ r. ok r) ≡ w
-handed-on (ok r) = refl
-handed-on (refused e p) = refl
+-- in Check a walk is handed on as it is
+handed-on : (mode : MatchingMode) (w : Walk Out) (beyond : Out → Walk Out) → isCheck mode ≡ true → w ≡ next w (λ r. inCheck mode (ok r) (beyond r))
+handed-on mode (ok r) beyond e = sym (in-check mode (ok r) (beyond r) e)
+handed-on mode (refused x p) beyond e = refl
 
 -- `passes_on`
 module _ (mode : MatchingMode) (row : PatRow) where
@@ -111,14 +111,9 @@ module _ (image : List ℕ) (mode : MatchingMode) (q : PatId) (row : PatRow) (pa
   -- it does what its subpattern does
   passed : (bindings : List ℕ) (ctx : Ctx) (current : BasicBlockId) (els : OptBlock) (place : Place) →
       patternMatchInner image bindings (tree image (row .b)) mode ctx current els place ≡ kindPattern (patKind (row .kind)) image bindings (q .0) row mode ctx current els place
-  unfolding kindPattern bindPattern tree? isCheck patternMatchInner
-  passed bindings ctx current els place = rw (passes-bind, has-subpattern) (go mode is-checked)
-    where
-      go : (m : MatchingMode) → isCheck m ≡ true →
-          patternMatchInner image bindings (tree image (row .b)) m ctx current els place ≡ bindPattern bindings (q .0) (row .a) (bindingMode (row .c)) (lowering? image bindings (sub (tree image (row .b)))) m ctx current els place
-      go MatchingMode.Check e = sym (handed-on (patternMatchInner image bindings (tree image (row .b)) MatchingMode.Check ctx current els place))
-      go MatchingMode.Bind e = absurd (false≢true e)
-      go MatchingMode.Assign e = absurd (false≢true e)
+  unfolding kindPattern bindPattern tree? patternMatchInner
+  passed bindings ctx current els place =
+      rw (passes-bind, has-subpattern) (handed-on mode (patternMatchInner image bindings (tree image (row .b)) mode ctx current els place) _ is-checked)
 
 -- the invariant of the loop: the walk is at the pattern q and the place `here`, and what it promises from there is what it promises of p
 pub record Descending (image : List ℕ) (mode : MatchingMode) (p : PatId) (place : Place) (v : List ℕ) (q : PatId) (here : Place) (v₁ : List ℕ) : Type 0 where

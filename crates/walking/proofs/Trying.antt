@@ -21,7 +21,7 @@ use Rattle.walks.proofs.Sequences.{walks-by, walks-stops, walks-then, primed-af
 use Rattle.walking.proofs.Looking.{walks-skips}
 
 -- in Check
-in-check : (mode : MatchingMode) (test skip : Walk Out) → isCheck mode ≡ true → inCheck mode test skip ≡ test
+pub in-check : (mode : MatchingMode) (test skip : Walk Out) → isCheck mode ≡ true → inCheck mode test skip ≡ test
 unfolding isCheck
 in-check MatchingMode.Check test skip e = refl
 in-check MatchingMode.Bind test skip e = absurd (false≢true e)

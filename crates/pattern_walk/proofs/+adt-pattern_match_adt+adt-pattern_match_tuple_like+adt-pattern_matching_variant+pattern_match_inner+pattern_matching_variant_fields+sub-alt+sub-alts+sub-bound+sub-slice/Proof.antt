@@ -9,7 +9,6 @@ mod Alternative
 mod Alternatives
 mod Bind
 mod Slice
-use Prim.Native.Nat.{ℕ}
 use Rattle.pattern_walk.proofs.+adt-pattern_match_adt+adt-pattern_match_tuple_like+adt-pattern_matching_variant+pattern_match_inner+pattern_matching_variant_fields+sub-alt+sub-alts+sub-bound+sub-slice.Proof.Measures.{μ-adt·pattern-match-adt, μ-adt·pattern-match-tuple-like, μ-adt·pattern-matching-variant, μ-pattern-match-inner, μ-pattern-matching-variant-fields, μ-sub·alt, μ-sub·alts, μ-sub·bound, μ-sub·slice, adt·pattern-match-adt-at, adt·pattern-match-tuple-like-at, adt·pattern-matching-variant-at, pattern-match-inner-at, pattern-matching-variant-fields-at, sub·alt-at, sub·alts-at, sub·bound-at, sub·slice-at}
 use Rattle.pattern_walk.proofs.adt.pattern_match_adt.Reads as adt·pattern-match-adt
 use Rattle.pattern_walk.proofs.+adt-pattern_match_adt+adt-pattern_match_tuple_like+adt-pattern_matching_variant+pattern_match_inner+pattern_matching_variant_fields+sub-alt+sub-alts+sub-bound+sub-slice.Lts-adt-pattern_match_adt as adt·pattern-match-adt-lts

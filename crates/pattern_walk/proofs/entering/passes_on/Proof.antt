@@ -6,9 +6,7 @@ use Rattle.pattern_walk.proofs.entering.passes_on.Lts as lts
 use Rattle.image.proofs.kinds.pat_kind.Reads as pat-kind-reads
 use Rattle.pattern_matching.proofs.is_check.Reads as is-check-reads
 use Rattle.pattern_parts.proofs.bindings.is_bind.Reads as is-bind-reads
-use mathlib.Core.Path.{refl, sym, _∙_}
-use mathlib.Core.Bool.{Bool, true, false}
-use lib.Dec.{eqb}
+use mathlib.Core.Path.{sym, _∙_}
 use borrow.Author.Tests.{not-true, not-false}
 use Rattle.walking.proofs.Descending.{passes-unchecked, passes-absent, passes-by}
 

@@ -10,7 +10,6 @@ use Rattle.pattern_tests.proofs.consts.is_literal.Reads as is-literal-reads
 use Rattle.pattern_walk.proofs.idle.names_constant.Reads as names-constant-reads
 use mathlib.Core.Path.{refl, sym, ap, _∙_}
 use native.Mathlib.Omega.{arith}
-use Rattle.image.specs.declared.kinds.OperandKind.{OperandKind}
 use Rattle.image.specs.Patterns.{patternShapeHolds}
 use Rattle.literals.proofs.Operands.{operand-listed}
 use Rattle.literals.proofs.Answers.{kind-of}

@@ -1,4 +1,3 @@
-use borrow.Author.Needs.{needs}
 use Rattle.pattern_walk.proofs.idle.nothing_to_do.Statement.{statement}
 use Rattle.pattern_walk.proofs.idle.nothing_to_do.Tie as tie
 use Rattle.pattern_walk.proofs.idle.nothing_to_do.Reads as reads
@@ -8,11 +7,7 @@ use Rattle.image.proofs.rows.pat_at.Reads as pat-at-reads
 use Rattle.pattern_matching.proofs.is_check.Reads as is-check-reads
 use Rattle.pattern_walk.proofs.idle.idle_beyond_check.Reads as idle-beyond-check-reads
 use Rattle.pattern_walk.proofs.idle.idle_in_check.Reads as idle-in-check-reads
-use mathlib.Core.Path.{sym, ap, _∙_}
-use mathlib.Core.Bool.{true}
-use borrow.Author.Tests.{not-true, not-false}
-use Rattle.image.specs.declared.kinds.PatKind.{PatKind}
-use Rattle.image.specs.Patterns.{patternShapeHolds}
+use mathlib.Core.Path.{sym, _∙_}
 use Rattle.pattern_nodes.proofs.Known.{row-shape}
 use Rattle.pattern_walk.proofs.Idling.{derefs-left, told-in-check, told-beyond}
 
