@@ -31,7 +31,7 @@ use Rattle.growth.specs.Opened.{terminator, lines, Below, ElseReady, Starts}
 use Rattle.growth.proofs.Working.{below-append}
 use Rattle.handed.specs.Handed.{startHolds, elseHolds, placeHolds, bindingsHold, discrHolds, patternHanded, matchHolds}
 use Rattle.called.specs.Call.{Call, before, startOf}
-use Rattle.called.proofs.Walked.{Taken}
+use Rattle.called.specs.Acceptance.{Taken}
 
 -- what a taken call gives
 pub record Given (call : Call) : Type 0 where

@@ -4,3 +4,4 @@ mod Visited
 pub mod Bodies
 pub mod Runs
 pub mod Refusals
+pub mod Acceptances

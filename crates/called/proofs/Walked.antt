@@ -18,6 +18,7 @@ use Rattle.handed.specs.Handed.{matchHolds}
 use Rattle.match_calls.specs.Calls.{badImage, badCall, walked, namedIn, patternMatchCall, Visits}
 use Rattle.match_calls.specs.Calls.{call as calling}
 use Rattle.called.specs.Call.{Call, HandedOut, Promised, patternOf, startOf}
+use Rattle.called.specs.Acceptance.{Taken}
 
 -- an answer of the walk
 abbrev pub OfTheWalk : MatchCall → Type 0
@@ -25,12 +26,6 @@ OfTheWalk (MatchCall.Matched c discr then els) = Unit {0}
 OfTheWalk (MatchCall.Refused e p) = Unit {0}
 OfTheWalk MatchCall.BadCall = ⊥
 OfTheWalk MatchCall.BadImage = ⊥
-
--- the image, the body and the numbers that the call was handed are taken
-pub record Taken (call : Call) : Type 0 where
-  pub image-valid : valid (call .image) ≡ true
-  pub body : bodyTaken (call .image) (call .body) (call .counts) ≡ true
-  pub names : matchHolds (namedIn (call .image)) (call .bindings) (call .body .blocks) (call .visits) (call .counts) (call .discr) (call .pattern) (call .start) (call .else) (call .place) ≡ true
 
 -- the walk of the definition
 abbrev pub walkOf : Call → Walk Out

@@ -6,8 +6,8 @@ pub mod Passing
 pub mod Typed
 mod Testing
 pub mod Arguments
-mod Rows
-mod Naming
+pub mod Rows
+pub mod Naming
 pub mod Binding
 mod Choosing
 mod Inside

@@ -54,7 +54,7 @@ unfolding variantFields throughArguments someArgument
 fielded-unit image = record { goes = λ p n pass c current els place ty k o b. holds (After pass c els false k false []) _ (after-none pass c current els k) }
 
 -- behind a Downcast
-through-downcast : (image : List ℕ) (ty : PlaceTy) (k v : ℕ) (args : List (Argument Reaching)) →
+pub through-downcast : (image : List ℕ) (ty : PlaceTy) (k v : ℕ) (args : List (Argument Reaching)) →
     throughArguments image (projectionTy ty image (ProjectionElem.Downcast v)) k args ≡ throughArguments image ty k (downcast true v args)
 unfolding throughArguments downcast multiProjectionTy
 through-downcast image ty k v [] = refl
@@ -62,7 +62,7 @@ through-downcast image ty k v (arg ∷ args) =
     ap {B = List Reached} (λ l. (arg .what) (multiProjectionTy image (projectionTy ty image (ProjectionElem.Downcast v)) (arg .elems)) k false ++ l) (through-downcast image ty k v args)
 
 -- what holds of one of them behind a Downcast
-some-downcast : (image : List ℕ) (ty : PlaceTy) (v : ℕ) (args : List (Argument (PlaceTy → Bool))) →
+pub some-downcast : (image : List ℕ) (ty : PlaceTy) (v : ℕ) (args : List (Argument (PlaceTy → Bool))) →
     someArgument image (projectionTy ty image (ProjectionElem.Downcast v)) args ≡ someArgument image ty (downcast true v args)
 unfolding someArgument downcast multiProjectionTy
 some-downcast image ty v [] = refl

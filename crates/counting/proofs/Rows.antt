@@ -60,7 +60,7 @@ zip-none [] = refl
 zip-none (elem ∷ elems) = refl
 
 -- no argument stands behind an ellipsis that is absent
-row-whole : {A : Type 0} (elems elems′ : List ProjectionElem) (xs : List A) → zip elems xs ++ zip elems′ [] ≡ zip elems xs
+pub row-whole : {A : Type 0} (elems elems′ : List ProjectionElem) (xs : List A) → zip elems xs ++ zip elems′ [] ≡ zip elems xs
 row-whole {A = A} elems elems′ xs = ap (λ (l : List (Argument A)). zip elems xs ++ l) (zip-none elems′) ∙ append-nil (zip elems xs)
 
 module _ (image : List ℕ) (p n : ℕ) (pass : Pass) (c : Ctx) (current : BasicBlockId) (els : OptBlock) (place : Place) (ty : PlaceTy) (k : ℕ) where
@@ -111,12 +111,12 @@ module _ (image : List ℕ) (p n : ℕ) (pass : Pass) (c : Ctx) (current : Basic
           ∙ ap (two true ls) (drop-of-length-le ls (le-refl _))
 
 -- where each field's number is there, arguments by fields are those in a row on them
-abbrev Resolves : Type 0 → List (Option ℕ) → Option (List ProjectionElem) → Type 0
+abbrev pub Resolves : Type 0 → List (Option ℕ) → Option (List ProjectionElem) → Type 0
 Resolves A fields none = Unit {0}
 Resolves A fields (some elems) = AllFit elems × ((xs : List A) → byFields fields xs ≡ zip elems xs)
 
 -- the fields' numbers are their elements
-resolves : (A : Type 0) (count : ℕ) (fields : List (Option ℕ)) → Resolves A fields (resolved count fields)
+pub resolves : (A : Type 0) (count : ℕ) (fields : List (Option ℕ)) → Resolves A fields (resolved count fields)
 unfolding resolved byFields zip
 resolves A count [] = (tt, λ xs. refl)
 resolves A count (none ∷ fields) = tt

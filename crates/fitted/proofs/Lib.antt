@@ -1,6 +1,6 @@
 mod Stopping
-mod Building
-mod Walks
+pub mod Building
+pub mod Walks
 mod Testing
 mod Choosing
 mod Shaping

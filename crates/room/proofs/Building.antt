@@ -1,0 +1,232 @@
+-- The steps that build a body are not refused for a limit while there is room. Assumes nothing.
+use mathlib.Core.Path.{_≡_, refl, sym, _∙_}
+use mathlib.Core.Bool.{Bool, true, false, cond, true≢false}
+use mathlib.Core.List.{List, [], _∷_}
+use Prim.Native.Nat.{ℕ, _+_, _≤_, _<_}
+use native.Mathlib.Omega.{arith}
+use borrow.Author.Tests.{lt-ltb, ltb-true, eqb-true}
+use lib.Dec.{eqb, ltb}
+use lib.ListN.{length, length-append, length-set, List·getD-append}
+use Rattle.refusals.specs.declared.MirLowerError.{MirLowerError}
+use Rattle.refusals.specs.Refusals.{andThen}
+use Rattle.refusals.specs.Refusals.{refused as stopped}
+use Rattle.row_tables.specs.Rows.{zeros}
+use Rattle.place.specs.declared.LocalId.{LocalId}
+use Rattle.mir.specs.declared.BasicBlockId.{BasicBlockId}
+use Rattle.mir.specs.declared.blocks.Terminator.{Terminator}
+use Rattle.mir.specs.Blocks.{termRow}
+use Rattle.mir.specs.Rvalues.{liveRow}
+use Rattle.state.specs.State.{State}
+use Rattle.state.specs.Steps.{newBlock, setTerminator, pushStatement, newLocal, pushEntry, within, tryBlock, tryStatement, tryLocal, tryEntry, nextLocal}
+use Rattle.lower.specs.declared.temps.DiscrTemp.{DiscrTemp}
+use Rattle.lower.specs.declared.merging.OptBlock.{OptBlock}
+use Rattle.lower.specs.Temps.{isSlice, temp, pushStorageLiveForLocal, discrTempPlace}
+use Rattle.pattern_matching.specs.Walking.{Ctx, elseState}
+use Rattle.counting.specs.Counting.{elseMade, discrMade}
+use Rattle.fitted.proofs.Building.{Kept, kept-on}
+use Rattle.room.proofs.Telling.{Sure, sure-done, sure-stopped, sure-then}
+
+-- the tables that a walk adds to
+pub data Table : Type 0 where
+  block : Table
+  statement : Table
+  local : Table
+  entry : Table
+
+-- how much there is in them
+abbrev pub held : Table → State → ℕ
+held block st = length (st .blocks)
+held statement st = length (st .statements)
+held local st = length (st .locals)
+held entry st = length (st .entries)
+
+-- how much there may be
+abbrev pub limit : Table → ℕ
+limit block = 512
+limit statement = 1024
+limit local = 512
+limit entry = 1024
+
+-- so much for each
+abbrev pub make : ℕ → ℕ → ℕ → ℕ → Table → ℕ
+make b s l e block = b
+make b s l e statement = s
+make b s l e local = l
+make b s l e entry = e
+
+-- A state that the walk from `base` has come to: scopes and locals are as there, what is needed still comes to T in all, and, if A holds, there is room for that.
+pub record Has (A : Type 0) (base : Ctx) (T : Table → ℕ) (st : State) (need : Table → ℕ) : Type 0 where
+  pub scopes : length (st .scopes) ≡ length (base .state .scopes)
+  pub kept : Kept (base .state) st
+  pub sum : (w : Table) → held w st + need w ≡ T w
+  pub room : A → (w : Table) → T w ≤ limit w
+
+-- the sum of each table
+sums : (st : State) (need T : Table → ℕ) → held block st + need block ≡ T block → held statement st + need statement ≡ T statement → held local st + need local ≡ T local →
+    held entry st + need entry ≡ T entry → (w : Table) → held w st + need w ≡ T w
+sums st need T a b c d block = a
+sums st need T a b c d statement = b
+sums st need T a b c d local = c
+sums st need T a b c d entry = d
+
+-- the same need, said otherwise
+pub has-as : {A : Type 0} {base : Ctx} {T : Table → ℕ} {st : State} {need : Table → ℕ} (same : Table → ℕ) → ((w : Table) → same w ≡ need w) → Has A base T st need → Has A base T st same
+has-as same f h = record { scopes = h .scopes; kept = h .kept; sum = λ w. let x = h .sum w in let y = f w in omega (arith, x, y); room = h .room }
+
+-- the same, table by table
+pub has-by : {A : Type 0} {base : Ctx} {T : Table → ℕ} {st : State} {need : Table → ℕ} → Has A base T st need → (same : Table → ℕ) → same block ≡ need block → same statement ≡ need statement →
+    same local ≡ need local → same entry ≡ need entry → Has A base T st same
+has-by {need = need} h same a b c d = has-as same by h
+  where
+    by : (w : Table) → same w ≡ need w
+    by block = a
+    by statement = b
+    by local = c
+    by entry = d
+
+-- a step within a limit
+pub within-room : {A : Type 0} {base : Ctx} {X : Type 0} (Q : X → Type 0) (n most : ℕ) (x : X) → (A → n < most) → (n < most → Q x) → Sure A base Q (within (ltb n most) x)
+within-room {A = A} {base = base} Q n most x room q = by (ltb n most) refl
+  where
+    by : (b : Bool) → ltb n most ≡ b → Sure A base Q (within b x)
+    by true e = sure-done Q x (q (ltb-true n most e))
+    by false e = sure-stopped Q MirLowerError.Limit (λ a. true≢false (sym (lt-ltb n most (room a)) ∙ e))
+
+module _ {A : Type 0} {base : Ctx} {T : Table → ℕ} (st : State) (m : Table → ℕ) where
+  -- one block
+  pub spend-block : Has A base T st (λ w. make 1 0 0 0 w + m w) → Sure A base (λ st′. Has A base T st′ m) (tryBlock st)
+  unfolding tryBlock newBlock
+  spend-block h =
+      within-room (λ st′. Has A base T st′ m) (length (st .blocks)) 512 (newBlock st) (λ a. let x = h .sum block in let y = h .room a block in omega (arith, x, y)) (λ _.
+      record {
+        scopes = h .scopes;
+        kept = record { locals = h .kept .locals; kept = h .kept .kept };
+        room = h .room;
+        sum =
+            let n = length-append (st .blocks) (zeros 12 ∷ []) in
+            let x = h .sum block in
+            let y = h .sum statement in
+            let z = h .sum local in
+            let u = h .sum entry in
+            sums _ m T (omega (arith, n, x)) (omega (arith, y)) (omega (arith, z)) (omega (arith, u));
+      })
+
+  -- one statement
+  pub spend-statement : (row : List ℕ) → Has A base T st (λ w. make 0 1 0 0 w + m w) → Sure A base (λ st′. Has A base T st′ m) (tryStatement st row)
+  unfolding tryStatement pushStatement
+  spend-statement row h =
+      within-room (λ st′. Has A base T st′ m) (length (st .statements)) 1024 (pushStatement st row) (λ a. let x = h .sum statement in let y = h .room a statement in omega (arith, x, y)) (λ _.
+      record {
+        scopes = h .scopes;
+        kept = record { locals = h .kept .locals; kept = h .kept .kept };
+        room = h .room;
+        sum =
+            let n = length-append (st .statements) (row ∷ []) in
+            let x = h .sum block in
+            let y = h .sum statement in
+            let z = h .sum local in
+            let u = h .sum entry in
+            sums _ m T (omega (arith, x)) (omega (arith, n, y)) (omega (arith, z)) (omega (arith, u));
+      })
+
+  -- one entry
+  spend-entry : (l : LocalId) → Has A base T st (λ w. make 0 0 0 1 w + m w) → Sure A base (λ st′. Has A base T st′ m) (tryEntry st l)
+  unfolding tryEntry pushEntry
+  spend-entry l h =
+      within-room (λ st′. Has A base T st′ m) (length (st .entries)) 1024 (pushEntry st l) (λ a. let x = h .sum entry in let y = h .room a entry in omega (arith, x, y)) (λ _.
+      record {
+        scopes = h .scopes;
+        kept = record { locals = h .kept .locals; kept = h .kept .kept };
+        room = h .room;
+        sum =
+            let n = length-append (st .entries) (l .0 ∷ []) in
+            let x = h .sum block in
+            let y = h .sum statement in
+            let z = h .sum local in
+            let u = h .sum entry in
+            sums _ m T (omega (arith, x)) (omega (arith, y)) (omega (arith, z)) (omega (arith, n, u));
+      })
+
+  -- one local
+  spend-local : (word : ℕ) → Has A base T st (λ w. make 0 0 1 0 w + m w) → Sure A base (λ st′. Has A base T st′ m) (tryLocal st word)
+  unfolding tryLocal newLocal
+  spend-local word h =
+      within-room (λ st′. Has A base T st′ m) (length (st .locals)) 512 (newLocal st word) (λ a. let x = h .sum local in let y = h .room a local in omega (arith, x, y)) (λ _.
+      record {
+        scopes = h .scopes;
+        kept = kept-on (h .kept) (record {
+          locals = let e = length-append (st .locals) (word ∷ []) in omega (arith, e);
+          kept = λ i l. List·getD-append (st .locals) (word ∷ []) 0 i l;
+        });
+        room = h .room;
+        sum =
+            let n = length-append (st .locals) (word ∷ []) in
+            let x = h .sum block in
+            let y = h .sum statement in
+            let z = h .sum local in
+            let u = h .sum entry in
+            sums _ m T (omega (arith, x)) (omega (arith, y)) (omega (arith, n, z)) (omega (arith, u));
+      })
+
+  -- a terminator takes no room
+  pub has-terminator : (b : BasicBlockId) (t : Terminator) → Has A base T st m → Has A base T (setTerminator st b t) m
+  unfolding setTerminator
+  has-terminator b t h =
+      record {
+        scopes = h .scopes;
+        kept = record { locals = h .kept .locals; kept = h .kept .kept };
+        room = h .room;
+        sum =
+            let n = length-set (st .blocks) (b .0) (termRow t) in
+            let x = h .sum block in
+            sums _ m T (omega (arith, n, x)) (h .sum statement) (h .sum local) (h .sum entry);
+      }
+
+-- a local made live: an entry and a statement
+pub spend-live : {A : Type 0} {base : Ctx} {T : Table → ℕ} (st : State) (m : Table → ℕ) (l : LocalId) (b : BasicBlockId) → Has A base T st (λ w. make 0 1 0 1 w + m w) →
+    Sure A base (λ st′. Has A base T st′ m) (pushStorageLiveForLocal st l b)
+unfolding pushStorageLiveForLocal
+spend-live {A = A} {base = base} {T = T} st m l b h = by (eqb (length (st .scopes)) 0) refl
+  where
+    by : (x : Bool) → eqb (length (st .scopes)) 0 ≡ x → Sure A base (λ st′. Has A base T st′ m) (cond x (stopped MirLowerError.NoScope) (andThen (tryEntry st l) (λ st₁. tryStatement st₁ (liveRow b l))))
+    by true e = sure-stopped (λ st′. Has A base T st′ m) MirLowerError.NoScope (sym (h .scopes) ∙ eqb-true (length (st .scopes)) 0 e)
+    by false e =
+        sure-then {Q = λ st′. Has A base T st′ m} (tryEntry st l) (λ st₁. tryStatement st₁ (liveRow b l))
+        (spend-entry st (λ w. make 0 1 0 0 w + m w) l (has-by h _ (omega arith) (omega arith) (omega arith) (omega arith)))
+        (λ st₁ h₁. spend-statement st₁ m (liveRow b l) h₁)
+
+-- a temporary: a local made live
+pub spend-temp : {A : Type 0} {base : Ctx} {T : Table → ℕ} (image : List ℕ) (st : State) (m : Table → ℕ) (word : ℕ) (b : BasicBlockId) → Has A base T st (λ w. make 0 1 1 1 w + m w) →
+    Sure A base (λ st′. Has A base T st′ m) (temp image st word b)
+unfolding temp
+spend-temp {A = A} {base = base} {T = T} image st m word b h = by (isSlice image word)
+  where
+    by : (x : Bool) → Sure A base (λ st′. Has A base T st′ m) (cond x (stopped MirLowerError.UnsizedTemporary) (andThen (tryLocal st word) (λ st₁. pushStorageLiveForLocal st₁ (nextLocal st) b)))
+    by true = sure-stopped (λ st′. Has A base T st′ m) MirLowerError.UnsizedTemporary tt
+    by false =
+        sure-then {Q = λ st′. Has A base T st′ m} (tryLocal st word) (λ st₁. pushStorageLiveForLocal st₁ (nextLocal st) b)
+        (spend-local st (λ w. make 0 1 0 1 w + m w) word (has-by h _ (omega arith) (omega arith) (omega arith) (omega arith)))
+        (λ st₁ h₁. spend-live st₁ m (nextLocal st) b h₁)
+
+-- what may still be made once: an else in Check, and the local that tests of enums share. F says whether something can fail, E whether an enum is tested
+abbrev pub onceMore : Bool → Bool → OptBlock → DiscrTemp → Table → ℕ
+onceMore F E els d block = elseMade F els
+onceMore F E els d statement = discrMade E d
+onceMore F E els d local = discrMade E d
+onceMore F E els d entry = discrMade E d
+
+-- the local that all tests of enums share
+pub spend-discr : {A : Type 0} {base : Ctx} {T : Table → ℕ} (image : List ℕ) (st : State) (m : Table → ℕ) (d : DiscrTemp) (b : BasicBlockId) →
+    Has A base T st (λ w. make 0 (discrMade true d) (discrMade true d) (discrMade true d) w + m w) → Sure A base (λ st′. Has A base T st′ m) (discrTempPlace image st d b)
+unfolding discrTempPlace
+spend-discr {A = A} {base = base} {T = T} image st m (DiscrTemp.Some l) b h =
+    sure-done (λ st′. Has A base T st′ m) st (has-by h m (omega arith) (omega arith) (omega arith) (omega arith))
+spend-discr image st m DiscrTemp.None b h = spend-temp image st m 258 b h
+
+-- the else that there is, or a new block
+pub spend-else : {A : Type 0} {base : Ctx} {T : Table → ℕ} (st : State) (m : Table → ℕ) (els : OptBlock) → Has A base T st (λ w. make (elseMade true els) 0 0 0 w + m w) →
+    Sure A base (λ st′. Has A base T st′ m) (elseState st els)
+unfolding elseState
+spend-else {A = A} {base = base} {T = T} st m (OptBlock.Some x) h =
+    sure-done (λ st′. Has A base T st′ m) st (has-by h m (omega arith) (omega arith) (omega arith) (omega arith))
+spend-else st m OptBlock.None h = spend-block st m h

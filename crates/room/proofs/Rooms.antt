@@ -1,0 +1,183 @@
+-- With room by document 01's counts, and a scope open, the lowering of a pattern that fits is accepted; and without room none is. Assumes nothing.
+use mathlib.Core.Path.{_≡_, refl, ap}
+use mathlib.Core.Bool.{Bool, true, false, _||_, false≢true}
+use mathlib.Core.Logic.{_⊎_, ⊎-elim}
+use mathlib.Core.List.{List, [], _∷_}
+use Prim.Native.Nat.{ℕ, _+_, _-_, _*_, _≤_, _<_}
+use native.Mathlib.Nat.{add-mul, mul-add, one-mul, sub-zero}
+use native.Mathlib.Omega.{arith}
+use lib.ListN.{length}
+use Rattle.image.specs.Tables.{typeCount}
+use Rattle.image.specs.Valid.{valid}
+use Rattle.image.specs.Tree.{Pat}
+use Rattle.refusals.specs.declared.MirLowerError.{MirLowerError}
+use Rattle.place.specs.declared.Place.{Place}
+use Rattle.place.specs.declared.place_ty.PlaceTy.{PlaceTy}
+use Rattle.mir.specs.declared.BasicBlockId.{BasicBlockId}
+use Rattle.lower.specs.declared.temps.DiscrTemp.{DiscrTemp}
+use Rattle.lower.specs.declared.merging.OptBlock.{OptBlock}
+use Rattle.pattern_matching.specs.declared.MatchingMode.{MatchingMode}
+use Rattle.pattern_matching.specs.Walking.{Ctx, Out, Walk, ok, refused}
+use Rattle.pattern_matching.specs.Variants.{placeTy}
+use Rattle.pattern_matching.specs.Patterns.{patternMatchInner, patternMatch}
+use Rattle.counting.specs.Reaching.{canFail, Reached}
+use Rattle.counting.specs.Counting.{one, total, reachedFrom, someEnum, blocksOf, statementsOf, discrMade, newBlocks, newStatements}
+use Rattle.counting.proofs.Passing.{checks, binds}
+use Rattle.counting.proofs.Stepping.{has}
+use Rattle.counting.proofs.Whole.{stepped}
+use Rattle.counting.proofs.Tallies.{le-or-lt}
+use Rattle.meaning.specs.Fits.{fits}
+use Rattle.fitted.specs.OnlyLimits.{OnlyLimits}
+use Rattle.fitted.proofs.Building.{kept-same}
+use Rattle.fitted.proofs.Refusing.{fit-refused}
+use Rattle.room.specs.Elements.{elements}
+use Rattle.room.specs.Room.{temporaries, boundLocals, localsOf, entriesOf, newLocals, newEntries, longestPlace, Room, Passed, ScopeOpen, Made}
+use Rattle.room.specs.Room.{tooManyBlocks, tooManyStatements, tooManyLocals, tooManyEntries, tooManyElements}
+use Rattle.room.proofs.Telling.{Tells, Sound, sound-next}
+use Rattle.room.proofs.Building.{Table, block, statement, local, entry, held, limit, onceMore}
+use Rattle.room.proofs.Spending.{spent, At, Ends}
+use Rattle.room.proofs.Trees.{spends-pattern}
+
+-- a sum of sums
+total-both : (g g₁ g₂ : Reached → ℕ) → ((r : Reached) → g r ≡ g₁ r + g₂ r) → (rs : List Reached) → total g rs ≡ total g₁ rs + total g₂ rs
+unfolding total
+total-both g g₁ g₂ e [] = refl
+total-both g g₁ g₂ e (r ∷ rs) = let a = e r in let b = total-both g g₁ g₂ e rs in omega (arith, a, b)
+
+-- what both passes take is what is counted
+abbrev counted : Table → Reached → ℕ
+counted block = blocksOf
+counted statement = statementsOf
+counted local = localsOf
+counted entry = entriesOf
+
+both-passes : (w : Table) (rs : List Reached) → total (counted w) rs ≡ total (spent checks 0 w) rs + total (spent binds 0 w) rs
+both-passes w = total-both (counted w) (spent checks 0 w) (spent binds 0 w) (λ r. by w r)
+  where
+    once : (n t s : ℕ) → (n + 1) * t + s ≡ t + ((n - 0) * t + s)
+    once n t s = let a = add-mul n 1 t in let b = one-mul t in let c : (n - 0) * t ≡ n * t = ap (λ (x : ℕ). x * t) (sub-zero n) in omega (arith, a, b, c)
+
+    each : (n : ℕ) (b : Bool) (t : ℕ) → (n + 1) * t + one b * (n + 1 + 1) ≡ t + one b + ((n - 0) * (t + one b) + one b)
+    each n true t =
+        let a = add-mul n 1 t in let b = mul-add n t 1 in let c = one-mul t in let d : (n - 0) * (t + 1) ≡ n * (t + 1) = ap (λ (x : ℕ). x * (t + 1)) (sub-zero n) in omega (arith, a, b, c, d)
+    each n false t =
+        let a = add-mul n 1 t in let b = mul-add n t 0 in let c = one-mul t in let d : (n - 0) * (t + 0) ≡ n * (t + 0) = ap (λ (x : ℕ). x * (t + 0)) (sub-zero n) in omega (arith, a, b, c, d)
+
+    by : (w : Table) (r : Reached) → counted w r ≡ spent checks 0 w r + spent binds 0 w r
+    by block r = each (r .ors) (r .isOr) (r .tests + one (r .failingAlternative))
+    by statement r = once (r .ors) (r .testStatements) (r .bindStatements)
+    by local r = let a = once (r .ors) (temporaries r) 0 in omega (arith, a)
+    by entry r = once (r .ors) (temporaries r) (boundLocals r)
+
+-- the shared local is not made again
+made-once : (enum : Bool) (d d′ : DiscrTemp) → has d′ ≡ (has d || enum) → discrMade enum d′ ≡ 0
+made-once enum d (DiscrTemp.Some l) e = refl
+made-once false d DiscrTemp.None e = refl
+made-once true (DiscrTemp.Some l) DiscrTemp.None e = absurd (false≢true e)
+made-once true DiscrTemp.None DiscrTemp.None e = absurd (false≢true e)
+
+module _ (image bindings : List ℕ) (root : Pat) (ctx : Ctx) (current : BasicBlockId) (els : OptBlock) (place : Place) (rooted : place .local .0 < length (ctx .state .locals))
+    (whole : length (place .elems) ≡ 16) (short : place .len ≤ 16) where
+  abbrev ty : PlaceTy
+  ty = placeTy image (ctx .state) place
+
+  abbrev rs : List Reached
+  rs = reachedFrom image root ty
+
+  at : At image ctx place ty
+  at = record { on = record { rooted = rooted; whole = whole; typed = refl }; short = short }
+
+  -- how much there is in each table behind both passes
+  abbrev inTheEnd : Table → ℕ
+  inTheEnd w = held w (ctx .state) + (onceMore (canFail image root ty) (someEnum rs) els (ctx .discr) w + (total (spent checks 0 w) rs + (total (spent binds 0 w) rs + 0)))
+
+  -- there is room for that
+  room-for-both : (A : Type 0) → (A → Room image root ctx els place) → A → (w : Table) → inTheEnd w ≤ limit w
+  unfolding newBlocks newStatements newLocals newEntries
+  room-for-both A room a block = let x = room a .blocks in let y = both-passes block rs in omega (arith, x, y)
+  room-for-both A room a statement = let x = room a .statements in let y = both-passes statement rs in omega (arith, x, y)
+  room-for-both A room a local = let x = room a .locals in let y = both-passes local rs in omega (arith, x, y)
+  room-for-both A room a entry = let x = room a .entries in let y = both-passes entry rs in omega (arith, x, y)
+
+  -- what a refusal tells, and what an acceptance has made
+  told : (A : Type 0) → (A → Room image root ctx els place) →
+      Sound A ctx (Ends A ctx inTheEnd (canFail image root ty) (someEnum rs) (λ w. 0) binds place (elements image root ty)) (patternMatch image bindings root ctx current els place)
+  unfolding patternMatch longestPlace
+  told A room =
+      let g = spends-pattern A ctx image bindings root ty in
+      sound-next (patternMatchInner image bindings root MatchingMode.Check ctx current els place) _
+      (g .goes checks 0 inTheEnd (canFail image root ty) (someEnum rs) (λ w. total (spent binds 0 w) rs + 0) ctx current els place at (λ a. room a .elements) (λ t. t) (λ t. t)
+      (record { scopes = refl; kept = kept-same (ctx .state); sum = λ w. refl; room = room-for-both A room })) (λ r h.
+      g .goes binds 0 inTheEnd (canFail image root ty) (someEnum rs) (λ w. 0) (r .ctx) (r .then) (r .else) place at (λ a. room a .elements) (λ t. absurd (false≢true t)) (λ t. t) (h .0))
+
+  -- Whether the pattern fits or not, an accepted lowering makes exactly as many locals and entries as are counted, and comes to no longer place.
+  pub made : (r : Out) → patternMatch image bindings root ctx current els place ≡ ok r → Made image root ctx place r
+  unfolding newLocals newEntries longestPlace
+  made r accepted =
+      let h = told ⊥ (λ never. absurd never) .at r accepted in
+      let shared = made-once (someEnum rs) (ctx .discr) (r .ctx .discr) (stepped image bindings root ctx current els place r rooted whole accepted .discr) in
+      record {
+        locals = let x = h .0 .sum local in let y = both-passes local rs in omega (arith, x, y, shared);
+        entries = let x = h .0 .sum entry in let y = both-passes entry rs in omega (arith, x, y, shared);
+        elements = h .1;
+      }
+
+  -- The theorem beside: whether the pattern fits or not, a refusal by 11 names a limit that is passed ..
+  pub refused-limit : (p : ℕ) → patternMatch image bindings root ctx current els place ≡ refused MirLowerError.Limit p → Passed image root ctx els place
+  refused-limit p stopped = by (le-or-lt B 512) (le-or-lt S 1024) (le-or-lt L 512) (le-or-lt N 1024) (le-or-lt P 16)
+    where
+      none : Room image root ctx els place → ⊥
+      none = told (Room image root ctx els place) (λ room. room) .stop MirLowerError.Limit p stopped
+
+      B : ℕ
+      B = length (ctx .state .blocks) + newBlocks image root ty els
+
+      S : ℕ
+      S = length (ctx .state .statements) + newStatements image root ty (ctx .discr)
+
+      L : ℕ
+      L = length (ctx .state .locals) + newLocals image root ty (ctx .discr)
+
+      N : ℕ
+      N = length (ctx .state .entries) + newEntries image root ty (ctx .discr)
+
+      P : ℕ
+      P = longestPlace image root ty (place .len)
+
+      by : (B ≤ 512) ⊎ (512 < B) → (S ≤ 1024) ⊎ (1024 < S) → (L ≤ 512) ⊎ (512 < L) → (N ≤ 1024) ⊎ (1024 < N) → (P ≤ 16) ⊎ (16 < P) → Passed image root ctx els place
+      by b s l n q =
+          ⊎-elim (λ b. ⊎-elim (λ s. ⊎-elim (λ l. ⊎-elim (λ n. ⊎-elim (λ q. absurd (none (record { blocks = b; statements = s; locals = l; entries = n; elements = q }))) (λ q. tooManyElements q) q)
+          (λ n. tooManyEntries n) n) (λ l. tooManyLocals l) l) (λ s. tooManyStatements s) s) (λ b. tooManyBlocks b) b
+
+  -- .. and one by 14 finds no scope open
+  pub refused-scope : (p : ℕ) → patternMatch image bindings root ctx current els place ≡ refused MirLowerError.NoScope p → length (ctx .state .scopes) ≡ 0
+  refused-scope p stopped = told ⊥ (λ never. absurd never) .stop MirLowerError.NoScope p stopped
+
+-- The theorem: a pattern that fits, with room and a scope open, is accepted.
+pub fit-accepted : (image bindings : List ℕ) (pat : Pat) (ctx : Ctx) (current : BasicBlockId) (els : OptBlock) (place : Place) (t : ℕ) → valid image ≡ true → t < typeCount image →
+    placeTy image (ctx .state) place ≡ PlaceTy.Ty t → place .local .0 < length (ctx .state .locals) → length (place .elems) ≡ 16 →
+    fits image bindings (place .local .0) (ctx .discr) t pat ≡ true → Room image pat ctx els place → ScopeOpen ctx → (r : Out) × (patternMatch image bindings pat ctx current els place ≡ ok r)
+fit-accepted image bindings pat ctx current els place t v there placed rooted whole fit room scope = by (patternMatch image bindings pat ctx current els place) refl
+  where
+    none : (e : MirLowerError) → OnlyLimits e → Tells (Room image pat ctx els place) ctx e → ⊥
+    none MirLowerError.IncompletePattern l told = l
+    none (MirLowerError.TypeError reason) l told = l
+    none MirLowerError.UnresolvedField l told = l
+    none MirLowerError.NotSupported l told = l
+    none MirLowerError.Ellipsis l told = l
+    none MirLowerError.UnsizedTemporary l told = l
+    none MirLowerError.InaccessibleLocal l told = l
+    none MirLowerError.Expr l told = l
+    none MirLowerError.Limit l told = told room
+    none MirLowerError.PlaceType l told = l
+    none MirLowerError.UnresolvedName l told = l
+    none MirLowerError.NoScope l told = omega (arith, told, scope)
+
+    short : place .len ≤ 16
+    short = unfold longestPlace in (let x = room .elements in omega (arith, x))
+
+    by : (w : Walk Out) → patternMatch image bindings pat ctx current els place ≡ w → (r : Out) × (w ≡ ok r)
+    by (ok r) e = (r, refl)
+    by (refused error p) e =
+        absurd (none error (fit-refused image bindings pat ctx current els place t error p v there placed rooted whole fit e)
+        (told image bindings pat ctx current els place rooted whole short (Room image pat ctx els place) (λ room. room) .stop error p e))
