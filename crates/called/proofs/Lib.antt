@@ -3,4 +3,5 @@ mod Given
 mod Visited
 pub mod Bodies
 pub mod Runs
+pub mod Ended
 pub mod Refusals

@@ -78,3 +78,10 @@ read-elsewhere scene env path apart = by (eqb (path .local) (scene .root .local)
         let l = eqb-true (path .local) (scene .root .local) e in
         let p = behind-is (scene .root .elems) (path .elems) rest q in
         absurd (apart rest (λ i. record { local = l i; elems = p i }))
+
+-- with the field 1 of local 0 handed in, its field 0 is read out of what local 0 holds
+pub another-field : (image : List ℕ) (v : Value) (env : Env) →
+    read (record { image = image; root = record { local = 0; elems = ProjectionElem.Field 1 ∷ [] }; here = v }) env (record { local = 0; elems = ProjectionElem.Field 0 ∷ [] })
+    ≡ placeIn (ProjectionElem.Field 0 ∷ []) (valueOf (env 0))
+unfolding read partBehind behindRoot sameElem elemKind elemFirst elemSecond
+another-field image v env = refl
