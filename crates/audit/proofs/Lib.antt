@@ -1,5 +1,7 @@
 pub mod Proved
 pub mod Further
 pub mod Audit
+pub mod Judged
+pub mod Clauses
 pub mod Pinned
 pub mod Parameters

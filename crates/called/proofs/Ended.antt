@@ -17,7 +17,7 @@ use Rattle.meaning.specs.Executing.{atThen, atElse}
 use Rattle.meaning.specs.Matching.{matches}
 use Rattle.meaning.specs.Binding.{binds}
 use Rattle.meaning.specs.Differences.{asTheRustReads}
-use Rattle.correctness.specs.Demand2.{pathOf, Handed, Fitting, Comes, Ends}
+use Rattle.correctness.specs.Demand2.{pathOf, Fitting, Comes, Ends}
 use Rattle.called.specs.Call.{Call, HandedOut, Accepted, before, after, patternOf, startOf, resultOf}
 use Rattle.called.proofs.Bodies.{handed, gives}
 use Rattle.called.proofs.Runs.{taken}

@@ -1,18 +1,16 @@
 -- The run as a function on a lowered pattern: on a value that matches it ends at the end of then, and on any other on reaching the else. Assumes nothing.
 use Prim.Native.Nat.{ℕ, _<_}
-use native.Mathlib.Decide.{ℕ-discrete}
 use native.Mathlib.Omega.{arith}
 use mathlib.Core.Path.{_≡_, refl, sym, ap, _∙_, subst}
 use mathlib.Core.Logic.{_≢_}
 use mathlib.Core.Bool.{true, false}
-use mathlib.Core.List.{List, [], _∷_, append-nil}
+use mathlib.Core.List.{List, [], append-nil}
 use borrow.Author.Tests.{ne-eqb}
 use lib.ListN.{length, drop}
 use Rattle.image.specs.Tables.{patternCount}
 use Rattle.image.specs.Tree.{tree}
 use Rattle.place.specs.declared.Place.{Place}
 use Rattle.mir.specs.declared.BasicBlockId.{BasicBlockId}
-use Rattle.mir.specs.declared.blocks.Terminator.{Terminator}
 use Rattle.state.specs.State.{State}
 use Rattle.lower.specs.declared.merging.OptBlock.{OptBlock}
 use Rattle.views.specs.Views.{Line, Mir, mirOf}
@@ -25,14 +23,14 @@ use Rattle.growth.proofs.Leaving.{some-block, not-none}
 use Rattle.growth.proofs.OpenBlocks.{match-leaves}
 use Rattle.meaning.specs.Values.{Value}
 use Rattle.meaning.specs.Running.{Env}
-use Rattle.meaning.specs.Executing.{Position, atThen, atElse, isElse}
-use Rattle.meaning.specs.Matching.{matches, Bound}
+use Rattle.meaning.specs.Executing.{atThen, atElse, isElse}
+use Rattle.meaning.specs.Matching.{matches}
 use Rattle.meaning.specs.Binding.{binds}
 use Rattle.meaning.specs.Differences.{asTheRustReads}
 use Rattle.meaning.proofs.Agreeing.{standing}
 use Rattle.correctness.specs.Demand2.{pathOf, Handed, Fitting, Comes, Ends}
-use Rattle.correctness.proofs.Trails.{All, all-map₂, distinct-of}
-use Rattle.correctness.proofs.Walking.{rest, rest-is, Walked, Lands}
+use Rattle.correctness.proofs.Trails.{all-map₂, distinct-of}
+use Rattle.correctness.proofs.Walking.{rest, rest-is, Lands}
 use Rattle.correctness.proofs.Landing.{led-on, led-off}
 use Rattle.correctness.proofs.CheckHalf.{sceneOf, comes}
 use Rattle.correctness.proofs.Drawing.{tree-drawn}

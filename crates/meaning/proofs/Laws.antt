@@ -1,5 +1,5 @@
 -- What the definitions that matching and running share mean in plain terms: equal values, their order, the parts of a list, two's complement. Assumes nothing.
-use Prim.Native.Nat.{ℕ, zero, suc, _+_, _-_, _^_, _/_, _≤_, _<_}
+use Prim.Native.Nat.{ℕ, _+_, _-_, _^_, _/_, _≤_, _<_}
 use mathlib.Core.Path.{_≡_, refl, sym, ap, ap₂, _∙_}
 use mathlib.Core.Logic.{_↔_}
 use mathlib.Core.Bool.{Bool, true, false, not, _&&_, _||_, false≢true}
@@ -12,7 +12,6 @@ use lib.IntN.{ℤ, pos, negsuc, negℤ}
 use lib.ListN.{length, take, drop, take-append-drop, length-take, length-drop}
 use lib.Seq.{drop-drop}
 use lib.Signed.{leZ, ltZ}
-use Rattle.image.specs.Integers.{integerValue}
 use Rattle.image.proofs.Bools.{and-left, and-right, and-true}
 use Rattle.mir.specs.declared.rvalues.BinOp.{BinOp}
 use Rattle.meaning.specs.Values.{Value, Int, Bool′, Char, Str, Reference, Comparable, int, bool′, char′, string, derefed, middle}
