@@ -77,9 +77,14 @@ FIT_MODULES = [
 
 # What the rows on fit, meaning and run unfold besides, by the whole of its name.
 MEANING = {
-    "image.specs.Lists": "allTrue distinct",
+    "image.specs.Lists": "allBelow allIn allTrue distinct gather",
     "image.specs.Integers": "leastValue greatestValue inRange integerValue",
-    "image.specs.Operands": "isScalarValue",
+    "image.specs.Operands": "isScalarValue operandValueHolds operandHolds",
+    "image.specs.Rules": "countsWhatFollows versionIsOne tablesFillTheRest typesListed isIntegerSize adtMayHave typeShapeHolds typeHolds variantsBy adtsShareNoVariant "
+    "variantHolds bindingHolds withinLimits",
+    "image.specs.Subpatterns": "ifPresent subpatternsBy",
+    "image.specs.Patterns": "pathHolds patternShapeHolds patternHolds subpatternsBelow usedOnce",
+    "image.specs.Valid": "valid",
     "counting.specs.Reaching": "isEnum isSliceShape behindDerefs fieldCount pathTests zip inARow byFields downcast ofVariant items someArgument allAlternatives canFail",
     "meaning.specs.Values": "items values derefed partsOf middle subslice partAt placeIn intFits kindNumber fieldTypes arrayLength valueFits",
     "meaning.specs.Running": "update valueOf dataBytes signedNumber constantBy constantValue scalarOf bytesOf sameBytes sameValue compared discriminantOf elemKind "
@@ -271,7 +276,7 @@ def judged_rows(rows_):
     for row in rows_:
         label = row.name.replace("_", "-") + "-row"
         discr = "DiscrTemp.None" if row.discr is None else f"DiscrTemp.Some {number(row.discr)}"
-        print(f"abbrev {label} : Judgement\n{label} = record {{ image = {byte_list(row.image.encode())}; ty = {row.place}; locals = {row_of(row.locals)}; discr = {discr}; "
+        print(f"abbrev {label} : Judgement\n{label} = record {{ image = {byte_list(row.image.encode())}; holds = true; ty = {row.place}; locals = {row_of(row.locals)}; discr = {discr}; "
               f"fit = {str(row.fit).lower()}; tried = {row_of(tried(row, *of) for of in row.tried)} }}\n")
 
 

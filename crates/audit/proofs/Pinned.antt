@@ -5,7 +5,7 @@ use mathlib.Core.Path.{_≡_}
 use mathlib.Core.Logic.{_↔_}
 use mathlib.Core.Bool.{Bool, true, false, not, _||_}
 use mathlib.Core.Option.{none, some}
-use mathlib.Core.List.{List, [], _∷_, _++_}
+use mathlib.Core.List.{List, [], _∷_, _++_, map}
 use lib.Dec.{leb, ltb}
 use lib.IntN.{ℤ, pos, negℤ}
 use lib.ListN.{length, take, drop}
@@ -30,6 +30,9 @@ use Rattle.meaning.proofs.Behind as behind
 use Rattle.correctness.specs.Demand2.{pathOf, Fitting, Comes, Ends}
 use Rattle.called.specs.Call.{Call, HandedOut, Accepted, before, after, patternOf, startOf}
 use Rattle.called.proofs.Ended as ended
+use Rattle.audit.specs.Judged.{judged}
+use Rattle.audit.proofs.Judged as kinds
+use Rattle.audit.proofs.Clauses as clauses
 
 -- Integers, bools, chars and references to a str are the same exactly when they are equal.
 pub the-same-exactly-when-equal : (v w : Value) → Comparable v → Comparable w → sameValue v w ≡ true ↔ v ≡ w
@@ -106,3 +109,8 @@ module _ (call : Call) (out : HandedOut) (accepted : Accepted call out) (t : ℕ
       (e : BasicBlockId) × (out .else ≡ OptBlock.Some e) × (c : Comes (call .image) (call .bindings) (mirOf (after out)) (call .place) v (startOf call) (call .start) env [] (e .0) (mirOf (after out) .lines))
       × Ends (call .image) (mirOf (after out)) (call .place) v (startOf call) (call .start) env (out .then) (out .else) (e .0) (mirOf (after out) .lines) (c .stops) atElse
   the-function-runs-any-other-value-to-else = ended.ends-at-else call out accepted t typed named v fitting env
+
+-- Rows, computed from the images' bytes: document 01's corners that are marked [P], every kind of pattern, and each clause of "A pattern fits when" from both sides. Each
+-- image is valid; the fit, what matches, what is bound, and where the run as a function comes are as they were judged by hand.
+pub the-rows-are-as-judged : (map judged kinds.rows ≡ kinds.rows) × (map judged clauses.rows ≡ clauses.rows)
+the-rows-are-as-judged = (kinds.as-judged, clauses.as-judged)

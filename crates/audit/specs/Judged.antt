@@ -5,6 +5,7 @@ use mathlib.Core.List.{List, [], map}
 use Rattle.image.specs.Lists.{upFrom}
 use Rattle.image.specs.Tables.{patternCount, bindingCount}
 use Rattle.image.specs.Tree.{Pat, tree}
+use Rattle.image.specs.Valid.{valid}
 use Rattle.lower.specs.declared.merging.OptBlock.{OptBlock}
 use Rattle.lower.specs.declared.temps.DiscrTemp.{DiscrTemp}
 use Rattle.views.specs.Views.{Mir, Path, mirOf}
@@ -35,10 +36,11 @@ triedValue (notOfType v) = v
 triedValue (unmatched v came) = v
 triedValue (matched v bound came) = v
 
--- an image, the type of local 0, against which its last pattern is taken, the bindings' locals, the discriminant's local if there is one, whether the pattern fits,
--- and values
+-- an image, whether it is valid, the type of local 0, against which its last pattern is taken, the bindings' locals, the discriminant's local if there is one, whether
+-- the pattern fits, and values
 pub record Judgement : Type 0 where
   pub image : List ℕ
+  pub holds : Bool
   pub ty : ℕ
   pub locals : List ℕ
   pub discr : DiscrTemp
@@ -77,6 +79,7 @@ judged row =
     let lowered = lowering image (row .locals) pat (start image (row .ty)) (record { 0 = 0 }) OptBlock.None (localPlace (record { 0 = 0 })) in
     record {
       image = image;
+      holds = valid image;
       ty = row .ty;
       locals = row .locals;
       discr = row .discr;
