@@ -173,7 +173,7 @@ CLAUSES = [
     unfit("string_on_integer", U8, lit(U8, b"a")), unfit("string_on_other", ("ref", U8), lit(("ref", U8), b"a")), unfit("byte_string", TEXT, lit(TEXT, (BYTE_STRING, b"a"))),
     unfit("char_on_integer", U8, lit(U8, "a")), unfit("bool_on_integer", U8, lit(U8, True)), unfit("integer_on_bool", "bool", lit("bool", 1)),
     # "constants and range ends are integer, char or (constants) bool", "a constant in exactly its size"
-    unfit("range_of_bools", "bool", span("bool", const(0), const(1))), unfit("range_of_strings", TEXT, span(TEXT, b"a", b"b")), unfit("constant_too_long", U8, constant(U8, 1, 0)),
+    unfit("range_of_bools", "bool", span("bool", False, True)), unfit("range_of_bool_constants", "bool", span("bool", const(0), const(1))), unfit("range_of_strings", TEXT, span(TEXT, b"a", b"b")), unfit("constant_too_long", U8, constant(U8, 1, 0)),
     unfit("constant_too_short", U16, constant(U16, 1)), unfit("constant_no_bool", "bool", constant("bool", 2)), unfit("constant_no_char", "char", constant("char", 0, 216, 0, 0)),
     unfit("constant_reference", TEXT, constant(TEXT, 1)),
     # "holds a value in its range"

@@ -107,7 +107,10 @@ abbrev integer-on-bool-row : Judgement
 integer-on-bool-row = record { image = 0 ∷ 0 ∷ 0 ∷ 59 ∷ 1 ∷ 0 ∷ 1 ∷ 0 ∷ 0 ∷ 0 ∷ 1 ∷ 0 ∷ 0 ∷ 0 ∷ 3 ∷ 0 ∷ 16 ∷ 0 ∷ 2 ∷ 0 ∷ 0 ∷ 0 ∷ 0 ∷ 0 ∷ 0 ∷ 0 ∷ 1 ∷ 0 ∷ 10 ∷ 0 ∷ 0 ∷ 0 ∷ 0 ∷ 0 ∷ 0 ∷ 0 ∷ 0 ∷ 0 ∷ 0 ∷ 0 ∷ 0 ∷ 0 ∷ 1 ∷ 0 ∷ 0 ∷ 0 ∷ 16 ∷ 1 ∷ 0 ∷ 0 ∷ 0 ∷ 0 ∷ 0 ∷ 0 ∷ 0 ∷ 0 ∷ 0 ∷ 0 ∷ 0 ∷ 0 ∷ 0 ∷ 0 ∷ 0 ∷ []; holds = true; ty = 0; locals = ([]); discr = DiscrTemp.None; fit = false; tried = ([]) }
 
 abbrev range-of-bools-row : Judgement
-range-of-bools-row = record { image = 0 ∷ 0 ∷ 0 ∷ 51 ∷ 1 ∷ 0 ∷ 1 ∷ 0 ∷ 0 ∷ 0 ∷ 1 ∷ 0 ∷ 0 ∷ 0 ∷ 6 ∷ 0 ∷ 2 ∷ 0 ∷ 2 ∷ 0 ∷ 0 ∷ 0 ∷ 0 ∷ 0 ∷ 0 ∷ 0 ∷ 1 ∷ 0 ∷ 7 ∷ 0 ∷ 0 ∷ 0 ∷ 0 ∷ 0 ∷ 0 ∷ 0 ∷ 3 ∷ 0 ∷ 0 ∷ 0 ∷ 0 ∷ 0 ∷ 8 ∷ 0 ∷ 0 ∷ 0 ∷ 1 ∷ 0 ∷ 8 ∷ 0 ∷ 1 ∷ 0 ∷ 1 ∷ 0 ∷ 1 ∷ []; holds = true; ty = 0; locals = ([]); discr = DiscrTemp.None; fit = false; tried = ([]) }
+range-of-bools-row = record { image = 0 ∷ 0 ∷ 0 ∷ 51 ∷ 1 ∷ 0 ∷ 1 ∷ 0 ∷ 0 ∷ 0 ∷ 1 ∷ 0 ∷ 0 ∷ 0 ∷ 6 ∷ 0 ∷ 2 ∷ 0 ∷ 2 ∷ 0 ∷ 0 ∷ 0 ∷ 0 ∷ 0 ∷ 0 ∷ 0 ∷ 1 ∷ 0 ∷ 7 ∷ 0 ∷ 0 ∷ 0 ∷ 0 ∷ 0 ∷ 0 ∷ 0 ∷ 3 ∷ 0 ∷ 0 ∷ 0 ∷ 0 ∷ 0 ∷ 4 ∷ 0 ∷ 0 ∷ 0 ∷ 1 ∷ 0 ∷ 4 ∷ 0 ∷ 1 ∷ 0 ∷ 1 ∷ 0 ∷ 1 ∷ []; holds = true; ty = 0; locals = ([]); discr = DiscrTemp.None; fit = false; tried = ([]) }
+
+abbrev range-of-bool-constants-row : Judgement
+range-of-bool-constants-row = record { image = 0 ∷ 0 ∷ 0 ∷ 51 ∷ 1 ∷ 0 ∷ 1 ∷ 0 ∷ 0 ∷ 0 ∷ 1 ∷ 0 ∷ 0 ∷ 0 ∷ 6 ∷ 0 ∷ 2 ∷ 0 ∷ 2 ∷ 0 ∷ 0 ∷ 0 ∷ 0 ∷ 0 ∷ 0 ∷ 0 ∷ 1 ∷ 0 ∷ 7 ∷ 0 ∷ 0 ∷ 0 ∷ 0 ∷ 0 ∷ 0 ∷ 0 ∷ 3 ∷ 0 ∷ 0 ∷ 0 ∷ 0 ∷ 0 ∷ 8 ∷ 0 ∷ 0 ∷ 0 ∷ 1 ∷ 0 ∷ 8 ∷ 0 ∷ 1 ∷ 0 ∷ 1 ∷ 0 ∷ 1 ∷ []; holds = true; ty = 0; locals = ([]); discr = DiscrTemp.None; fit = false; tried = ([]) }
 
 abbrev range-of-strings-row : Judgement
 range-of-strings-row = record { image = 0 ∷ 0 ∷ 0 ∷ 61 ∷ 1 ∷ 0 ∷ 2 ∷ 0 ∷ 0 ∷ 0 ∷ 1 ∷ 0 ∷ 0 ∷ 0 ∷ 6 ∷ 0 ∷ 2 ∷ 0 ∷ 4 ∷ 0 ∷ 0 ∷ 0 ∷ 0 ∷ 0 ∷ 0 ∷ 0 ∷ 0 ∷ 0 ∷ 7 ∷ 0 ∷ 0 ∷ 0 ∷ 0 ∷ 0 ∷ 0 ∷ 0 ∷ 1 ∷ 0 ∷ 7 ∷ 0 ∷ 1 ∷ 0 ∷ 0 ∷ 0 ∷ 0 ∷ 0 ∷ 3 ∷ 0 ∷ 0 ∷ 0 ∷ 0 ∷ 0 ∷ 5 ∷ 0 ∷ 0 ∷ 0 ∷ 1 ∷ 0 ∷ 5 ∷ 0 ∷ 1 ∷ 0 ∷ 1 ∷ 97 ∷ 98 ∷ []; holds = true; ty = 1; locals = ([]); discr = DiscrTemp.None; fit = false; tried = ([]) }
@@ -227,7 +230,7 @@ abbrev discriminant-apart-row : Judgement
 discriminant-apart-row = record { image = 0 ∷ 0 ∷ 0 ∷ 37 ∷ 1 ∷ 0 ∷ 1 ∷ 0 ∷ 0 ∷ 0 ∷ 1 ∷ 0 ∷ 0 ∷ 0 ∷ 0 ∷ 0 ∷ 0 ∷ 0 ∷ 1 ∷ 0 ∷ 1 ∷ 0 ∷ 0 ∷ 0 ∷ 0 ∷ 0 ∷ 1 ∷ 0 ∷ 3 ∷ 0 ∷ 0 ∷ 0 ∷ 0 ∷ 0 ∷ 0 ∷ 0 ∷ 0 ∷ 0 ∷ 0 ∷ 0 ∷ 0 ∷ []; holds = true; ty = 0; locals = ([]); discr = DiscrTemp.Some (record { 0 = 1 }); fit = true; tried = (matched (Int (pos 1)) ([]) (toThen ([])) ∷ []) }
 
 abbrev pub rows : List Judgement
-rows = other-type-row ∷ fields-swapped-row ∷ fields-in-order-row ∷ wild-behind-row ∷ behind-no-reference-row ∷ wild-of-a-slice-row ∷ wild-of-a-union-row ∷ too-few-row ∷ few-with-dots-row ∷ too-many-with-dots-row ∷ variant-too-few-row ∷ variant-dots-row ∷ field-twice-row ∷ fields-differ-row ∷ twins-row ∷ twins-fields-row ∷ twins-wild-row ∷ array-two-of-three-row ∷ array-four-of-three-row ∷ array-all-row ∷ rest-wild-row ∷ rest-untyped-row ∷ rest-literal-row ∷ rest-bare-bind-row ∷ rest-bind-over-wild-row ∷ string-on-integer-row ∷ string-on-other-row ∷ byte-string-row ∷ char-on-integer-row ∷ bool-on-integer-row ∷ integer-on-bool-row ∷ range-of-bools-row ∷ range-of-strings-row ∷ constant-too-long-row ∷ constant-too-short-row ∷ constant-no-bool-row ∷ constant-no-char-row ∷ constant-reference-row ∷ greatest-row ∷ past-greatest-row ∷ below-least-row ∷ least-row ∷ past-least-row ∷ past-signed-row ∷ end-past-greatest-row ∷ bound-twice-row ∷ bound-over-itself-row ∷ bound-in-both-row ∷ bound-in-one-row ∷ bound-in-last-row ∷ bound-at-two-types-row ∷ rests-of-one-length-row ∷ rests-of-two-lengths-row ∷ expr-reached-row ∷ expr-behind-wild-row ∷ expr-behind-test-row ∷ field-past-row ∷ field-absent-row ∷ variant-of-union-row ∷ tuple-on-struct-row ∷ slice-on-tuple-row ∷ reference-on-integer-row ∷ variant-on-integer-row ∷ variant-of-another-row ∷ no-local-row ∷ no-local-needed-row ∷ local-is-the-root-row ∷ one-local-for-two-row ∷ local-is-the-discriminant-row ∷ root-is-the-discriminant-row ∷ discriminant-apart-row ∷ []
+rows = other-type-row ∷ fields-swapped-row ∷ fields-in-order-row ∷ wild-behind-row ∷ behind-no-reference-row ∷ wild-of-a-slice-row ∷ wild-of-a-union-row ∷ too-few-row ∷ few-with-dots-row ∷ too-many-with-dots-row ∷ variant-too-few-row ∷ variant-dots-row ∷ field-twice-row ∷ fields-differ-row ∷ twins-row ∷ twins-fields-row ∷ twins-wild-row ∷ array-two-of-three-row ∷ array-four-of-three-row ∷ array-all-row ∷ rest-wild-row ∷ rest-untyped-row ∷ rest-literal-row ∷ rest-bare-bind-row ∷ rest-bind-over-wild-row ∷ string-on-integer-row ∷ string-on-other-row ∷ byte-string-row ∷ char-on-integer-row ∷ bool-on-integer-row ∷ integer-on-bool-row ∷ range-of-bools-row ∷ range-of-bool-constants-row ∷ range-of-strings-row ∷ constant-too-long-row ∷ constant-too-short-row ∷ constant-no-bool-row ∷ constant-no-char-row ∷ constant-reference-row ∷ greatest-row ∷ past-greatest-row ∷ below-least-row ∷ least-row ∷ past-least-row ∷ past-signed-row ∷ end-past-greatest-row ∷ bound-twice-row ∷ bound-over-itself-row ∷ bound-in-both-row ∷ bound-in-one-row ∷ bound-in-last-row ∷ bound-at-two-types-row ∷ rests-of-one-length-row ∷ rests-of-two-lengths-row ∷ expr-reached-row ∷ expr-behind-wild-row ∷ expr-behind-test-row ∷ field-past-row ∷ field-absent-row ∷ variant-of-union-row ∷ tuple-on-struct-row ∷ slice-on-tuple-row ∷ reference-on-integer-row ∷ variant-on-integer-row ∷ variant-of-another-row ∷ no-local-row ∷ no-local-needed-row ∷ local-is-the-root-row ∷ one-local-for-two-row ∷ local-is-the-discriminant-row ∷ root-is-the-discriminant-row ∷ discriminant-apart-row ∷ []
 
 -- each row's answers, computed anew, are those that are wanted
 pub as-judged : map judged rows ≡ rows

@@ -8,16 +8,20 @@ use mathlib.Core.Option.{none, some}
 use mathlib.Core.List.{List, [], _∷_, _++_, map}
 use lib.Dec.{leb, ltb}
 use lib.IntN.{ℤ, pos, negℤ}
-use lib.ListN.{length, take, drop}
+use lib.ListN.{length, getD, take, drop}
 use lib.Signed.{leZ, ltZ}
 use Rattle.image.specs.Tables.{typeCount}
+use Rattle.place.specs.declared.LocalId.{LocalId}
 use Rattle.place.specs.declared.elems.ProjectionElem.{ProjectionElem}
 use Rattle.place.specs.declared.place_ty.PlaceTy.{PlaceTy}
 use Rattle.mir.specs.declared.BasicBlockId.{BasicBlockId}
 use Rattle.mir.specs.declared.rvalues.BinOp.{BinOp}
+use Rattle.lower.specs.declared.temps.DiscrTemp.{DiscrTemp}
 use Rattle.lower.specs.declared.merging.OptBlock.{OptBlock}
 use Rattle.pattern_matching.specs.Variants.{placeTy}
-use Rattle.views.specs.Views.{Path, mirOf}
+use Rattle.views.specs.Views.{Path, Mir, mirOf}
+use Rattle.views.specs.Growing.{GoesOn}
+use Rattle.growth.proofs.Working.{goes-on-refl}
 use Rattle.meaning.specs.Values.{Value, Int, Bool′, Char, Comparable, middle, placeIn}
 use Rattle.meaning.specs.Running.{Env, valueOf, signedNumber, sameValue, compared, Scene, sameElem, read}
 use Rattle.meaning.specs.Executing.{atThen, atElse}
@@ -27,7 +31,8 @@ use Rattle.meaning.specs.Differences.{asTheRustReads}
 use Rattle.meaning.proofs.Laws as laws
 use Rattle.meaning.proofs.Crossing as crossing
 use Rattle.meaning.proofs.Behind as behind
-use Rattle.correctness.specs.Demand2.{pathOf, Fitting, Comes, Ends}
+use Rattle.correctness.specs.Demand2.{pathOf, IsNotDiscr, Fitting, Distinct, Comes, Ends}
+use Rattle.correctness.proofs.Plain as plain
 use Rattle.called.specs.Call.{Call, HandedOut, Accepted, before, after, patternOf, startOf}
 use Rattle.called.proofs.Ended as ended
 use Rattle.audit.specs.Judged.{judged}
@@ -95,6 +100,18 @@ pub another-field-is-not-the-one-handed-in : (image : List ℕ) (v : Value) (env
     read (record { image = image; root = record { local = 0; elems = ProjectionElem.Field 1 ∷ [] }; here = v }) env (record { local = 0; elems = ProjectionElem.Field 0 ∷ [] })
     ≡ placeIn (ProjectionElem.Field 0 ∷ []) (valueOf (env 0))
 another-field-is-not-the-one-handed-in = behind.another-field
+
+-- "enters no block twice": of the blocks of a run, two at different places of its way differ.
+pub blocks-of-a-run-differ : (xs : List ℕ) → Distinct xs → (i j : ℕ) → i < j → j < length xs → getD xs i 0 ≡ getD xs j 0 → ⊥
+blocks-of-a-run-differ = plain.distinct-differ
+
+-- The locals of which the page speaks: all where there is no discriminant's local, and else all others.
+pub locals-other-than-the-discriminant's : (d : LocalId) (l : ℕ) → IsNotDiscr DiscrTemp.None l × (IsNotDiscr (DiscrTemp.Some d) l ↔ (l ≡ d .0 → ⊥))
+locals-other-than-the-discriminant's = plain.other-than-discr
+
+-- Every body goes on from itself: what is said of bodies that go on is said of the one that is handed out.
+pub a-body-goes-on-from-itself : (m : Mir) → GoesOn m m
+a-body-goes-on-from-itself = goes-on-refl
 
 -- The run as a function, in the body that the call hands out: with enough steps it ends at the end of then, or on reaching the else, where the run as a relation
 -- comes to, with the bindings and the blocks entered on the way that this one has.

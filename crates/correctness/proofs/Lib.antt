@@ -37,3 +37,4 @@ pub mod Drawing
 pub mod Ending
 pub mod Demand
 pub mod Ended
+pub mod Plain
