@@ -7,9 +7,9 @@ the functions below; a type's equal notations are one type of the image.
 """
 
 from images import (
-    ABSENT, ADT, ARRAY, BIND, BOOL, BOOLEAN, CHAR, CHARACTER, CONSTANT, ENUM, INT, INTEGER, LIT, NAMES_CONSTANT,
-    NAMES_VARIANT, OR, PATH, RANGE, RECORD, REF, REFERENCE, REST, SLICE, SLICE_TYPE, STR,
-    STRING, STRUCT, TUPLE, TUPLE_STRUCT, UNION, WILD, Image,
+    ABSENT, ARRAY, BIND, BOOL, BOOLEAN, CHAR, CHARACTER, CONSTANT, ENUM, INT, INTEGER, LIT,
+    NAMES_CONSTANT, NAMES_VARIANT, OR, PATH, RANGE, RECORD, REF, REFERENCE, REST, SLICE,
+    SLICE_TYPE, STR, STRING, STRUCT, TUPLE, TUPLE_STRUCT, UNION, WILD, Image,
 )
 
 SCALARS = {"u8": (INTEGER, 1), "i8": (INTEGER, 1, 1), "u16": (INTEGER, 2), "bool": (BOOL,),
@@ -47,11 +47,11 @@ class Sketch(Image):
         return self.add_type(kind, self.type(parts[0]), copy=1 if word == "ref" else 0)
 
     def variant(self, written, number):
-        """The number in the table of a type's variant; one past the end of them is another type's, or none."""
+        """The number in the table of a type's variant."""
         return self.types[self.type(written)][1] + number
 
     def operand(self, value):
-        """Where an operand stands: an integer, a bool, a char, a string, a constant's bytes, or a kind and bytes."""
+        """Where an operand stands: an integer, bool, char or string, or a kind and bytes."""
         if value is None:
             return ABSENT
         if isinstance(value, bool):
@@ -76,75 +76,96 @@ def leaf(kind, type_, derefs=0):
 
 
 def wild(type_, derefs=0):
+    """`_`"""
     return leaf(WILD, type_, derefs)
 
 
 def rest(type_, derefs=0):
+    """`..`"""
     return leaf(REST, type_, derefs)
 
 
 def lit(type_, value, derefs=0):
+    """A literal."""
     return lambda m: m.add_pattern(LIT, m.type(type_), m.operand(value), derefs=derefs)
 
 
 def span(type_, start, end, half_open=False):
-    return lambda m: m.add_pattern(RANGE, m.type(type_), m.operand(start), m.operand(end), int(half_open))
+    """A range; an end may be absent."""
+    return lambda m: m.add_pattern(RANGE, m.type(type_), m.operand(start), m.operand(end),
+                                   int(half_open))
 
 
 def constant(type_, *content):
+    """A path to a constant."""
     return lambda m: m.add_pattern(PATH, m.type(type_), NAMES_CONSTANT, m.operand(const(*content)))
 
 
 def unit(type_, variant):
+    """A path to a variant."""
     return lambda m: m.add_pattern(PATH, m.type(type_), NAMES_VARIANT, m.variant(type_, variant))
 
 
 def path(type_, kind, names=0):
+    """A path of a kind that names nothing here, or a number of the table."""
     return lambda m: m.add_pattern(PATH, m.type(type_), kind, names)
 
 
 def bind(type_, binding, over=None, mode=0):
-    return lambda m: m.add_pattern(BIND, m.type(type_), binding, ABSENT if over is None else over(m), mode)
+    """A binding, over a pattern or none; modes as in the image."""
+    return lambda m: m.add_pattern(BIND, m.type(type_), binding,
+                                   ABSENT if over is None else over(m), mode)
 
 
 def refer(type_, inner, derefs=0):
+    """`&inner`"""
     return lambda m: m.add_pattern(REF, m.type(type_), inner(m), derefs=derefs)
 
 
 def row(type_, *args, dots=None, derefs=0):
+    """A tuple pattern; `dots` is where its ellipsis stands."""
     def add(m):
-        items = [arg(m) for arg in args]
-        return m.add_pattern(TUPLE, m.type(type_), m.add_words(*items), len(items), ABSENT if dots is None else dots, derefs=derefs)
+        parts = [arg(m) for arg in args]
+        return m.add_pattern(TUPLE, m.type(type_), m.add_words(*parts), len(parts),
+                             ABSENT if dots is None else dots, derefs=derefs)
     return add
 
 
 def either(type_, *alternatives):
+    """An Or."""
     def add(m):
-        items = [alternative(m) for alternative in alternatives]
-        return m.add_pattern(OR, m.type(type_), m.add_words(*items), len(items))
+        parts = [alternative(m) for alternative in alternatives]
+        return m.add_pattern(OR, m.type(type_), m.add_words(*parts), len(parts))
     return add
 
 
 def fields(type_, variant, *pairs):
+    """A record pattern: fields by their numbers."""
     def add(m):
-        words = [word for field, arg in pairs for word in (ABSENT if field is None else field, arg(m))]
-        return m.add_pattern(RECORD, m.type(type_), m.add_words(*words), len(pairs), m.variant(type_, variant))
+        words = []
+        for field, arg in pairs:
+            words += [ABSENT if field is None else field, arg(m)]
+        return m.add_pattern(RECORD, m.type(type_), m.add_words(*words), len(pairs),
+                             m.variant(type_, variant))
     return add
 
 
 def fields_of(type_, variant, *args, dots=None):
+    """A tuple struct pattern."""
     def add(m):
-        items = [arg(m) for arg in args]
-        return m.add_pattern(TUPLE_STRUCT, m.type(type_), m.add_words(*items), len(items),
+        parts = [arg(m) for arg in args]
+        return m.add_pattern(TUPLE_STRUCT, m.type(type_), m.add_words(*parts), len(parts),
                              ABSENT if dots is None else dots, m.variant(type_, variant))
     return add
 
 
 def items(type_, *front, dots=None, back=()):
+    """A slice pattern: items in front, a rest or none, items at the end."""
     def add(m):
         words = [item(m) for item in (*front, *back)]
         middle = ABSENT if dots is None else dots(m)
-        return m.add_pattern(SLICE, m.type(type_), m.add_words(*words), len(front), len(back), middle)
+        return m.add_pattern(SLICE, m.type(type_), m.add_words(*words), len(front), len(back),
+                             middle)
     return add
 
 
