@@ -1,16 +1,12 @@
 """Wrong definitions, each a change of one line of a crate's specs/.
 
 A change has what it is, the crate, the file, the line, what it becomes, and the statement that
-is then false: a law or a row of the page, a theorem on runs or counts, or a function's contract.
+is then false: a law of the page, its rows, a theorem on runs or counts, or a function's contract.
 """
 
 RUNS = "demand 2 on runs"
 SAME = "the-same-exactly-when-equal"
-
-
-def row(name):
-    """A row of the page."""
-    return f"the row `{name}`"
+ROWS = "the-rows-are-as-judged"
 
 
 CHANGES = (
@@ -45,9 +41,7 @@ CHANGES = (
      "behindRoot [] path = some path", "behindRoot [] path = some []", "behind-the-place-handed-in-lies-its-value"),
     # How a body runs.
     ("a run never reaches the else", "meaning", "Executing", "isElse (OptBlock.Some e) b = eqb b (e .0)", "isElse (OptBlock.Some e) b = false", "the-function-runs-any-other-value-to-else"),
-    ("a run does not stop at then", "meaning", "Executing",
-     "onward next at [] = cond (eqb (at .block) then) (atThen at) (leapt next at (leap (terminatorAt m (at .block)) (at .env)))",
-     "onward next at [] = leapt next at (leap (terminatorAt m (at .block)) (at .env))", "the-function-runs-a-value-that-matches-to-then"),
+    ("without an else a run stops at the first leap", "meaning", "Executing", "isElse OptBlock.None b = false", "isElse OptBlock.None b = true", "the-function-runs-a-value-that-matches-to-then"),
     ("a switch goes the other way", "meaning", "Running",
      "switched held low high then else = cond (eqb (switchNumber (scalarOf (valueOf held))) (low + 18446744073709551616 * high)) then else",
      "switched held low high then else = cond (eqb (switchNumber (scalarOf (valueOf held))) (low + 18446744073709551616 * high)) else then", RUNS),
@@ -70,29 +64,34 @@ CHANGES = (
     ("two items at the end are no difference", "meaning", "Differences", "fewerThanTwo n = ltb n 2", "fewerThanTwo n = ltb n 3", RUNS),
     # When a pattern fits, narrowed.
     ("a wildcard never fits", "meaning", "Fitting",
-     "typesFit (Pat.Wild h) place = typeIsThePlaces image h place", "typesFit (Pat.Wild h) place = false", row("wild")),
+     "typesFit (Pat.Wild h) place = typeIsThePlaces image h place", "typesFit (Pat.Wild h) place = false", ROWS),
+    ("a range never fits", "meaning", "Fits", "nothingRefused (Pat.Range h start end halfOpen) = true", "nothingRefused (Pat.Range h start end halfOpen) = false", ROWS),
     ("a range needs both ends", "meaning", "Fitting",
      "typeIsThePlaces image h place && (isThere start || isThere end) && endFits? shape start && endFits? shape end",
-     "typeIsThePlaces image h place && (isThere start && isThere end) && endFits? shape start && endFits? shape end", row("half-open")),
+     "typeIsThePlaces image h place && (isThere start && isThere end) && endFits? shape start && endFits? shape end", ROWS),
     ("a char literal never fits", "meaning", "Fitting",
-     "literalFits OperandKind.Char image shape bytes = eqb (kindNumber shape) 3", "literalFits OperandKind.Char image shape bytes = false", row("literal-char")),
+     "literalFits OperandKind.Char image shape bytes = eqb (kindNumber shape) 3", "literalFits OperandKind.Char image shape bytes = false", ROWS),
     ("what is not reached must not be refused either", "meaning", "Fits",
      "noneReachedRefused (cons q qs) ty = nothingRefused q && (not (canFail image q ty) || noneReachedRefused qs ty)",
-     "noneReachedRefused (cons q qs) ty = nothingRefused q && noneReachedRefused qs ty", row("expr-behind-wild")),
+     "noneReachedRefused (cons q qs) ty = nothingRefused q && noneReachedRefused qs ty", ROWS),
     ("no slice is a value", "meaning", "Values",
      "eqb (kindNumber (tyOf image t .shape)) 9 && shorter (length (items vs)) && eachFits vs (getD (fieldTypes (tyOf image t .shape)) 0 0)",
-     "eqb (kindNumber (tyOf image t .shape)) 9 && ltb (length (items vs)) 1 && eachFits vs (getD (fieldTypes (tyOf image t .shape)) 0 0)", row("slice-two")),
+     "eqb (kindNumber (tyOf image t .shape)) 9 && ltb (length (items vs)) 1 && eachFits vs (getD (fieldTypes (tyOf image t .shape)) 0 0)", ROWS),
     # When a pattern fits, widened.
-    ("record fields may repeat", "meaning", "Typing", "recordFieldsDiffer fields = distinct (fieldNumbers fields)", "recordFieldsDiffer fields = true", row("field-twice")),
-    ("an Or of no alternatives fits", "meaning", "Fit", "alternativesFit nil = false", "alternativesFit nil = true", row("or-none")),
-    ("a later alternative may bind more", "meaning", "Fit", "sameBindings xs ys = within xs ys && within ys xs", "sameBindings xs ys = within xs ys", row("bound-in-last")),
-    ("a range of bools fits", "meaning", "Fitting", "endFits OperandKind.Bool shape bytes = false", "endFits OperandKind.Bool shape bytes = eqb (kindNumber shape) 2", row("range-of-bools")),
+    ("record fields may repeat", "meaning", "Typing", "recordFieldsDiffer fields = distinct (fieldNumbers fields)", "recordFieldsDiffer fields = true", ROWS),
+    ("an Or of no alternatives fits", "meaning", "Fit", "alternativesFit nil = false", "alternativesFit nil = true", ROWS),
+    ("a later alternative may bind more", "meaning", "Fit", "sameBindings xs ys = within xs ys && within ys xs", "sameBindings xs ys = within xs ys", ROWS),
+    ("alternatives may bind at other types", "meaning", "Fit",
+     "standsIn x (y ∷ ys) = (eqb (x .binding) (y .binding) && eqb (x .ty) (y .ty) && sameCount (x .left) (y .left)) || standsIn x ys",
+     "standsIn x (y ∷ ys) = (eqb (x .binding) (y .binding) && sameCount (x .left) (y .left)) || standsIn x ys", ROWS),
+    ("alternatives may bind rests of other lengths", "meaning", "Fit", "sameCount (some m) (some n) = eqb m n", "sameCount (some m) (some n) = true", ROWS),
+    ("a range of bools fits", "meaning", "Fitting", "endFits OperandKind.Bool shape bytes = false", "endFits OperandKind.Bool shape bytes = eqb (kindNumber shape) 2", ROWS),
     ("a rest may be any binding", "meaning", "Typing",
-     "restFits (sub (Pat.Bind h b s how annotation)) = isRest? s", "restFits (sub (Pat.Bind h b s how annotation)) = true", row("rest-bare-bind")),
+     "restFits (sub (Pat.Bind h b s how annotation)) = isRest? s", "restFits (sub (Pat.Bind h b s how annotation)) = true", ROWS),
     ("discriminants may be the same", "meaning", "Typing",
      "discriminantsDiffer image (adt AdtKind.Enum variants) = distinct (map (λ v. variantOf image v .discriminant) variants)",
      "discriminantsDiffer image (adt AdtKind.Enum variants) = true", RUNS),
-    ("arguments may be fewer than fields", "meaning", "Typing", "argumentsFit none args fields = eqb args fields", "argumentsFit none args fields = leb args fields", RUNS),
+    ("arguments may be fewer than fields", "meaning", "Typing", "argumentsFit none args fields = eqb args fields", "argumentsFit none args fields = leb args fields", ROWS),
     ("an array's items may be fewer than its length", "meaning", "Typing", "itemsFit (array t n) no count = eqb count n", "itemsFit (array t n) no count = leb count n", RUNS),
     ("an integer out of range fits", "meaning", "Typing",
      "integerFits (integer size signed) negative bytes = inRange size signed (integerValue negative bytes)", "integerFits (integer size signed) negative bytes = true", RUNS),
@@ -104,8 +103,8 @@ CHANGES = (
      "hasLocal bindings b = not (eqb (getD bindings b 65535) 65535)", "hasLocal bindings b = true", "a-fitting-pattern-is-refused-by-11-or-14-alone"),
     ("an array of another length is a value", "meaning", "Values",
      "eqb (kindNumber (tyOf image t .shape)) 8 && eqb (length (items vs)) (arrayLength (tyOf image t .shape))",
-     "eqb (kindNumber (tyOf image t .shape)) 8 && leb (length (items vs)) (arrayLength (tyOf image t .shape))", RUNS),
-    ("every integer is a value", "meaning", "Values", "intFits (integer size signed) z = inRange size signed z", "intFits (integer size signed) z = true", row("wild")),
+     "eqb (kindNumber (tyOf image t .shape)) 8 && eqb (length (items vs)) (length (items vs))", ROWS),
+    ("every integer is a value", "meaning", "Values", "intFits (integer size signed) z = inRange size signed z", "intFits (integer size signed) z = true", ROWS),
     # What demand 2 says of a run.
     ("bindings change nothing", "correctness", "Demand2",
      "after bindings (b ∷ bs) l held = after bindings bs l (cond (eqb l (getD bindings (b .binding) 65535)) (b .what) held)",
