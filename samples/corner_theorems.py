@@ -2,10 +2,11 @@
 
 `python3 samples/corner_theorems.py proved > crates/audit/proofs/Proved.antt` prints
 those that document 01 marks [P], with `further` the others that are small, for
-crates/audit/proofs/Further.antt, and with `params` those on parameters, for
-crates/param_runs/proofs/Corners.antt. The answers are those of lowering.py and of
-params.py; then format the files. With `--check` it fails if a file is not what it
-prints, but for its layout.
+crates/audit/proofs/Further.antt, with `params` those on parameters, for
+crates/param_runs/proofs/Corners.antt, and with `judged` and `clauses` those on fit,
+meaning and run, for crates/audit/proofs/Judged.antt and Clauses.antt. The answers are
+those of lowering.py, of params.py and of judged.py; then format the files. With `--check` it fails if a file is not what
+it prints, but for its layout.
 """
 
 import contextlib
@@ -17,12 +18,10 @@ sys.dont_write_bytecode = True
 
 from corners import CORNERS
 from images import ABSENT, broken, decode
+from judged import CLAUSES, KINDS, MARKED, PROVED
 from lowering import lower, root_type
 from params import PARAM_CORNERS, UNFIT, lower_params
 from theorems import byte_list
-
-PROVED = ["wild", "literal7", "range", "or_1_2", "wild_or_2", "or_none", "slice_two", "array",
-          "slice_any", "tuple_ellipsis", "ellipsis_2", "ellipsis_3"]
 
 SMALL = 500
 
@@ -76,7 +75,38 @@ FIT_MODULES = [
     ("meaning", "Running", "scalarOf bytesOf sameValue"),
 ]
 
-FILES = {"proved": "audit/proofs/Proved", "further": "audit/proofs/Further", "params": "param_runs/proofs/Corners"}
+# What the rows on fit, meaning and run unfold besides, by the whole of its name.
+MEANING = {
+    "image.specs.Lists": "allBelow allIn allTrue distinct gather",
+    "image.specs.Integers": "leastValue greatestValue inRange integerValue",
+    "image.specs.Operands": "isScalarValue operandValueHolds operandHolds",
+    "image.specs.Rules": "countsWhatFollows versionIsOne tablesFillTheRest typesListed isIntegerSize adtMayHave typeShapeHolds typeHolds variantsBy adtsShareNoVariant "
+    "variantHolds bindingHolds withinLimits",
+    "image.specs.Subpatterns": "ifPresent subpatternsBy",
+    "image.specs.Patterns": "pathHolds patternShapeHolds patternHolds subpatternsBelow usedOnce",
+    "image.specs.Valid": "valid",
+    "counting.specs.Reaching": "isEnum isSliceShape behindDerefs fieldCount pathTests zip inARow byFields downcast ofVariant items someArgument allAlternatives canFail",
+    "meaning.specs.Values": "items values derefed partsOf middle subslice partAt placeIn intFits kindNumber fieldTypes arrayLength valueFits",
+    "meaning.specs.Running": "update valueOf dataBytes signedNumber constantBy constantValue scalarOf bytesOf sameBytes sameValue compared discriminantOf elemKind "
+    "elemFirst elemSecond sameElem behindRoot partBehind read ofPlaceValue leftValue rvalueValue execute switched",
+    "meaning.specs.Executing": "runs",
+    "meaning.specs.Matching": "onto crossed crossedPath evaluated created fromStart toEnd matchAll matchRow matchFields isVariant pathMatches matches boundAs bindAll "
+    "rowFields recordFields lastItems variantPath",
+    "meaning.specs.Binding": "restBinds restBinds? binds",
+    "meaning.specs.Typing": "referent behind typeIsThePlaces tupleFields variantsOf variantFields argumentsFit fieldNumbers discriminantsDiffer itemsFit elementType "
+    "restFits integerFits refersToStr",
+    "meaning.specs.Fitting": "constantFits literalFits endFits pathFits eachFits rowFits fieldType byFieldsFit itemsAllFit typesFit",
+    "meaning.specs.Fit": "standsIn within restTy restBound restBound? patCount boundIn bindingsFit",
+    "meaning.specs.Fits": "hasVariant fieldsThere pathTaken restTaken nothingRefused present localsDiffer fits",
+}
+
+FILES = {"proved": "audit/proofs/Proved", "further": "audit/proofs/Further", "params": "param_runs/proofs/Corners", "judged": "audit/proofs/Judged",
+         "clauses": "audit/proofs/Clauses"}
+
+JUDGED = {
+    "judged": ("document 01's corners that are marked [P], and every kind of pattern, operand and binding", MARKED + KINDS),
+    "clauses": ("each clause of document 01's \"A pattern fits when\", from both sides", CLAUSES),
+}
 
 HEAD = """-- {what}, lowered by computation from the images' bytes: each row has {has}, and the answer with the
 -- whole content of its listing and the visits. The rows are written out by samples/corner_theorems.py. Assumes nothing.
@@ -203,13 +233,51 @@ def small(name, image):
 
 
 def value(of):
-    """A value."""
+    """A value, in judged.py's notation; a tuple that begins with a number is a variant too."""
+    if isinstance(of, bool):
+        return f"Bool′ {str(of).lower()}"
     if isinstance(of, int):
-        return f"Int (pos {of})"
+        return f"Int (pos {of})" if of >= 0 else f"Int (negsuc {-1 - of})"
+    if isinstance(of, str):
+        return f"Char {ord(of)}"
+    if isinstance(of, bytes):
+        return f"Reference (Str {row_of(of)})"
+    word, *parts = of[1:] if of[0] == "of" else of
+    if word == "ref":
+        return f"Reference ({value(parts[0])})"
     fields = "nil"
-    for field in reversed(of[1:]):
+    for field in reversed(parts):
         fields = f"(cons ({value(field)}) {fields})"
-    return f"Tuple {fields}" if of[0] == "tuple" else f"Variant {of[0]} {fields}"
+    return f"Variant {word} {fields}" if isinstance(word, int) else f"{word.capitalize()} {fields}"
+
+
+def held(of):
+    """What a local holds: a value, or a reference to a part of local 0."""
+    if isinstance(of, tuple) and of[0] in ("by ref", "by mut"):
+        return f"refersTo {'true' if of[0] == 'by mut' else 'false'} {place((0, of[1]))}"
+    return f"value ({value(of)})"
+
+
+def tried(row, answer, of, bound, then):
+    """A value, with what is wanted of it."""
+    if answer == "stranger":
+        return f"notOfType ({value(of)})"
+    if then is None and answer == "matched":
+        then = [dict(bound).get(binding, ("tuple",)) for binding in range(len(row.locals))]
+    came = "toElse" if then is None else f"(toThen {row_of(map(held, then))})"
+    if answer == "unmatched":
+        return f"unmatched ({value(of)}) {came}"
+    pairs = row_of(f"record {{ binding = {binding}; what = {held(what)} }}" for binding, what in bound)
+    return f"matched ({value(of)}) {pairs} {came}"
+
+
+def judged_rows(rows_):
+    """A declaration for each row on fit, meaning and run."""
+    for row in rows_:
+        label = row.name.replace("_", "-") + "-row"
+        discr = "DiscrTemp.None" if row.discr is None else f"DiscrTemp.Some {number(row.discr)}"
+        print(f"abbrev {label} : Judgement\n{label} = record {{ image = {byte_list(row.image.encode())}; holds = true; ty = {row.place}; locals = {row_of(row.locals)}; discr = {discr}; "
+              f"fit = {str(row.fit).lower()}; tried = {row_of(tried(row, *of) for of in row.tried)} }}\n")
 
 
 def param_rows():
@@ -261,6 +329,9 @@ def print_file(kind):
     if kind == "params":
         print_params()
         return
+    if kind in JUDGED:
+        print_judged(*JUDGED[kind])
+        return
     proved = kind == "proved"
     names = PROVED if proved else [name for name, image in CORNERS if small(name, image)]
     present = [name.replace("_", "-") + "-row" for name, _ in CORNERS if name in names]
@@ -289,6 +360,32 @@ use Rattle.param_runs.specs.Corner.{start, unbound, answer, Answer, acce
     print("\n-- whether the parameters fit the values beside them, as the theorem on runs asks")
     print("pub fit-as-said : map cornerFits rows ≡ map (λ (row : Row). row .fit) rows")
     print(f"unfolding {unfolded} Rattle.meaning.specs.Typing.variantFields ownLocal plain patternFits paramFits paramsFit allFit paramsBound cornerFits\nfit-as-said = refl")
+
+
+def print_judged(what, rows_):
+    """Prints a file on fit, meaning and run."""
+    print(f"""-- Whether patterns fit, what they match and bind, and where a run comes, computed from the images' bytes: {what}. What is wanted was written by hand in
+-- samples/judged.py, from which samples/corner_theorems.py writes the rows out. Assumes nothing.
+use Prim.Native.Nat.{{ℕ}}
+use mathlib.Core.Path.{{_≡_, refl}}
+use mathlib.Core.Bool.{{true, false}}
+use mathlib.Core.List.{{List, [], _∷_, map}}
+use lib.IntN.{{pos, negsuc}}
+use Rattle.place.specs.declared.elems.ProjectionElem.{{ProjectionElem}}
+use Rattle.lower.specs.declared.temps.DiscrTemp.{{DiscrTemp}}
+use Rattle.meaning.specs.Values.{{Value, Int, Bool′, Char, Str, Tuple, Variant, Reference, Array, Slice, nil, cons}}
+use Rattle.meaning.specs.Running.{{Held, value, refersTo}}
+use Rattle.meaning.specs.Matching.{{Bound}}
+use Rattle.audit.specs.Started.{{startState, start}}
+use Rattle.audit.specs.Judged.{{toThen, toElse, notOfType, unmatched, matched, Judgement, try, judged}}
+""")
+    judged_rows(rows_)
+    lowered = [f"Rattle.{crate}.specs.{module}.{name}" for crate, module, names in MODULES for name in names.split()]
+    meant = [f"Rattle.{module}.{name}" for module, names in MEANING.items() for name in names.split()]
+    print(f"abbrev pub rows : List Judgement\nrows = {row_of(row.name.replace('_', '-') + '-row' for row in rows_)[1:-1]}\n")
+    print("-- each row's answers, computed anew, are those that are wanted")
+    print("pub as-judged : map judged rows ≡ rows")
+    print(f"unfolding {' '.join(lowered + meant)} startState start try judged\nas-judged = refl")
 
 
 if __name__ == "__main__":

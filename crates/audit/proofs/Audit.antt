@@ -7,6 +7,7 @@ use mathlib.Core.Bool.{true, false}
 use mathlib.Core.List.{[], map}
 use lib.ListN.{getD, drop}
 use Rattle.refusals.specs.declared.MirLowerError.{MirLowerError}
+use Rattle.refusals.specs.Refusals.{numberOf}
 use Rattle.image.specs.declared.PatId.{PatId}
 use Rattle.image.specs.Tables.{typeCount}
 use Rattle.place.specs.declared.place_ty.PlaceTy.{PlaceTy}
@@ -29,7 +30,6 @@ use Rattle.meaning.specs.Binding.{binds}
 use Rattle.meaning.specs.Fits.{fits}
 use Rattle.meaning.specs.Differences.{asTheReference, asTheRustReads}
 use Rattle.correctness.specs.Demand2.{pathOf, Fitting, Stops, Comes}
-use Rattle.fitted.specs.OnlyLimits.{OnlyLimits}
 use Rattle.called.specs.Call.{Call, HandedOut, Accepted, Refused, before, after, patternOf, startOf, resultOf}
 use Rattle.called.proofs.Runs.{if-it-matches, if-not, stops, if-the-rust-matches, if-the-rust-does-not}
 use Rattle.called.proofs.Bodies.{gives, only-those-open, those-open, else-kept, counted, reached-visits, other-visits}
@@ -109,7 +109,7 @@ module _ (call : Call) (out : HandedOut) (accepted : Accepted call out) where
 
 -- A pattern that fits is refused for a limit (11) or for want of a scope (14) alone.
 pub a-fitting-pattern-is-refused-by-11-or-14-alone : (call : Call) (e : MirLowerError) (p : PatId) (t : ℕ) → Refused call e p → placeTy (call .image) (before call) (call .place) ≡ PlaceTy.Ty t →
-    t < typeCount (call .image) → fits (call .image) (call .bindings) (call .place .local .0) (call .discr) t (patternOf call) ≡ true → OnlyLimits e
+    t < typeCount (call .image) → fits (call .image) (call .bindings) (call .place .local .0) (call .discr) t (patternOf call) ≡ true → (numberOf e ≡ 11) ⊎ (numberOf e ≡ 14)
 a-fitting-pattern-is-refused-by-11-or-14-alone = fit-refused
 
 -- The corners of pattern_matching.rs that document 01 marks [P], from the bytes of their images.

@@ -3,5 +3,6 @@ mod Given
 mod Visited
 pub mod Bodies
 pub mod Runs
+pub mod Ended
 pub mod Refusals
 pub mod Acceptances

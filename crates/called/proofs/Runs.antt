@@ -22,15 +22,16 @@ use Rattle.correctness.specs.Demand2.{pathOf, Handed, Fitting, Stops, Comes}
 use Rattle.called.specs.Call.{Call, HandedOut, Accepted, before, after, patternOf, startOf, resultOf}
 use Rattle.called.proofs.Bodies.{handed, gives}
 
+-- what the call was handed, as the theorems over the definition ask for it
+pub taken : (call : Call) (out : HandedOut) → Accepted call out → (t : ℕ) → placeTy (call .image) (before call) (call .place) ≡ PlaceTy.Ty t → t < typeCount (call .image) →
+    Handed (call .image) (call .bindings) (startOf call) (call .start) (call .else) (call .place) t
+taken call out accepted t typed named =
+    let G = handed call out accepted in
+    record { starts = G .starts; elements = call .elements; within = G .within; root = G .root; placed = typed; named = named }
+
 module _ (call : Call) (out : HandedOut) (accepted : Accepted call out) (t : ℕ) (typed : placeTy (call .image) (before call) (call .place) ≡ PlaceTy.Ty t)
     (named : t < typeCount (call .image)) (v : Value) (fitting : Fitting (call .image) (call .bindings) (startOf call) (call .place) t (patternOf call) v) (M : Mir)
     (goes-on : GoesOn (mirOf (after out)) M) (env : Env) where
-  -- what the call was handed, as the theorems over the definition ask for it
-  taken : Handed (call .image) (call .bindings) (startOf call) (call .start) (call .else) (call .place) t
-  taken =
-      let G = handed call out accepted in
-      record { starts = G .starts; elements = call .elements; within = G .within; root = G .root; placed = typed; named = named }
-
   -- a value that matches comes to then
   pub if-it-matches : asTheReference (patternOf call) ≡ true → matches (call .image) (patternOf call) v ≡ true →
       Comes (call .image) (call .bindings) M (call .place) v (startOf call) (call .start) env (binds (call .image) (patternOf call) (pathOf (call .place)) v) (out .then .0)
@@ -39,14 +40,14 @@ module _ (call : Call) (out : HandedOut) (accepted : Accepted call out) (t : ℕ
       subst
       (λ (n : ℕ). Comes (call .image) (call .bindings) M (call .place) v (startOf call) (call .start) env (binds (call .image) (patternOf call) (pathOf (call .place)) v) (out .then .0) (drop n (M .lines)))
       (statement-count (out .body) (out .counts))
-      (Rattle.correctness.proofs.Demand.if-it-matches (call .image) (call .bindings) (call .pattern) (startOf call) (call .start) (call .else) (call .place) t v (handed call out accepted .there) taken
+      (Rattle.correctness.proofs.Demand.if-it-matches (call .image) (call .bindings) (call .pattern) (startOf call) (call .start) (call .else) (call .place) t v (handed call out accepted .there) (taken call out accepted t typed named)
       fitting (resultOf out) (gives call out accepted) M goes-on env unlisted e)
 
   -- any other comes to else
   pub if-not : asTheReference (patternOf call) ≡ true → matches (call .image) (patternOf call) v ≡ false →
       (e : BasicBlockId) × (out .else ≡ OptBlock.Some e) × Comes (call .image) (call .bindings) M (call .place) v (startOf call) (call .start) env [] (e .0) (M .lines)
   if-not =
-      Rattle.correctness.proofs.Demand.if-not (call .image) (call .bindings) (call .pattern) (startOf call) (call .start) (call .else) (call .place) t v (handed call out accepted .there) taken fitting
+      Rattle.correctness.proofs.Demand.if-not (call .image) (call .bindings) (call .pattern) (startOf call) (call .start) (call .else) (call .place) t v (handed call out accepted .there) (taken call out accepted t typed named) fitting
       (resultOf out) (gives call out accepted) M goes-on env
 
   -- "the run enters no block twice and stops at then or else"
@@ -58,7 +59,7 @@ module _ (call : Call) (out : HandedOut) (accepted : Accepted call out) (t : ℕ
       ⊎ ((e : BasicBlockId) × (out .else ≡ OptBlock.Some e) × Stops (call .image) M (call .place) v (startOf call) (call .start) env (e .0) (M .lines)))
       (statement-count (out .body) (out .counts))
       (Rattle.correctness.proofs.Demand.stops-at-then-or-else (call .image) (call .bindings) (call .pattern) (startOf call) (call .start) (call .else) (call .place) t v (handed call out accepted .there)
-      taken fitting (resultOf out) (gives call out accepted) M goes-on env)
+      (taken call out accepted t typed named) fitting (resultOf out) (gives call out accepted) M goes-on env)
 
   -- a value that matches, as the Rust reads the pattern, comes to then
   pub if-the-rust-matches : matches (call .image) (asTheRustReads (patternOf call)) v ≡ true →
@@ -70,11 +71,11 @@ module _ (call : Call) (out : HandedOut) (accepted : Accepted call out) (t : ℕ
       Comes (call .image) (call .bindings) M (call .place) v (startOf call) (call .start) env (binds (call .image) (asTheRustReads (patternOf call)) (pathOf (call .place)) v) (out .then .0) (drop n (M .lines)))
       (statement-count (out .body) (out .counts))
       (Rattle.correctness.proofs.Demand.if-the-rust-matches (call .image) (call .bindings) (call .pattern) (startOf call) (call .start) (call .else) (call .place) t v (handed call out accepted .there)
-      taken fitting (resultOf out) (gives call out accepted) M goes-on env e)
+      (taken call out accepted t typed named) fitting (resultOf out) (gives call out accepted) M goes-on env e)
 
   -- any other comes to else
   pub if-the-rust-does-not : matches (call .image) (asTheRustReads (patternOf call)) v ≡ false →
       (e : BasicBlockId) × (out .else ≡ OptBlock.Some e) × Comes (call .image) (call .bindings) M (call .place) v (startOf call) (call .start) env [] (e .0) (M .lines)
   if-the-rust-does-not =
       Rattle.correctness.proofs.Demand.if-the-rust-does-not (call .image) (call .bindings) (call .pattern) (startOf call) (call .start) (call .else) (call .place) t v (handed call out accepted .there)
-      taken fitting (resultOf out) (gives call out accepted) M goes-on env
+      (taken call out accepted t typed named) fitting (resultOf out) (gives call out accepted) M goes-on env

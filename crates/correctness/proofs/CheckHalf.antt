@@ -64,7 +64,7 @@ check-half image bindings pat ctx current els place t v r M env h f d is x =
     .lands t (fitting-types f) ctx current els place v (handed-root h v) (handed-stands h v) (f .value) (h .starts) r is x env
 
 -- a walk as demand 2 says it
-pub comes : {image bindings : List ℕ} {M : Mir} {place : Place} {v : Value} {ctx ctx₁ : Ctx} {current : BasicBlockId} {env : Env} {bs : List Bound} {b : ℕ} {left : List Line} →
+unfoldable pub comes : {image bindings : List ℕ} {M : Mir} {place : Place} {v : Value} {ctx ctx₁ : Ctx} {current : BasicBlockId} {env : Env} {bs : List Bound} {b : ℕ} {left : List Line} →
     Walked (sceneOf image place v) bindings M ctx (current .0) env bs ctx₁ b left → Comes image bindings M place v ctx current env bs b left
 unfolding rest
 comes {current} w =

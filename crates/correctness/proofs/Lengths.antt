@@ -35,7 +35,7 @@ use Rattle.growth.specs.Opened.{count, Ready, Leaves}
 use Rattle.growth.proofs.Opening.{opens-block, opens-else, adds-temp, adds-statement, adds-discr, place-block}
 use Rattle.growth.proofs.Testing.{good-length, good-discriminant}
 use Rattle.meaning.specs.Values.{Value, Int, partsOf, placeIn}
-use Rattle.meaning.specs.Running.{Held, value, Env, update, valueOf, constantValue, scalarOf, compared, discriminantOf, Scene, read, ofPlaceValue, leftValue, rvalueValue, execute, switchNumber}
+use Rattle.meaning.specs.Running.{Held, value, Env, update, valueOf, constantValue, scalarOf, compared, discriminantOf, Scene, partBehind, read, ofPlaceValue, leftValue, rvalueValue, execute, switchNumber}
 use Rattle.correctness.specs.Demand2.{pathOf}
 use Rattle.correctness.proofs.Walking.{Lands}
 use Rattle.correctness.proofs.Sharing.{opens-locals, adds-locals, not-discr}
@@ -57,7 +57,7 @@ number-switched m low high = refl
 -- a length against a local that holds another
 length-compared : (scene : Scene) (env : Env) (n len l : ℕ) → scene .root .local < l → env l ≡ value (Int (pos len)) →
     compared BinOp.Le (leftValue (Left.Constant (lengthConstant n)) scene env) (read scene env (pathOf (localPlace (record { 0 = l })))) ≡ leb n len
-unfolding compared leftValue constantValue lengthConstant read localPlace projectionOf placeIn scalarOf valueOf
+unfolding compared leftValue constantValue lengthConstant read partBehind localPlace projectionOf placeIn scalarOf valueOf
 length-compared scene env n len l h e =
     let plain : n + 18446744073709551616 * 0 ≡ n = omega arith in
     let there : eqb l (scene .root .local) ≡ false = ne-eqb l (scene .root .local) (omega arith) in

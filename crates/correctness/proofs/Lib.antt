@@ -34,4 +34,7 @@ pub mod BindingLocals
 pub mod BindingOr
 pub mod Bound
 pub mod Drawing
+pub mod Ending
 pub mod Demand
+pub mod Ended
+pub mod Plain

@@ -21,6 +21,7 @@ use Rattle.pattern_matching.specs.Variants.{placeTy}
 use Rattle.growth.specs.Opened.{Starts}
 use Rattle.meaning.specs.Values.{Value, valueFits}
 use Rattle.meaning.specs.Running.{Held, Env, Run}
+use Rattle.meaning.specs.Executing.{Position, Ending, runs}
 use Rattle.meaning.specs.Matching.{Bound}
 use Rattle.meaning.specs.Fits.{fits}
 
@@ -79,3 +80,12 @@ pub record Stops (image : List ℕ) (M : Mir) (place : Place) (v : Value) (ctx :
 pub record Comes (image bindings : List ℕ) (M : Mir) (place : Place) (v : Value) (ctx : Ctx) (current : BasicBlockId) (env : Env) (bs : List Bound) (b : ℕ) (left : List Line) : Type 0 where
   pub stops : Stops image M place v ctx current env b left
   pub locals : (l : ℕ) → l < length (ctx .state .locals) → IsNotDiscr (ctx .discr) l → stops .env′ l ≡ after bindings bs l (env l)
+
+-- The run as a function, in the body m that the call hands out, ends where a run as a relation comes to, with as many steps as it takes: `at` is `atThen`, at the
+-- end of then, or `atElse`, on reaching the else.
+pub record Ends (image : List ℕ) (m : Mir) (place : Place) (v : Value) (ctx : Ctx) (current : BasicBlockId) (env : Env) (then : BasicBlockId) (else : OptBlock) (b : ℕ) (left : List Line)
+    (stops : Stops image m place v ctx current env b left) (at : Position → Ending) : Type 0 where
+  pub enough : ℕ
+  pub ends : runs (record { image = image; root = pathOf place; here = v }) m (then .0) else enough
+      (record { block = current .0; lines = drop (length (ctx .state .statements)) (m .lines); env = env; entered = [] })
+      ≡ at (record { block = b; lines = left; env = stops .env′; entered = stops .entered })

@@ -1,5 +1,6 @@
 -- A fitting pattern is refused with a limit only: by induction over the tree. Assumes nothing.
 use mathlib.Core.Path.{_≡_, refl, sym, ap, subst, _∙_}
+use mathlib.Core.Logic.{_⊎_}
 use mathlib.Core.Bool.{Bool, true, false, not, _&&_, _||_, false≢true}
 use mathlib.Core.Option.{Option, some}
 use mathlib.Core.List.{List, [], _∷_}
@@ -14,6 +15,7 @@ use Rattle.image.specs.Types.{Shape, integer, bool, char, str, tuple, adt, refe
 use Rattle.image.specs.Tree.{Head, Target, unresolved, variant, local, constant, other, Pat, Pats, nil, cons, PatOpt, no, sub}
 use Rattle.image.proofs.Bools.{and-left, and-right, all-true-at}
 use Rattle.refusals.specs.declared.MirLowerError.{MirLowerError}
+use Rattle.refusals.specs.Refusals.{numberOf}
 use Rattle.place.specs.declared.Place.{Place}
 use Rattle.place.specs.declared.elems.ProjectionElem.{ProjectionElem}
 use Rattle.place.specs.declared.place_ty.PlaceTy.{PlaceTy}
@@ -38,8 +40,7 @@ use Rattle.meaning.specs.Fit.{patCount, bindingsFit}
 use Rattle.meaning.specs.Fits.{fits, localsDiffer, hasVariant, fieldsThere, ellipsisWithin, hasLocal, pathTaken, restTaken, restTaken?, nothingRefused, noneRefused, noneReachedRefused, nothingRefused?}
 use Rattle.meaning.proofs.Typed.{headOf, tuple-fits, or-fits, record-fits, range-fits, slice-fits, path-fits, lit-fits, bind-fits, tuple-struct-fits, ref-fits, type-here, variant-fields, has-variant}
 use Rattle.meaning.proofs.Children.{lowerings-count}
-use Rattle.fitted.specs.OnlyLimits.{OnlyLimits}
-use Rattle.fitted.proofs.Stopping.{Fine}
+use Rattle.fitted.proofs.Stopping.{OnlyLimits, limit-numbers, Fine}
 use Rattle.fitted.proofs.Walks.{Stays, Good, on-kept, fine-walk, good-entered, good-passing}
 use Rattle.fitted.proofs.Testing.{good-lit, good-constant, good-range}
 use Rattle.fitted.proofs.Choosing.{Never, Reached, the-last, good-or}
@@ -262,7 +263,7 @@ module _ (image bindings : List ℕ) (v : valid image ≡ true) where
     good? (sub s) t here fits taken = good s t here fits taken
 
 -- The theorem: a pattern that fits the type of its place, and in which nothing that is reached is refused, is refused for none but these reasons.
-pub fitting-refused : (image bindings : List ℕ) (pat : Pat) (ctx : Ctx) (current : BasicBlockId) (els : OptBlock) (place : Place) (t : ℕ) (e : MirLowerError) (p : ℕ) → valid image ≡ true →
+fitting-refused : (image bindings : List ℕ) (pat : Pat) (ctx : Ctx) (current : BasicBlockId) (els : OptBlock) (place : Place) (t : ℕ) (e : MirLowerError) (p : ℕ) → valid image ≡ true →
     t < typeCount image → placeTy image (ctx .state) place ≡ PlaceTy.Ty t → place .local .0 < length (ctx .state .locals) → length (place .elems) ≡ 16 → typesFit image pat (some t) ≡ true →
     nothingRefused image bindings pat ≡ true → patternMatch image bindings pat ctx current els place ≡ refused e p → OnlyLimits e
 unfolding patternMatch
@@ -279,11 +280,11 @@ fitting-refused image bindings pat ctx current els place t e p v here typed root
         fine-walk ctx (patternMatchInner image bindings pat MatchingMode.Check ctx current els place) _ (each-pass .goes checks ctx current els place on)
         (λ r g. each-pass .goes binds (r .ctx) (r .then) (r .else) place (on-kept g on))
 
--- the same, of a pattern that fits
+-- the same of a pattern that fits, by the numbers: a limit is passed, or no scope is open
 pub fit-refused : (image bindings : List ℕ) (pat : Pat) (ctx : Ctx) (current : BasicBlockId) (els : OptBlock) (place : Place) (t : ℕ) (e : MirLowerError) (p : ℕ) →
     valid image ≡ true → t < typeCount image → placeTy image (ctx .state) place ≡ PlaceTy.Ty t → place .local .0 < length (ctx .state .locals) → length (place .elems) ≡ 16 →
-    fits image bindings (place .local .0) (ctx .discr) t pat ≡ true → patternMatch image bindings pat ctx current els place ≡ refused e p → OnlyLimits e
+    fits image bindings (place .local .0) (ctx .discr) t pat ≡ true → patternMatch image bindings pat ctx current els place ≡ refused e p → (numberOf e ≡ 11) ⊎ (numberOf e ≡ 14)
 unfolding fits
 fit-refused image bindings pat ctx current els place t e p v there placed rooted whole fit stopped =
     let tests = typesFit image pat (some t) ∷ bindingsFit image pat ∷ nothingRefused image bindings pat ∷ localsDiffer bindings (place .local .0) (ctx .discr) ∷ [] in
-    fitting-refused image bindings pat ctx current els place t e p v there placed rooted whole (all-true-at tests 0 fit) (all-true-at tests 2 fit) stopped
+    limit-numbers e (fitting-refused image bindings pat ctx current els place t e p v there placed rooted whole (all-true-at tests 0 fit) (all-true-at tests 2 fit) stopped)

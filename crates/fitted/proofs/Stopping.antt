@@ -1,14 +1,45 @@
 -- Walks and steps that refuse only as a fitting pattern may be refused. Assumes nothing.
 use mathlib.Core.Path.{_≡_, refl, subst}
+use mathlib.Core.Logic.{_⊎_, inl, inr}
 use mathlib.Core.Bool.{Bool, true, false, cond}
 use Prim.Native.Nat.{ℕ}
 use native.Mathlib.Omega.{arith}
 use Rattle.refusals.specs.declared.MirLowerError.{MirLowerError}
-use Rattle.refusals.specs.Refusals.{Result, andThen}
+use Rattle.refusals.specs.Refusals.{numberOf, Result, andThen}
 use Rattle.refusals.specs.Refusals.{ok as done, refused as stopped}
 use Rattle.pattern_matching.specs.Walking.{Walk, ok, refused, next, step}
 use Rattle.counting.proofs.Holding.{Holds, Gives}
-use Rattle.fitted.specs.OnlyLimits.{OnlyLimits}
+
+-- A limit is passed (11), or no scope is open (14). Where a pattern fits its place, every projection applies, so that 12 is not met either.
+abbrev pub OnlyLimits : MirLowerError → Type 0
+OnlyLimits MirLowerError.IncompletePattern = ⊥
+OnlyLimits (MirLowerError.TypeError reason) = ⊥
+OnlyLimits MirLowerError.UnresolvedField = ⊥
+OnlyLimits MirLowerError.NotSupported = ⊥
+OnlyLimits MirLowerError.Ellipsis = ⊥
+OnlyLimits MirLowerError.UnsizedTemporary = ⊥
+OnlyLimits MirLowerError.InaccessibleLocal = ⊥
+OnlyLimits MirLowerError.Expr = ⊥
+OnlyLimits MirLowerError.Limit = Unit
+OnlyLimits MirLowerError.PlaceType = ⊥
+OnlyLimits MirLowerError.UnresolvedName = ⊥
+OnlyLimits MirLowerError.NoScope = Unit
+
+-- by their numbers
+pub limit-numbers : (e : MirLowerError) → OnlyLimits e → (numberOf e ≡ 11) ⊎ (numberOf e ≡ 14)
+unfolding numberOf
+limit-numbers MirLowerError.IncompletePattern k = absurd k
+limit-numbers (MirLowerError.TypeError reason) k = absurd k
+limit-numbers MirLowerError.UnresolvedField k = absurd k
+limit-numbers MirLowerError.NotSupported k = absurd k
+limit-numbers MirLowerError.Ellipsis k = absurd k
+limit-numbers MirLowerError.UnsizedTemporary k = absurd k
+limit-numbers MirLowerError.InaccessibleLocal k = absurd k
+limit-numbers MirLowerError.Expr k = absurd k
+limit-numbers MirLowerError.Limit k = inl refl
+limit-numbers MirLowerError.PlaceType k = absurd k
+limit-numbers MirLowerError.UnresolvedName k = absurd k
+limit-numbers MirLowerError.NoScope k = inr refl
 
 -- Q holds of a walk's answer, if there is one, and its refusal is one of those
 pub record Fine {A : Type 0} (Q : A → Type 0) (w : Walk A) : Type 0 where

@@ -7,12 +7,11 @@ use mathlib.Core.List.{List, [], _∷_, _++_, append-nil, append-assoc}
 use native.Mathlib.Omega.{arith}
 use borrow.Author.Tests.{eq-eqb}
 use lib.ListN.{replicate}
-use lib.Seq.{drop-append-seam}
 use Rattle.image.specs.Types.{Shape, integer, bool, char, str, tuple, adt, reference, array, slice, unknown, tyOf}
 use Rattle.place.specs.declared.elems.ProjectionElem.{ProjectionElem}
 use Rattle.views.specs.Views.{Path}
 use Rattle.meaning.specs.Values.{Value, derefed, partAt, placeIn, valueFits}
-use Rattle.meaning.specs.Running.{Env, Scene, read}
+use Rattle.meaning.specs.Running.{Env, Scene, elemKind, elemFirst, elemSecond, sameElem, behindRoot, partBehind, read}
 use Rattle.meaning.specs.Matching.{onto, crossed, crossedPath}
 use Rattle.meaning.specs.Typing.{TypeNumber, referent, behind}
 use Rattle.meaning.proofs.Parts.{fits-reference}
@@ -83,12 +82,23 @@ pub onto-below : (scene : Scene) (rest : List ProjectionElem) (elem : Projection
 unfolding onto
 onto-below scene rest elem = ap (λ (es : List ProjectionElem). record { local = scene .root .local; elems = es }) (append-assoc (scene .root .elems) rest (elem ∷ []))
 
+-- an element is the same as itself
+pub elem-same : (e : ProjectionElem) → sameElem e e ≡ true
+unfolding sameElem
+elem-same e = rw (eq-eqb (elemKind e) (elemKind e) refl, eq-eqb (elemFirst e) (elemFirst e) refl, eq-eqb (elemSecond e) (elemSecond e) refl)
+
+-- behind the root lies what comes after its elements
+pub behind-root : (root rest : List ProjectionElem) → behindRoot root (root ++ rest) ≡ some rest
+unfolding behindRoot
+behind-root [] rest = refl
+behind-root (e ∷ root) rest = rw (elem-same e) (behind-root root rest)
+
 -- what lies there is a part of the value handed in
 pub read-below : (scene : Scene) (env : Env) (rest : List ProjectionElem) → read scene env (below scene rest) ≡ placeIn rest (scene .here)
-unfolding read
+unfolding read partBehind
 read-below scene env rest =
     let root = scene .root in
-    rw (eq-eqb (root .local) (root .local) refl, drop-append-seam (root .elems) rest)
+    rw (eq-eqb (root .local) (root .local) refl, behind-root (root .elems) rest)
 
 pub read-onto : (scene : Scene) (env : Env) (rest : List ProjectionElem) (elem : ProjectionElem) → read scene env (onto (below scene rest) elem) ≡ partAt elem (read scene env (below scene rest))
 unfolding placeIn

@@ -6,3 +6,5 @@ pub mod Typed
 pub mod Children
 pub mod Looking
 pub mod Agreeing
+pub mod Laws
+pub mod Behind

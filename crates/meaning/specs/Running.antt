@@ -13,6 +13,7 @@ use lib.ListN.{length, take, drop}
 use Rattle.image.specs.Tables.{dataAt}
 use Rattle.image.specs.Types.{Shape, integer, bool, char, str, tuple, adt, reference, array, slice, unknown, tyOf, variantOf}
 use Rattle.place.specs.declared.LocalId.{LocalId}
+use Rattle.place.specs.declared.elems.ProjectionElem.{ProjectionElem}
 use Rattle.mir.specs.declared.BasicBlockId.{BasicBlockId}
 use Rattle.mir.specs.declared.blocks.Terminator.{Terminator}
 use Rattle.mir.specs.declared.rvalues.Constant.{Constant}
@@ -147,10 +148,52 @@ pub record Scene : Type 0 where
   pub root : Path
   pub here : Value
 
--- what lies at a place: behind the place handed in, a part of its value; in another local, a part of what it holds
+-- an element as three numbers: its kind, and what it carries
+unfoldable pub elemKind : ProjectionElem → ℕ
+elemKind ProjectionElem.Deref = 0
+elemKind (ProjectionElem.Field i) = 1
+elemKind (ProjectionElem.Index i) = 2
+elemKind (ProjectionElem.IndexFromEnd i) = 3
+elemKind (ProjectionElem.Subslice front end) = 4
+elemKind (ProjectionElem.Downcast v) = 5
+elemKind ProjectionElem.Unknown = 6
+
+unfoldable pub elemFirst : ProjectionElem → ℕ
+elemFirst ProjectionElem.Deref = 0
+elemFirst (ProjectionElem.Field i) = i
+elemFirst (ProjectionElem.Index i) = i
+elemFirst (ProjectionElem.IndexFromEnd i) = i
+elemFirst (ProjectionElem.Subslice front end) = front
+elemFirst (ProjectionElem.Downcast v) = v
+elemFirst ProjectionElem.Unknown = 0
+
+unfoldable pub elemSecond : ProjectionElem → ℕ
+elemSecond ProjectionElem.Deref = 0
+elemSecond (ProjectionElem.Field i) = 0
+elemSecond (ProjectionElem.Index i) = 0
+elemSecond (ProjectionElem.IndexFromEnd i) = 0
+elemSecond (ProjectionElem.Subslice front end) = end
+elemSecond (ProjectionElem.Downcast v) = 0
+elemSecond ProjectionElem.Unknown = 0
+
+unfoldable pub sameElem : ProjectionElem → ProjectionElem → Bool
+sameElem e f = eqb (elemKind e) (elemKind f) && eqb (elemFirst e) (elemFirst f) && eqb (elemSecond e) (elemSecond f)
+
+-- what is left of a path behind the root's elements, where the path begins with them
+unfoldable pub behindRoot : List ProjectionElem → List ProjectionElem → Option (List ProjectionElem)
+behindRoot [] path = some path
+behindRoot (e ∷ root) [] = none
+behindRoot (e ∷ root) (f ∷ path) = cond (sameElem e f) (behindRoot root path) none
+
+-- a part of the value handed in, or else of what the local holds
+unfoldable pub partBehind : Option (List ProjectionElem) → Value → Value → Value
+partBehind none here other = other
+partBehind (some rest) here other = placeIn rest here
+
+-- what lies at a place: behind the place handed in, a part of its value; everywhere else, a part of what the local holds
 unfoldable pub read : Scene → Env → Path → Value
 read scene env path =
-    cond (eqb (path .local) (scene .root .local)) (placeIn (drop (length (scene .root .elems)) (path .elems)) (scene .here))
+    partBehind (cond (eqb (path .local) (scene .root .local)) (behindRoot (scene .root .elems) (path .elems)) none) (scene .here)
     (placeIn (path .elems) (valueOf (env (path .local))))
 
 -- what is made of a place

@@ -33,6 +33,13 @@ mutual
     nil : Values
     cons : Value → Values → Values
 
+-- the values that tests compare: integers, bools, chars and references to a str
+pub data Comparable : Value → Type 0 where
+  int : (z : ℤ) → Comparable (Int z)
+  bool′ : (b : Bool) → Comparable (Bool′ b)
+  char′ : (c : ℕ) → Comparable (Char c)
+  string : (bytes : List ℕ) → Comparable (Reference (Str bytes))
+
 unfoldable pub items : Values → List Value
 items nil = []
 items (cons v vs) = v ∷ items vs
