@@ -28,14 +28,15 @@ module _ (size : ℕ) (signed : Bool) (bytes : List ℕ) (long : length bytes �
       let all : take 8 (drop 8 bytes) ≡ drop 8 bytes = take-all 8 (drop 8 bytes) (omega (arith, length-drop 8 bytes)) in
       sym (little-split 8 bytes) ∙ rw (lows, highs, all)
 
-  pub value-unsigned : inRange size signed (pos (low + valueCount 8 * high)) ≡ inRange size signed (integerValue false bytes)
-  unfolding integerValue
-  value-unsigned = ap (λ (n : ℕ). inRange size signed (pos n)) (sym whole)
+  module _ {negative : Bool} where
+    pub value-unsigned : negative ≡ false → inRange size signed (pos (low + valueCount 8 * high)) ≡ inRange size signed (integerValue negative bytes)
+    unfolding integerValue
+    value-unsigned e = rw (e, whole)
 
-  pub value-positive : low < valueCount 8 → high < valueCount 8 / 2 → inRange size signed (pos (low + valueCount 8 * high)) ≡ inRange size signed (integerValue true bytes)
-  unfolding integerValue
-  value-positive small h = rw (long, whole, lt-ltb (low + valueCount 8 * high) (valueCount 16 / 2) (under-half (valueCount 8) (valueCount 8 / 2) low high small h))
+    pub value-positive : low < valueCount 8 → high < valueCount 8 / 2 → negative ≡ true → inRange size signed (pos (low + valueCount 8 * high)) ≡ inRange size signed (integerValue negative bytes)
+    unfolding integerValue
+    value-positive small h e = rw (e, long, whole, lt-ltb (low + valueCount 8 * high) (valueCount 16 / 2) (under-half (valueCount 8) (valueCount 8 / 2) low high small h))
 
-  pub value-negative : valueCount 8 / 2 ≤ high → inRange size signed (negℤ (pos (valueCount 16 - (low + valueCount 8 * high)))) ≡ inRange size signed (integerValue true bytes)
-  unfolding integerValue
-  value-negative h = rw (long, whole, le-ltb (low + valueCount 8 * high) (valueCount 16 / 2) (over-half (valueCount 8) (valueCount 8 / 2) low high h))
+    pub value-negative : valueCount 8 / 2 ≤ high → negative ≡ true → inRange size signed (negℤ (pos (valueCount 16 - (low + valueCount 8 * high)))) ≡ inRange size signed (integerValue negative bytes)
+    unfolding integerValue
+    value-negative h e = rw (e, long, whole, le-ltb (low + valueCount 8 * high) (valueCount 16 / 2) (over-half (valueCount 8) (valueCount 8 / 2) low high h))

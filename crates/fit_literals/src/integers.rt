@@ -19,13 +19,10 @@ fn in_range(size: u16, signed: bool, negative: bool, bytes: &[u8]) -> bool
 {
     let low = half(bytes, 0, 8);
     let high = half(bytes, 8, 8);
-    if !negative {
-        return positive_in_range(size, signed, low, high);
+    if negative && 0x8000000000000000 <= high {
+        return negative_in_range(size, signed, low, high);
     }
-    if high < 0x8000000000000000 {
-        return positive_in_range(size, signed, low, high);
-    }
-    negative_in_range(size, signed, low, high)
+    positive_in_range(size, signed, low, high)
 }
 
 // An integer of the type of a row.
@@ -41,14 +38,6 @@ pub fn integer_fits(
 {
     match kind {
         TypeKind::Integer => in_range(row.a, row.b == 1, negative, bytes),
-        TypeKind::Bool => false,
-        TypeKind::Char => false,
-        TypeKind::Str => false,
-        TypeKind::Tuple => false,
-        TypeKind::Adt => false,
-        TypeKind::Reference => false,
-        TypeKind::Array => false,
-        TypeKind::Slice => false,
-        TypeKind::Unknown => false,
+        _ => false,
     }
 }
