@@ -1,4 +1,5 @@
--- The table by the rule: its five columns, computed over all ten rows, and one law that reads a row out of them. Assumes nothing.
+-- The table by the rule: its five columns, computed over all ten rows, and one law that reads a row out of them. That the columns of the code are these is one
+-- comparison, which the checker computes over the whole table (`row_at`). Assumes nothing.
 use Prim.Native.Nat.{ℕ, zero, suc, _+_, _<_}
 use mathlib.Core.Path.{_≡_, refl, ap}
 use mathlib.Core.List.{List, map}

@@ -1,5 +1,5 @@
-// The integers in ten rows: 0 to 4 signed, 5 to 9 unsigned, at 1, 2, 4, 8 and 16 bytes. Each has its size, its least and its greatest value. A value is 16 bytes,
-// two's complement, so i8's are 80 ff .. ff and 7f 00 .. 00: the lower eight bytes as one number, and the upper eight.
+// The integers in ten rows: 0 to 4 signed, 5 to 9 unsigned, at 1, 2, 4, 8 and 16 bytes. Each row has its size, its least and its greatest value.
+// A value is 16 bytes, two's complement: i8's least is 80 ff .. ff, its greatest 7f 00 .. 00. The table has the lower eight of them as one number, and the upper eight.
 ghost use mathlib.Core.Path.{_≡_};
 ghost use mathlib.Core.Bool.{true};
 ghost use Prim.Native.Nat.{_+_, _*_, _-_, _/_, _≤_, _<_};
@@ -8,8 +8,10 @@ ghost use Rattle.image.specs.Integers.{valueCount, inRange};
 ghost use Rattle.image.specs.Rules.{isIntegerSize};
 ghost use Rattle.integer_rows.specs.IntegerRows.{rowSize, rowSigned, integerRow};
 
+// The sizes, in bytes.
 const SIZES: [u16; 10] = [1, 2, 4, 8, 16, 1, 2, 4, 8, 16];
 
+// The least values, the lower eight bytes.
 const LEAST_LOW: [u64; 10] = [
     0xffffffffffffff80, // i8
     0xffffffffffff8000, // i16
@@ -23,6 +25,7 @@ const LEAST_LOW: [u64; 10] = [
     0x0000000000000000, // u128
 ];
 
+// The least values, the upper eight bytes.
 const LEAST_HIGH: [u64; 10] = [
     0xffffffffffffffff, // i8
     0xffffffffffffffff, // i16
@@ -36,6 +39,7 @@ const LEAST_HIGH: [u64; 10] = [
     0x0000000000000000, // u128
 ];
 
+// The greatest values, the lower eight bytes.
 const GREATEST_LOW: [u64; 10] = [
     0x000000000000007f, // i8
     0x0000000000007fff, // i16
@@ -49,6 +53,7 @@ const GREATEST_LOW: [u64; 10] = [
     0xffffffffffffffff, // u128
 ];
 
+// The greatest values, the upper eight bytes.
 const GREATEST_HIGH: [u64; 10] = [
     0x0000000000000000, // i8
     0x0000000000000000, // i16
@@ -62,6 +67,7 @@ const GREATEST_HIGH: [u64; 10] = [
     0xffffffffffffffff, // u128
 ];
 
+// A row of the table.
 pub struct IntegerRow {
     pub size: u16,
     pub least_low: u64,
