@@ -12,6 +12,7 @@ sys.dont_write_bytecode = True
 from call_list import call_records
 from chance import chance_cases
 from faults import fault_cases
+from fit_list import fit_records
 from images import RULES, broken, read_counts
 from listing_list import listing_records
 from lowering import listing
@@ -45,6 +46,7 @@ n bytes and z zero bytes; and what its sort has besides:
 | 2 | an image | its listing, or its refusal |
 | 3 | a script: four big-endian bytes m, and m commands of four big-endian words | a line for each call |
 | 4 | a call on parameters: four big-endian bytes k, and k big-endian words | the listing and the locals, or the refusal |
+| 5 | a question whether a pattern fits: the same, with other words | `fits`, `does not fit` or the refusal |
 
 `list.txt` has one line for each record of sort 1: its number from 1, its name, and `valid`
 or the names of the rules that it breaks. The names follow the order of the document; they
@@ -90,6 +92,14 @@ Written from document 01 and the Rust alone, not from the definitions:
   `harness/run images` wrote it from the harness's generators, which `make.py` does not run;
   the answers in the stored list are those of `lowering.py`, and the harness's quick run
   compares them with the Rust's.
+
+## The fit
+
+- `fits.py`: judges whether a pattern fits, by document 01's paragraph "A pattern fits when"
+  alone.
+- `fit_list.py`: the stored questions, and what their words are: the corners, numbers that
+  name nothing, and random patterns with all sorts of locals. `fits.txt` has for each its
+  number from 1, its name, and the answer.
 
 ## Calls
 
@@ -154,7 +164,7 @@ def replay_files():
     given, printed, listed = image_records()
     files = {"samples/list.txt": listed.encode()}
     for name, (more, lines, text) in (("calls", call_records(len(printed))), ("listings", listing_records()),
-                                      ("params", params_records())):
+                                      ("params", params_records()), ("fits", fit_records())):
         given, printed = given + more, printed + lines
         files[f"samples/{name}.txt"] = text.encode()
     files["crates/replay/stdin"] = b"".join(given)

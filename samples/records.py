@@ -4,7 +4,7 @@ A byte, the record's sort; four big-endian bytes n, four big-endian bytes z, and
 image is these n bytes and z zero bytes. Behind it stands what the sort has besides.
 """
 
-IMAGE, LISTING, SCRIPT, PARAMETERS = range(1, 5)
+IMAGE, LISTING, SCRIPT, PARAMETERS, FIT = range(1, 6)
 # From so many zero bytes at its end on, an image is stored without them.
 LONG_ZEROS = 64
 

@@ -2,9 +2,9 @@
 // bytes, big-endian, and then as many bytes as the first says: it is these bytes, and behind them as many zeros as the second says.
 use image::word_at;
 use libc::STDIN_FILENO;
-ghost use Prim.Native.Nat.{_+_, _≤_, _<_};
+ghost use Prim.Native.Nat.{_+_, _*_, _≤_, _<_};
 ghost use lib.ListN.{length};
-ghost use Rattle.stored_records.specs.Entries.{Fits};
+ghost use Rattle.stored_records.specs.Entries.{Fits, ReadWithin};
 
 pub enum Entry {
     // An image of so many bytes, at the start of the buffer.
@@ -27,6 +27,52 @@ pub fn next_number() -> u32 {
     let high = word_at(&head, 0) as u32;
     let low = word_at(&head, 2) as u32;
     high * 65536 + low
+}
+
+// The words of a record, read or not.
+pub enum Words {
+    // So many.
+    Some(usize),
+    // The list has ended, or there are more words than fit.
+    End,
+}
+
+// The first words that the bytes hold: so many.
+fn words_of(bytes: &[u8], words: &mut [u16], count: usize)
+    requires { ⌜ (count ≤ length (now words)) × (2 * count ≤ length (now bytes)) ⌝ }
+{
+    let mut i = 0;
+    while i < count {
+        words[i] = word_at(bytes, 2 * i);
+        i += 1;
+    }
+}
+
+// So many words, where they fit.
+fn read_words(bytes: &mut [u8], words: &mut [u16], count: usize) -> Words
+    requires { ⌜ 2 * length (now words) ≤ length (now bytes) ⌝ }
+    ensures { λ r. ⌜ ReadWithin r (length (now (words .entry))) ⌝ }
+{
+    if words.len() < count {
+        return Words::End;
+    }
+    let end = 2 * count;
+    let got = io::read_full(STDIN_FILENO, &mut bytes[..end]);
+    if got < end {
+        return Words::End;
+    }
+    words_of(bytes, words, count);
+    Words::Some(count)
+}
+
+// A number of four bytes, big-endian, and as many words of two bytes, big-endian.
+pub fn next_words(words: &mut [u16]) -> Words
+    requires { ⌜ length (now words) ≤ 4096 ⌝ }
+    ensures { λ r. ⌜ ReadWithin r (length (now (words .entry))) ⌝ }
+{
+    let mut bytes = [0u8; 8192];
+    let count = next_number() as usize;
+    read_words(&mut bytes, words, count)
 }
 
 fn clear(bytes: &mut [u8]) {

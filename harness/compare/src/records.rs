@@ -10,6 +10,8 @@ pub const LISTING: u8 = 2;
 pub const SCRIPT: u8 = 3;
 /// A call on parameters: behind the image four big-endian bytes k, and k big-endian words.
 pub const PARAMETERS: u8 = 4;
+/// A question whether a pattern fits: the same, with other words.
+pub const FIT: u8 = 5;
 
 pub struct Record {
     pub sort: u8,
@@ -28,7 +30,7 @@ pub fn read(mut list: &[u8]) -> Vec<Record> {
         list = &list[9 + kept..];
         let width = match sort {
             SCRIPT => 4,
-            PARAMETERS => 1,
+            PARAMETERS | FIT => 1,
             _ => 0,
         };
         let mut words = Vec::new();

@@ -1,10 +1,10 @@
 use borrow.Author.Needs.{needs}
-use Rattle.replay_params.proofs.read_words.Statement.{statement}
-use Rattle.replay_params.proofs.read_words.Tie as tie
-use Rattle.replay_params.proofs.read_words.Reads as reads
-use Rattle.replay_params.proofs.read_words.Lts as lts
+use Rattle.stored_records.proofs.read_words.Statement.{statement}
+use Rattle.stored_records.proofs.read_words.Tie as tie
+use Rattle.stored_records.proofs.read_words.Reads as reads
+use Rattle.stored_records.proofs.read_words.Lts as lts
 use Rattle.io.proofs.read_full.Reads as read-full-reads
-use Rattle.replay_params.proofs.words_of.Reads as words-of-reads
+use Rattle.stored_records.proofs.words_of.Reads as words-of-reads
 use mathlib.Core.Path.{sym}
 use lib.Seq.{length-take-le}
 

@@ -1,8 +1,8 @@
-use Rattle.fit_bindings.proofs.fit.alternatives_fit.Statement.{statement}
-use Rattle.fit_bindings.proofs.fit.alternatives_fit.Tie as tie
-use Rattle.fit_bindings.proofs.fit.alternatives_fit.Reads as reads
-use Rattle.fit_bindings.proofs.fit.alternatives_fit.Lts as lts
-use Rattle.fit_bindings.proofs.fit.same.Reads as same-reads
+use Rattle.fit_bindings.proofs.clause.alternatives_fit.Statement.{statement}
+use Rattle.fit_bindings.proofs.clause.alternatives_fit.Tie as tie
+use Rattle.fit_bindings.proofs.clause.alternatives_fit.Reads as reads
+use Rattle.fit_bindings.proofs.clause.alternatives_fit.Lts as lts
+use Rattle.fit_bindings.proofs.clause.same.Reads as same-reads
 use Rattle.fit_bindings.proofs.nodes.first.Reads as first-reads
 use Rattle.fit_bindings.proofs.nodes.rest.Reads as rest-reads
 use Prim.Native.Nat.{_-_, _<_}

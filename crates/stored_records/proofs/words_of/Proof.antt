@@ -1,7 +1,7 @@
-use Rattle.replay_params.proofs.words_of.Statement.{statement}
-use Rattle.replay_params.proofs.words_of.Tie as tie
-use Rattle.replay_params.proofs.words_of.Reads as reads
-use Rattle.replay_params.proofs.words_of.Lts as lts
+use Rattle.stored_records.proofs.words_of.Statement.{statement}
+use Rattle.stored_records.proofs.words_of.Tie as tie
+use Rattle.stored_records.proofs.words_of.Reads as reads
+use Rattle.stored_records.proofs.words_of.Lts as lts
 use Rattle.image.proofs.word_at.Reads as word-at-reads
 use Prim.Native.Nat.{_-_}
 use mathlib.Core.Path.{_≡_, refl, _∙_}

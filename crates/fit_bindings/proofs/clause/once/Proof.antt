@@ -1,8 +1,8 @@
 use borrow.Author.Needs.{needs}
-use Rattle.fit_bindings.proofs.fit.once.Statement.{statement}
-use Rattle.fit_bindings.proofs.fit.once.Tie as tie
-use Rattle.fit_bindings.proofs.fit.once.Reads as reads
-use Rattle.fit_bindings.proofs.fit.once.Lts as lts
+use Rattle.fit_bindings.proofs.clause.once.Statement.{statement}
+use Rattle.fit_bindings.proofs.clause.once.Tie as tie
+use Rattle.fit_bindings.proofs.clause.once.Reads as reads
+use Rattle.fit_bindings.proofs.clause.once.Lts as lts
 use Rattle.fit_bindings.proofs.each.each_agrees.Reads as each-agrees-reads
 use Rattle.fit_bindings.proofs.nodes.first.Reads as first-reads
 use Rattle.fit_bindings.proofs.nodes.one.Reads as one-reads

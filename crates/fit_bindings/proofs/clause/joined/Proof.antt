@@ -1,10 +1,10 @@
-use Rattle.fit_bindings.proofs.fit.joined.Statement.{statement}
-use Rattle.fit_bindings.proofs.fit.joined.Tie as tie
-use Rattle.fit_bindings.proofs.fit.joined.Reads as reads
-use Rattle.fit_bindings.proofs.fit.joined.Lts as lts
+use Rattle.fit_bindings.proofs.clause.joined.Statement.{statement}
+use Rattle.fit_bindings.proofs.clause.joined.Tie as tie
+use Rattle.fit_bindings.proofs.clause.joined.Reads as reads
+use Rattle.fit_bindings.proofs.clause.joined.Lts as lts
 use Rattle.fit_bindings.proofs.each.own_agrees.Reads as own-agrees-reads
-use Rattle.fit_bindings.proofs.fit.alternatives_fit.Reads as alternatives-fit-reads
-use Rattle.fit_bindings.proofs.fit.once.Reads as once-reads
+use Rattle.fit_bindings.proofs.clause.alternatives_fit.Reads as alternatives-fit-reads
+use Rattle.fit_bindings.proofs.clause.once.Reads as once-reads
 use Rattle.fit_bindings.proofs.Joining.{joined-alternatives, joined-own, joined-once}
 use mathlib.Core.Path.{_∙_}
 use borrow.Author.Tests.{not-true, not-false}

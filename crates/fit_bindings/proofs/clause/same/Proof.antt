@@ -1,8 +1,8 @@
 use borrow.Author.Needs.{needs}
-use Rattle.fit_bindings.proofs.fit.same.Statement.{statement}
-use Rattle.fit_bindings.proofs.fit.same.Tie as tie
-use Rattle.fit_bindings.proofs.fit.same.Reads as reads
-use Rattle.fit_bindings.proofs.fit.same.Lts as lts
+use Rattle.fit_bindings.proofs.clause.same.Statement.{statement}
+use Rattle.fit_bindings.proofs.clause.same.Tie as tie
+use Rattle.fit_bindings.proofs.clause.same.Reads as reads
+use Rattle.fit_bindings.proofs.clause.same.Lts as lts
 use Rattle.fit_bindings.proofs.each.each_agrees.Reads as each-agrees-reads
 use Rattle.fit_bindings.proofs.nodes.one.Reads as one-reads
 use native.Mathlib.Omega.{arith}

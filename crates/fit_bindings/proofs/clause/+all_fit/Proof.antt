@@ -1,15 +1,15 @@
 use Prim.Native.Nat.{ℕ, _<_}
 use borrow.Fn.Kinds.{In}
 use borrow.Fn.PlainCycle.{Measures, is, falls, and}
-use Rattle.fit_bindings.proofs.fit.all_fit.Reads as all-fit
-use Rattle.fit_bindings.proofs.fit.all_fit.Kinds as all-fit-kinds
-use Rattle.fit_bindings.proofs.fit.+all_fit.Lts-all_fit as all-fit-lts
-use Rattle.fit_bindings.proofs.fit.joined.Reads as joined-reads
+use Rattle.fit_bindings.proofs.clause.all_fit.Reads as all-fit
+use Rattle.fit_bindings.proofs.clause.all_fit.Kinds as all-fit-kinds
+use Rattle.fit_bindings.proofs.clause.+all_fit.Lts-all_fit as all-fit-lts
+use Rattle.fit_bindings.proofs.clause.joined.Reads as joined-reads
 use Rattle.fit_bindings.proofs.nodes.first.Reads as first-reads
 use Rattle.fit_bindings.proofs.nodes.node_at.Reads as node-at-reads
 use Rattle.fit_bindings.proofs.nodes.rest.Reads as rest-reads
-use Rattle.fit_bindings.proofs.fit.+all_fit.{statement}
-use Rattle.fit_bindings.proofs.fit.+all_fit.Tie.{close}
+use Rattle.fit_bindings.proofs.clause.+all_fit.{statement}
+use Rattle.fit_bindings.proofs.clause.+all_fit.Tie.{close}
 use Prim.Native.Nat.{_-_}
 use mathlib.Core.Path.{sym, _∙_}
 use native.Mathlib.Omega.{arith}
