@@ -1,0 +1,4 @@
+pub mod Words
+pub mod Literals
+pub mod Tokens
+pub mod Values
