@@ -18,6 +18,10 @@ use Rattle.text_chars.specs.declared.Start.the-variants.{At, BrokenAt}
 unfoldable pub whitespace : List ℕ
 whitespace = 0x9 ∷ 0xA ∷ 0xB ∷ 0xC ∷ 0xD ∷ 0x20 ∷ 0x85 ∷ 0x200E ∷ 0x200F ∷ 0x2028 ∷ 0x2029 ∷ []
 
+-- a scalar value is whitespace
+unfoldable pub isWhitespace : ℕ → Bool
+isWhitespace v = member v whitespace
+
 -- any byte but LF, which ends a line
 unfoldable pub inLine : ℕ → Bool
 inLine b = not (eqb b 0xA)
@@ -79,7 +83,7 @@ commentOf bytes =
 
 -- the whitespace character or comment with which the bytes begin: how many bytes it has behind its first
 unfoldable pub gapOf : List ℕ → Gap
-gapOf bytes = onScalar (scalarOf bytes) Nothing (λ v more. cond (member v whitespace) (Of more) (commentOf bytes))
+gapOf bytes = onScalar (scalarOf bytes) Nothing (λ v more. cond (isWhitespace v) (Of more) (commentOf bytes))
 
 -- what comes of a gap, of none, or of one that is broken
 abbrev pub onGap : {A : Type 0} → Gap → A → A → (ℕ → A) → A

@@ -17,8 +17,8 @@ unfoldable pub isTail : ℕ → Bool
 isTail b = leb 0x80 b && ltb b 0xC0
 
 -- a scalar value that has so many bytes behind its first, of which no shorter form has room for it
-unfoldable pub shortest : ℕ → ℕ → ℕ → Scalar
-shortest least v more = cond (leb least v && isScalarValue v) (Of v more) Nothing
+unfoldable pub shortestForm : ℕ → ℕ → ℕ → Scalar
+shortestForm least v more = cond (leb least v && isScalarValue v) (Of v more) Nothing
 
 -- the scalar value with which four bytes begin, and how many bytes it has behind the first: 0xxxxxxx, 110xxxxx 10xxxxxx,
 -- 1110xxxx 10xxxxxx 10xxxxxx or 11110xxx 10xxxxxx 10xxxxxx 10xxxxxx
@@ -26,11 +26,11 @@ unfoldable pub scalarFrom : ℕ → ℕ → ℕ → ℕ → Scalar
 scalarFrom a b c d =
     cond (ltb a 0x80) (Of a 0)
     (cond (ltb a 0xC0 || not (isTail b)) Nothing
-    (cond (ltb a 0xE0) (shortest 0x80 (a % 32 * 64 + b % 64) 1)
+    (cond (ltb a 0xE0) (shortestForm 0x80 (a % 32 * 64 + b % 64) 1)
     (cond (not (isTail c)) Nothing
-    (cond (ltb a 0xF0) (shortest 0x800 (a % 16 * 4096 + b % 64 * 64 + c % 64) 2)
+    (cond (ltb a 0xF0) (shortestForm 0x800 (a % 16 * 4096 + b % 64 * 64 + c % 64) 2)
     (cond (not (isTail d)) Nothing
-    (cond (ltb a 0xF8) (shortest 0x10000 (a % 8 * 262144 + b % 64 * 4096 + c % 64 * 64 + d % 64) 3)
+    (cond (ltb a 0xF8) (shortestForm 0x10000 (a % 8 * 262144 + b % 64 * 4096 + c % 64 * 64 + d % 64) 3)
     Nothing))))))
 
 -- the scalar value with which the bytes begin
