@@ -5,13 +5,13 @@ use mathlib.Core.List.{List, [], _∷_, _++_, map}
 use lib.ListN.{length, drop}
 use Rattle.image.specs.Lists.{member}
 use Rattle.text_chars.specs.Bytes.{ascii, run}
-use Rattle.text_chars.specs.Scalars.{isScalarValue, isTail, shortest, scalarFrom, scalarOf, isUtf8}
-use Rattle.text_chars.specs.Gaps.{whitespace, inLine, isLineDoc, isBlockDoc, opens, closes, depthBehind, unpaired, blockFrom, inUtf8, lineGap, blockGap, commentOf, gapOf, startFrom}
+use Rattle.text_chars.specs.Scalars.{isScalarValue, isTail, shortestForm, scalarFrom, scalarOf, isUtf8}
+use Rattle.text_chars.specs.Gaps.{whitespace, isWhitespace, inLine, isLineDoc, isBlockDoc, opens, closes, depthBehind, unpaired, blockFrom, inUtf8, lineGap, blockGap, commentOf, gapOf, startFrom}
 use Rattle.pattern_tokens.specs.declared.Kind.{Kind}
 use Rattle.pattern_tokens.specs.declared.Kind.the-variants.{Name, Ref, Mut, True, False, Underscore, Integer, Char, OpenParen, CloseParen, OpenBracket, CloseBracket, OpenBrace, CloseBrace, Comma, Or, And, AndAnd, Bind, Minus, Colon, PathSep, DotDot, DotDotEq, End, Fails}
 use Rattle.pattern_tokens.specs.declared.Token.{Token}
-use Rattle.pattern_tokens.specs.Words.{isDigit, isLetter, beginsWord, inWord, sameWord, isOneOf, keywords, neverRaw, wordOf, endsPrefix, isRaw, rawPiece, plainPiece, wordPiece}
-use Rattle.pattern_tokens.specs.Literals.{inInteger, goesOn, integerOf, integerPiece, isHex, hexValue, simpleEscape, byteEscape, unicodeFrom, escapeOf, plainChar, charOf, isSuffix, closedChar, charPiece}
+use Rattle.pattern_tokens.specs.Words.{between, isDigit, isLetter, beginsWord, inWord, sameWord, isOneOf, keywords, neverRaw, wordOf, endsPrefix, isRaw, rawPiece, plainPiece, wordPiece}
+use Rattle.pattern_tokens.specs.Literals.{inInteger, goesOn, integerOf, integerPiece, hexDigit, simpleEscape, byteEscape, escaped, unicodeFrom, escapeOf, plainChar, charOf, isSuffix, closedChar, charPiece}
 use Rattle.pattern_tokens.specs.Tokens.{begins, punctuation, firstOf, pieceOf, tokenFrom, tokenBehind, tokenAt}
 
 -- a text and its tokens
@@ -63,7 +63,7 @@ whitespaceRows =
     ∷ []
 
 pub whitespaceHold : map given whitespaceRows ≡ map wants whitespaceRows
-unfolding whitespaceRows ascii run isScalarValue isTail shortest scalarFrom scalarOf isUtf8 whitespace inLine isLineDoc isBlockDoc opens closes depthBehind unpaired blockFrom inUtf8 lineGap blockGap commentOf gapOf startFrom member isDigit isLetter beginsWord inWord sameWord isOneOf keywords neverRaw wordOf endsPrefix isRaw rawPiece plainPiece wordPiece inInteger goesOn integerOf integerPiece isHex hexValue simpleEscape byteEscape unicodeFrom escapeOf plainChar charOf isSuffix closedChar charPiece begins punctuation firstOf pieceOf tokenFrom tokenBehind tokenAt tokens
+unfolding whitespaceRows ascii run isScalarValue isTail shortestForm scalarFrom scalarOf isUtf8 whitespace inLine isLineDoc isBlockDoc opens closes depthBehind unpaired blockFrom inUtf8 lineGap blockGap commentOf gapOf startFrom member isWhitespace between isDigit isLetter beginsWord inWord sameWord isOneOf keywords neverRaw wordOf endsPrefix isRaw rawPiece plainPiece wordPiece inInteger goesOn integerOf integerPiece hexDigit simpleEscape byteEscape escaped unicodeFrom escapeOf plainChar charOf isSuffix closedChar charPiece begins punctuation firstOf pieceOf tokenFrom tokenBehind tokenAt tokens
 whitespaceHold = refl
 
 -- comments.syntax: nested, doc, not finished, not UTF-8
@@ -119,7 +119,7 @@ commentsRows =
     ∷ []
 
 pub commentsHold : map given commentsRows ≡ map wants commentsRows
-unfolding commentsRows ascii run isScalarValue isTail shortest scalarFrom scalarOf isUtf8 whitespace inLine isLineDoc isBlockDoc opens closes depthBehind unpaired blockFrom inUtf8 lineGap blockGap commentOf gapOf startFrom member isDigit isLetter beginsWord inWord sameWord isOneOf keywords neverRaw wordOf endsPrefix isRaw rawPiece plainPiece wordPiece inInteger goesOn integerOf integerPiece isHex hexValue simpleEscape byteEscape unicodeFrom escapeOf plainChar charOf isSuffix closedChar charPiece begins punctuation firstOf pieceOf tokenFrom tokenBehind tokenAt tokens
+unfolding commentsRows ascii run isScalarValue isTail shortestForm scalarFrom scalarOf isUtf8 whitespace inLine isLineDoc isBlockDoc opens closes depthBehind unpaired blockFrom inUtf8 lineGap blockGap commentOf gapOf startFrom member isWhitespace between isDigit isLetter beginsWord inWord sameWord isOneOf keywords neverRaw wordOf endsPrefix isRaw rawPiece plainPiece wordPiece inInteger goesOn integerOf integerPiece hexDigit simpleEscape byteEscape escaped unicodeFrom escapeOf plainChar charOf isSuffix closedChar charPiece begins punctuation firstOf pieceOf tokenFrom tokenBehind tokenAt tokens
 commentsHold = refl
 
 -- lex.token.punct.syntax: the longest
@@ -180,7 +180,7 @@ punctuationRows =
     ∷ []
 
 pub punctuationHold : map given punctuationRows ≡ map wants punctuationRows
-unfolding punctuationRows ascii run isScalarValue isTail shortest scalarFrom scalarOf isUtf8 whitespace inLine isLineDoc isBlockDoc opens closes depthBehind unpaired blockFrom inUtf8 lineGap blockGap commentOf gapOf startFrom member isDigit isLetter beginsWord inWord sameWord isOneOf keywords neverRaw wordOf endsPrefix isRaw rawPiece plainPiece wordPiece inInteger goesOn integerOf integerPiece isHex hexValue simpleEscape byteEscape unicodeFrom escapeOf plainChar charOf isSuffix closedChar charPiece begins punctuation firstOf pieceOf tokenFrom tokenBehind tokenAt tokens
+unfolding punctuationRows ascii run isScalarValue isTail shortestForm scalarFrom scalarOf isUtf8 whitespace inLine isLineDoc isBlockDoc opens closes depthBehind unpaired blockFrom inUtf8 lineGap blockGap commentOf gapOf startFrom member isWhitespace between isDigit isLetter beginsWord inWord sameWord isOneOf keywords neverRaw wordOf endsPrefix isRaw rawPiece plainPiece wordPiece inInteger goesOn integerOf integerPiece hexDigit simpleEscape byteEscape escaped unicodeFrom escapeOf plainChar charOf isSuffix closedChar charPiece begins punctuation firstOf pieceOf tokenFrom tokenBehind tokenAt tokens
 punctuationHold = refl
 
 -- ident.syntax, lex.keywords, lex.token.reserved-prefix.syntax
@@ -265,7 +265,7 @@ wordsRows =
     ∷ []
 
 pub wordsHold : map given wordsRows ≡ map wants wordsRows
-unfolding wordsRows ascii run isScalarValue isTail shortest scalarFrom scalarOf isUtf8 whitespace inLine isLineDoc isBlockDoc opens closes depthBehind unpaired blockFrom inUtf8 lineGap blockGap commentOf gapOf startFrom member isDigit isLetter beginsWord inWord sameWord isOneOf keywords neverRaw wordOf endsPrefix isRaw rawPiece plainPiece wordPiece inInteger goesOn integerOf integerPiece isHex hexValue simpleEscape byteEscape unicodeFrom escapeOf plainChar charOf isSuffix closedChar charPiece begins punctuation firstOf pieceOf tokenFrom tokenBehind tokenAt tokens
+unfolding wordsRows ascii run isScalarValue isTail shortestForm scalarFrom scalarOf isUtf8 whitespace inLine isLineDoc isBlockDoc opens closes depthBehind unpaired blockFrom inUtf8 lineGap blockGap commentOf gapOf startFrom member isWhitespace between isDigit isLetter beginsWord inWord sameWord isOneOf keywords neverRaw wordOf endsPrefix isRaw rawPiece plainPiece wordPiece inInteger goesOn integerOf integerPiece hexDigit simpleEscape byteEscape escaped unicodeFrom escapeOf plainChar charOf isSuffix closedChar charPiece begins punctuation firstOf pieceOf tokenFrom tokenBehind tokenAt tokens
 wordsHold = refl
 
 -- lex.token.literal.int.syntax, lex.token.literal.float.syntax
@@ -311,7 +311,7 @@ integersRows =
     ∷ []
 
 pub integersHold : map given integersRows ≡ map wants integersRows
-unfolding integersRows ascii run isScalarValue isTail shortest scalarFrom scalarOf isUtf8 whitespace inLine isLineDoc isBlockDoc opens closes depthBehind unpaired blockFrom inUtf8 lineGap blockGap commentOf gapOf startFrom member isDigit isLetter beginsWord inWord sameWord isOneOf keywords neverRaw wordOf endsPrefix isRaw rawPiece plainPiece wordPiece inInteger goesOn integerOf integerPiece isHex hexValue simpleEscape byteEscape unicodeFrom escapeOf plainChar charOf isSuffix closedChar charPiece begins punctuation firstOf pieceOf tokenFrom tokenBehind tokenAt tokens
+unfolding integersRows ascii run isScalarValue isTail shortestForm scalarFrom scalarOf isUtf8 whitespace inLine isLineDoc isBlockDoc opens closes depthBehind unpaired blockFrom inUtf8 lineGap blockGap commentOf gapOf startFrom member isWhitespace between isDigit isLetter beginsWord inWord sameWord isOneOf keywords neverRaw wordOf endsPrefix isRaw rawPiece plainPiece wordPiece inInteger goesOn integerOf integerPiece hexDigit simpleEscape byteEscape escaped unicodeFrom escapeOf plainChar charOf isSuffix closedChar charPiece begins punctuation firstOf pieceOf tokenFrom tokenBehind tokenAt tokens
 integersHold = refl
 
 -- lex.token.literal.char.syntax, lex.token.life.syntax
@@ -396,5 +396,5 @@ charsRows =
     ∷ []
 
 pub charsHold : map given charsRows ≡ map wants charsRows
-unfolding charsRows ascii run isScalarValue isTail shortest scalarFrom scalarOf isUtf8 whitespace inLine isLineDoc isBlockDoc opens closes depthBehind unpaired blockFrom inUtf8 lineGap blockGap commentOf gapOf startFrom member isDigit isLetter beginsWord inWord sameWord isOneOf keywords neverRaw wordOf endsPrefix isRaw rawPiece plainPiece wordPiece inInteger goesOn integerOf integerPiece isHex hexValue simpleEscape byteEscape unicodeFrom escapeOf plainChar charOf isSuffix closedChar charPiece begins punctuation firstOf pieceOf tokenFrom tokenBehind tokenAt tokens
+unfolding charsRows ascii run isScalarValue isTail shortestForm scalarFrom scalarOf isUtf8 whitespace inLine isLineDoc isBlockDoc opens closes depthBehind unpaired blockFrom inUtf8 lineGap blockGap commentOf gapOf startFrom member isWhitespace between isDigit isLetter beginsWord inWord sameWord isOneOf keywords neverRaw wordOf endsPrefix isRaw rawPiece plainPiece wordPiece inInteger goesOn integerOf integerPiece hexDigit simpleEscape byteEscape escaped unicodeFrom escapeOf plainChar charOf isSuffix closedChar charPiece begins punctuation firstOf pieceOf tokenFrom tokenBehind tokenAt tokens
 charsHold = refl

@@ -3,7 +3,7 @@ use Prim.Native.Nat.{ℕ, suc, _+_, _*_, _-_}
 use Prim.Native.Char.{code}
 use mathlib.Core.Bool.{Bool, true, false, cond, not, _&&_, _||_}
 use mathlib.Core.List.{List, [], _∷_}
-use lib.Dec.{eqb, ltb, leb}
+use lib.Dec.{eqb, ltb}
 use lib.ListN.{drop}
 use Rattle.image.specs.Lists.{member}
 use Rattle.text_chars.specs.declared.Scalar.{Scalar}
@@ -13,7 +13,7 @@ use Rattle.text_chars.specs.Scalars.{isScalarValue, scalarOf, onScalar}
 use Rattle.pattern_tokens.specs.declared.Kind.{Kind}
 use Rattle.pattern_tokens.specs.declared.Kind.the-variants.{Integer, Char}
 use Rattle.pattern_tokens.specs.declared.Piece.{Piece}
-use Rattle.pattern_tokens.specs.Words.{isDigit, isLetter, beginsWord, inWord, piece, failing}
+use Rattle.pattern_tokens.specs.Words.{between, isDigit, isLetter, beginsWord, inWord, piece, failing}
 
 -- DEC_LITERAL (lex.token.literal.int.syntax): a digit, then digits and `_`
 unfoldable pub inInteger : ℕ → Bool
@@ -32,13 +32,13 @@ integerOf bytes n = cond (goesOn (byteOf bytes n) (byteOf bytes (n + 1))) failin
 unfoldable pub integerPiece : List ℕ → Piece
 integerPiece bytes = integerOf bytes (run inInteger bytes)
 
--- HEX_DIGIT (lex.token.literal.int.syntax)
-unfoldable pub isHex : ℕ → Bool
-isHex b = isDigit b || ((leb (code "a") b && leb b (code "f")) || (leb (code "A") b && leb b (code "F")))
-
--- and its value
-unfoldable pub hexValue : ℕ → ℕ
-hexValue b = cond (leb b (code "9")) (b - code "0") (cond (leb b (code "F")) (b - 55) (b - 87))
+-- the value of a HEX_DIGIT (lex.token.literal.int.syntax); 16 for a byte that is none
+unfoldable pub hexDigit : ℕ → ℕ
+hexDigit b =
+    cond (between (code "0") (code "9") b) (b - code "0")
+    (cond (between (code "a") (code "f") b) (b - code "a" + 10)
+    (cond (between (code "A") (code "F") b) (b - code "A" + 10)
+    16))
 
 -- `\n \r \t \\ \0 \' \"`, by the byte behind `\` (lex.token.literal.char.syntax: QUOTE_ESCAPE, ASCII_ESCAPE)
 unfoldable pub simpleEscape : ℕ → Scalar
@@ -52,24 +52,28 @@ simpleEscape b =
 
 -- `\x`, an octal digit and a hexadecimal digit: ASCII_ESCAPE
 unfoldable pub byteEscape : ℕ → ℕ → Scalar
-byteEscape b c = cond (isDigit b && (leb b (code "7") && isHex c)) (Of (hexValue b * 16 + hexValue c) 3) Nothing
+byteEscape b c = cond (ltb (hexDigit b) 8 && ltb (hexDigit c) 16) (Of (hexDigit b * 16 + hexDigit c) 3) Nothing
 
--- UNICODE_ESCAPE behind `\u{`: (HEX_DIGIT _*) 1 to 6 times, and `}`. Of it so many bytes are read behind the `\`, with so many digits and
--- this value
+-- the scalar value that an escape means
+unfoldable pub escaped : ℕ → ℕ → Scalar
+escaped v more = cond (isScalarValue v) (Of v more) Nothing
+
+-- UNICODE_ESCAPE: `\u{`, (HEX_DIGIT _*) 1 to 6 times, and `}`. Of it so many bytes are read, with so many digits and this value. Behind
+-- its first byte an escape has as many as before its last
 unfoldable pub unicodeFrom : ℕ → ℕ → ℕ → List ℕ → Scalar
-unicodeFrom more digits v [] = Nothing
-unicodeFrom more digits v (b ∷ bytes) =
-    cond (isHex b) (cond (ltb digits 6) (unicodeFrom (suc more) (suc digits) (v * 16 + hexValue b) bytes) Nothing)
+unicodeFrom read digits v [] = Nothing
+unicodeFrom read digits v (b ∷ bytes) =
+    cond (ltb (hexDigit b) 16) (cond (ltb digits 6) (unicodeFrom (suc read) (suc digits) (v * 16 + hexDigit b) bytes) Nothing)
     (cond (eqb digits 0) Nothing
-    (cond (eqb b (code "_")) (unicodeFrom (suc more) digits v bytes)
-    (cond (eqb b (code "}") && isScalarValue v) (Of v (suc more))
+    (cond (eqb b (code "_")) (unicodeFrom (suc read) digits v bytes)
+    (cond (eqb b (code "}")) (escaped v read)
     Nothing)))
 
 -- the bytes begin with an escape
 unfoldable pub escapeOf : List ℕ → Scalar
 escapeOf bytes =
     cond (eqb (byteOf bytes 1) (code "x")) (byteEscape (byteOf bytes 2) (byteOf bytes 3))
-    (cond (eqb (byteOf bytes 1) (code "u") && eqb (byteOf bytes 2) (code "{")) (unicodeFrom 2 0 0 (drop 3 bytes))
+    (cond (eqb (byteOf bytes 1) (code "u") && eqb (byteOf bytes 2) (code "{")) (unicodeFrom 3 0 0 (drop 3 bytes))
     (simpleEscape (byteOf bytes 1)))
 
 -- what stands for itself between quotes: any but `'`, `\`, LF, CR, TAB (lex.token.literal.char.syntax)
@@ -85,11 +89,11 @@ charOf bytes = cond (eqb (byteOf bytes 0) (code "\\")) (escapeOf bytes) (plainCh
 unfoldable pub isSuffix : ℕ → ℕ → Bool
 isSuffix b c = isLetter b || (eqb b (code "_") && inWord c)
 
--- a char of so many bytes behind its opening quote and before its closing one, if it is closed and has no suffix
+-- a char that has so many bytes behind the first one between its quotes, if it is closed and has no suffix
 unfoldable pub closedChar : List ℕ → ℕ → ℕ → Piece
-closedChar bytes v n =
-    cond (eqb (byteOf bytes (n + 1)) (code "'") && not (isSuffix (byteOf bytes (n + 2)) (byteOf bytes (n + 3)))) (piece (Char v) (n + 2)) failing
+closedChar bytes v more =
+    cond (eqb (byteOf bytes (more + 2)) (code "'") && not (isSuffix (byteOf bytes (more + 3)) (byteOf bytes (more + 4)))) (piece (Char v) (more + 3)) failing
 
 -- the token that begins with `'`: CHAR_LITERAL (lex.token.literal.char.syntax); a lifetime fails, as does whatever is no token
 unfoldable pub charPiece : List ℕ → Piece
-charPiece bytes = onScalar (charOf (drop 1 bytes)) failing (λ v more. closedChar bytes v (more + 1))
+charPiece bytes = onScalar (charOf (drop 1 bytes)) failing (closedChar bytes)

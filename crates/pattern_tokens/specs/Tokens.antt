@@ -12,7 +12,7 @@ use Rattle.text_chars.specs.declared.Start.the-variants.{At, BrokenAt}
 use Rattle.text_chars.specs.Bytes.{byteOf, ascii}
 use Rattle.text_chars.specs.Gaps.{startOf}
 use Rattle.pattern_tokens.specs.declared.Kind.{Kind}
-use Rattle.pattern_tokens.specs.declared.Kind.the-variants.{OpenParen, CloseParen, OpenBracket, CloseBracket, OpenBrace, CloseBrace, Comma, Or, And, AndAnd, Bind, Minus, Colon, PathSep, DotDot, DotDotEq, End}
+use Rattle.pattern_tokens.specs.declared.Kind.the-variants.{OpenParen, CloseParen, OpenBracket, CloseBracket, OpenBrace, CloseBrace, Comma, Or, And, AndAnd, Bind, Minus, Colon, PathSep, DotDot, DotDotEq, End, Fails}
 use Rattle.pattern_tokens.specs.declared.Piece.{Piece}
 use Rattle.pattern_tokens.specs.declared.Token.{Token}
 use Rattle.pattern_tokens.specs.Words.{isDigit, beginsWord, piece, failing, wordPiece}
@@ -73,15 +73,19 @@ pieceOf at bytes =
 abbrev pub placed : ℕ → Piece → Token
 placed at p = record { kind = p .kind; from = at; to = at + p .size }
 
+-- what has no bytes: the end of the text, or a comment that fails
+abbrev pub bare : Kind → ℕ → Token
+bare k at = record { kind = k; from = at; to = at }
+
 -- the token that begins at a position, and the end of the text
 unfoldable pub tokenFrom : ℕ → List ℕ → Token
-tokenFrom at [] = placed at (piece End 0)
+tokenFrom at [] = bare End at
 tokenFrom at (b ∷ bytes) = placed at (pieceOf at (b ∷ bytes))
 
 -- behind whitespace and comments
 unfoldable pub tokenBehind : List ℕ → Start → Token
 tokenBehind text (At at) = tokenFrom at (drop at text)
-tokenBehind text (BrokenAt at) = placed at failing
+tokenBehind text (BrokenAt at) = bare Fails at
 
 -- the first token from a position of a text on
 unfoldable pub tokenAt : List ℕ → ℕ → Token

@@ -10,13 +10,17 @@ use Rattle.pattern_tokens.specs.declared.Kind.{Kind}
 use Rattle.pattern_tokens.specs.declared.Kind.the-variants.{Name, Ref, Mut, True, False, Underscore, Fails}
 use Rattle.pattern_tokens.specs.declared.Piece.{Piece}
 
+-- a byte from low to high
+unfoldable pub between : ℕ → ℕ → ℕ → Bool
+between low high b = leb low b && leb b high
+
 -- DEC_DIGIT (lex.token.literal.int.syntax)
 unfoldable pub isDigit : ℕ → Bool
-isDigit b = leb (code "0") b && leb b (code "9")
+isDigit b = between (code "0") (code "9") b
 
 -- XID_Start in ASCII
 unfoldable pub isLetter : ℕ → Bool
-isLetter b = (leb (code "a") b && leb b (code "z")) || (leb (code "A") b && leb b (code "Z"))
+isLetter b = between (code "a") (code "z") b || between (code "A") (code "Z") b
 
 -- a word begins with a letter or `_`: IDENTIFIER_OR_KEYWORD (ident.syntax)
 unfoldable pub beginsWord : ℕ → Bool
