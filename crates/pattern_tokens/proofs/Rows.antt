@@ -7,10 +7,10 @@ use Rattle.image.specs.Lists.{member}
 use Rattle.text_chars.specs.Bytes.{ascii, run}
 use Rattle.text_chars.specs.Scalars.{isScalarValue, isTail, shortestForm, scalarFrom, scalarOf, isUtf8}
 use Rattle.text_chars.specs.Gaps.{whitespace, isWhitespace, inLine, isLineDoc, isBlockDoc, opens, closes, depthBehind, unpaired, blockFrom, inUtf8, lineGap, blockGap, commentOf, gapOf, startFrom}
-use Rattle.pattern_tokens.specs.declared.Kind.{Kind}
-use Rattle.pattern_tokens.specs.declared.Kind.the-variants.{Name, Ref, Mut, True, False, Underscore, Integer, Char, OpenParen, CloseParen, OpenBracket, CloseBracket, OpenBrace, CloseBrace, Comma, Or, And, AndAnd, Bind, Minus, Colon, PathSep, DotDot, DotDotEq, End, Fails}
+use Rattle.pattern_words.specs.declared.Kind.{Kind}
+use Rattle.pattern_words.specs.declared.Kind.the-variants.{Name, Ref, Mut, True, False, Underscore, Integer, Char, OpenParen, CloseParen, OpenBracket, CloseBracket, OpenBrace, CloseBrace, Comma, Or, And, AndAnd, Bind, Minus, Colon, PathSep, DotDot, DotDotEq, End, Fails}
 use Rattle.pattern_tokens.specs.declared.Token.{Token}
-use Rattle.pattern_tokens.specs.Words.{between, isDigit, isLetter, beginsWord, inWord, sameWord, isOneOf, keywords, neverRaw, wordOf, endsPrefix, isRaw, rawPiece, plainPiece, wordPiece}
+use Rattle.pattern_words.specs.Words.{between, isDigit, isLetter, beginsWord, inWord, sameWord, isOneOf, keywords, neverRaw, wordOf, endsPrefix, isRaw, rawPiece, plainPiece, wordPiece}
 use Rattle.pattern_tokens.specs.Literals.{inInteger, goesOn, integerOf, integerPiece, hexDigit, simpleEscape, byteEscape, escaped, unicodeFrom, escapeOf, plainChar, charOf, isSuffix, closedChar, charPiece}
 use Rattle.pattern_tokens.specs.Tokens.{begins, punctuation, firstOf, pieceOf, tokenFrom, tokenBehind, tokenAt}
 

@@ -4,35 +4,21 @@ use mathlib.Core.Path.{_≡_, refl, sym, _∙_, ap}
 use mathlib.Core.Bool.{Bool, true, false, cond, not, _&&_}
 use mathlib.Core.List.{List, [], _∷_}
 use native.Mathlib.Omega.{arith}
-use borrow.Author.Tests.{leb-true, eqb-true, ltb-true, ltb-false}
-use lib.Dec.{eqb, leb, ltb}
-use lib.ListN.{length, getD, take, drop, length-drop, List·getD-eq-default}
+use borrow.Author.Tests.{leb-true, eqb-true}
+use lib.Dec.{eqb, leb}
+use lib.ListN.{length, getD, take, drop, length-drop}
 use Rattle.image.proofs.Bools.{and-left, and-right}
 use Rattle.text_chars.specs.declared.Scalar.{Scalar}
 use Rattle.text_chars.specs.Bytes.{ascii, run}
-use Rattle.pattern_tokens.specs.declared.Kind.{Kind}
-use Rattle.pattern_tokens.specs.declared.Piece.{Piece}
-use Rattle.pattern_tokens.specs.Words.{beginsWord, inWord, isDigit, sameWord, isOneOf, keywords, neverRaw, wordOf, endsPrefix, isRaw, rawPiece, plainPiece, wordPiece, failing}
+use Rattle.pattern_words.specs.declared.Kind.{Kind}
+use Rattle.pattern_words.specs.declared.Piece.{Piece}
+use Rattle.pattern_words.specs.Words.{beginsWord, inWord, isDigit, sameWord, isOneOf, keywords, neverRaw, wordOf, endsPrefix, isRaw, rawPiece, plainPiece, wordPiece, failing}
 use Rattle.pattern_tokens.specs.Literals.{inInteger, integerOf, integerPiece, charOf, isSuffix, closedChar, charPiece, goesOn}
 use Rattle.pattern_tokens.specs.Tokens.{Mark, begins, punctuation, firstOf, pieceOf, placed, bare, tokenFrom, tokenBehind, tokenAt}
 use Rattle.text_chars.specs.declared.Start.{Start}
 use Rattle.text_chars.specs.Gaps.{startOf}
 use Rattle.text_chars.proofs.Loops.{on, over, left}
-use Rattle.pattern_tokens.proofs.Spelling.{begins-range, run-bound}
-
-inside : (bytes : List ℕ) (k : ℕ) (p : Bool) → 0 < getD bytes k 0 → ltb k (length bytes) ≡ p → k < length bytes
-inside bytes k true h e = ltb-true k (length bytes) e
-inside bytes k false h e =
-    let far = ltb-false k (length bytes) e in
-    let zero = List·getD-eq-default bytes 0 {n = k} far in
-    absurd (apart (getD bytes k 0) h zero)
-  where
-    apart : (n : ℕ) → 0 < n → n ≡ 0 → ⊥
-    apart n h e = omega arith
-
--- a byte that is no 0 stands before the end
-pub there : (bytes : List ℕ) (k : ℕ) → 0 < getD bytes k 0 → k < length bytes
-there bytes k h = inside bytes k (ltb k (length bytes)) h refl
+use Rattle.pattern_words.proofs.Spelling.{run-bound, there, raw-long}
 
 -- either of two pieces, each where the test leads to it
 chosen : (p : Bool) (x y : Piece) (n : ℕ) → (p ≡ true → x .size ≤ n) → y .size ≤ n → cond p x y .size ≤ n
@@ -48,11 +34,6 @@ word-size at n word m h =
     (chosen (sameWord word (ascii "true")) _ _ m (λ _. h)
     (chosen (sameWord word (ascii "false")) _ _ m (λ _. h)
     (chosen (isOneOf word keywords) _ _ m (λ _. omega arith) h)))))
-
-pub raw-long : (bytes : List ℕ) → isRaw bytes ≡ true → 2 < length bytes
-unfolding isRaw
-raw-long bytes e =
-    there bytes 2 (begins-range (getD bytes 2 0) (and-right (eqb (getD bytes 1 0) 35) _ (and-right (eqb (getD bytes 0 0) 114) _ e)) .0)
 
 words-size : (at : ℕ) (bytes : List ℕ) → wordPiece at bytes .size ≤ length bytes
 unfolding wordPiece rawPiece plainPiece

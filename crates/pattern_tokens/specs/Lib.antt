@@ -1,4 +1,2 @@
-pub mod Words
 pub mod Literals
 pub mod Tokens
-pub mod Values

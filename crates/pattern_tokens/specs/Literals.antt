@@ -10,10 +10,10 @@ use Rattle.text_chars.specs.declared.Scalar.{Scalar}
 use Rattle.text_chars.specs.declared.Scalar.the-variants.{Of, Nothing}
 use Rattle.text_chars.specs.Bytes.{byteOf, ascii, run}
 use Rattle.text_chars.specs.Scalars.{isScalarValue, scalarOf, onScalar}
-use Rattle.pattern_tokens.specs.declared.Kind.{Kind}
-use Rattle.pattern_tokens.specs.declared.Kind.the-variants.{Integer, Char}
-use Rattle.pattern_tokens.specs.declared.Piece.{Piece}
-use Rattle.pattern_tokens.specs.Words.{between, isDigit, isLetter, beginsWord, inWord, piece, failing}
+use Rattle.pattern_words.specs.declared.Kind.{Kind}
+use Rattle.pattern_words.specs.declared.Kind.the-variants.{Integer, Char}
+use Rattle.pattern_words.specs.declared.Piece.{Piece}
+use Rattle.pattern_words.specs.Words.{between, isDigit, isLetter, beginsWord, inWord, piece, failing}
 
 -- DEC_LITERAL (lex.token.literal.int.syntax): a digit, then digits and `_`
 unfoldable pub inInteger : ℕ → Bool

@@ -11,11 +11,11 @@ use Rattle.text_chars.specs.declared.Start.{Start}
 use Rattle.text_chars.specs.declared.Start.the-variants.{At, BrokenAt}
 use Rattle.text_chars.specs.Bytes.{byteOf, ascii}
 use Rattle.text_chars.specs.Gaps.{startOf}
-use Rattle.pattern_tokens.specs.declared.Kind.{Kind}
-use Rattle.pattern_tokens.specs.declared.Kind.the-variants.{OpenParen, CloseParen, OpenBracket, CloseBracket, OpenBrace, CloseBrace, Comma, Or, And, AndAnd, Bind, Minus, Colon, PathSep, DotDot, DotDotEq, End, Fails}
-use Rattle.pattern_tokens.specs.declared.Piece.{Piece}
+use Rattle.pattern_words.specs.declared.Kind.{Kind}
+use Rattle.pattern_words.specs.declared.Kind.the-variants.{OpenParen, CloseParen, OpenBracket, CloseBracket, OpenBrace, CloseBrace, Comma, Or, And, AndAnd, Bind, Minus, Colon, PathSep, DotDot, DotDotEq, End, Fails}
+use Rattle.pattern_words.specs.declared.Piece.{Piece}
 use Rattle.pattern_tokens.specs.declared.Token.{Token}
-use Rattle.pattern_tokens.specs.Words.{isDigit, beginsWord, piece, failing, wordPiece}
+use Rattle.pattern_words.specs.Words.{isDigit, beginsWord, piece, failing, wordPiece}
 use Rattle.pattern_tokens.specs.Literals.{integerPiece, charPiece}
 
 -- the bytes begin with these

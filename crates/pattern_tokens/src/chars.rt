@@ -1,10 +1,10 @@
 // Chars.
-use crate::Kind;
-use crate::Piece;
+use pattern_words::Kind;
+use pattern_words::Piece;
 use crate::integers::byte_behind;
-use crate::words::is_between;
-use crate::words::is_in_word;
-use crate::words::is_letter;
+use pattern_words::words::is_between;
+use pattern_words::words::is_in_word;
+use pattern_words::words::is_letter;
 use text_chars::Scalar;
 use text_chars::byte_of;
 use text_chars::scalar_of;

@@ -1,8 +1,8 @@
 // Decimal integers.
-use crate::Kind;
-use crate::Piece;
-use crate::words::begins_word;
-use crate::words::is_digit;
+use pattern_words::Kind;
+use pattern_words::Piece;
+use pattern_words::words::begins_word;
+use pattern_words::words::is_digit;
 use text_chars::byte_of;
 ghost use mathlib.Core.Path.{_≡_};
 ghost use Prim.Native.Nat.{_+_};

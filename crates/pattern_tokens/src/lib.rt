@@ -2,8 +2,10 @@
 mod chars;
 mod integers;
 mod punctuation;
-mod words;
 
+use pattern_words::Kind;
+use pattern_words::Piece;
+use pattern_words::words;
 use text_chars::Start;
 use text_chars::byte_of;
 use text_chars::start_of;
@@ -12,53 +14,11 @@ ghost use Prim.Native.Nat.{_+_, _<_, _≤_, _^_};
 ghost use lib.ListN.{length};
 ghost use Rattle.pattern_tokens.specs.Tokens.{pieceOf, tokenAt, placed};
 
-// What a token is. A name has the position where it begins, behind `r#`; a char has its value.
-pub enum Kind {
-    Name(usize),
-    Ref,
-    Mut,
-    True,
-    False,
-    Underscore,
-    Integer,
-    Char(u32),
-    OpenParen,
-    CloseParen,
-    OpenBracket,
-    CloseBracket,
-    OpenBrace,
-    CloseBrace,
-    Comma,
-    Or,
-    And,
-    AndAnd,
-    Bind,
-    Minus,
-    Colon,
-    PathSep,
-    DotDot,
-    DotDotEq,
-    End,
-    Fails,
-}
-
-// A token by its kind and how many bytes it has.
-pub struct Piece {
-    pub kind: Kind,
-    pub size: usize,
-}
-
 // A token, the position of its first byte and that behind it.
 pub struct Token {
     pub kind: Kind,
     pub from: usize,
     pub to: usize,
-}
-
-// The value of an integer in two halves of eight bytes, the low one first.
-pub enum Value {
-    Halves(u64, u64),
-    Over,
 }
 
 // The token with which the bytes begin, at a position.

@@ -1,10 +1,10 @@
 // Punctuation, by its first three bytes.
-use crate::Kind;
-use crate::Piece;
+use pattern_words::Kind;
+use pattern_words::Piece;
 use text_chars::byte_of;
 ghost use mathlib.Core.Path.{_≡_};
 ghost use mathlib.Core.List.{[], _∷_};
-ghost use Rattle.pattern_tokens.specs.Words.{piece, failing};
+ghost use Rattle.pattern_words.specs.Words.{piece, failing};
 ghost use Rattle.pattern_tokens.specs.Tokens.{punctuation, firstOf};
 
 fn fails() -> Piece

@@ -3,7 +3,7 @@ use Rattle.pattern_tokens.proofs.integers.is_in_integer.Statement.{stat
 use Rattle.pattern_tokens.proofs.integers.is_in_integer.Tie as tie
 use Rattle.pattern_tokens.proofs.integers.is_in_integer.Reads as reads
 use Rattle.pattern_tokens.proofs.integers.is_in_integer.Lts as lts
-use Rattle.pattern_tokens.proofs.words.is_digit.Reads as is-digit-reads
+use Rattle.pattern_words.proofs.words.is_digit.Reads as is-digit-reads
 use mathlib.Core.Path.{_≡_, refl, sym, _∙_, ap}
 use native.Mathlib.Omega.{arith}
 use borrow.Author.Tests.{lt-ltb, le-ltb, le-leb, lt-leb, eq-eqb, ne-eqb, not-true, not-false}

@@ -1,0 +1,24 @@
+use borrow.Author.Needs.{needs}
+use Rattle.pattern_words.proofs.words.begins_word.Statement.{statement}
+use Rattle.pattern_words.proofs.words.begins_word.Tie as tie
+use Rattle.pattern_words.proofs.words.begins_word.Reads as reads
+use Rattle.pattern_words.proofs.words.begins_word.Lts as lts
+use Rattle.pattern_words.proofs.words.is_letter.Reads as is-letter-reads
+use mathlib.Core.Path.{_≡_, refl, sym, _∙_, ap}
+use native.Mathlib.Omega.{arith}
+use borrow.Author.Tests.{lt-ltb, le-ltb, le-leb, lt-leb, eq-eqb, ne-eqb, not-true, not-false}
+use Rattle.pattern_words.specs.Words.{beginsWord}
+
+is-letter-requires : tie.Need-is-letter-requires
+is-letter-requires c κs = search needs
+
+returns : tie.Need-returns
+unfolding beginsWord
+returns c = simp (sym (c .before .is-letter .ensures) ∙ c .if1 .taken)
+
+returns-2 : tie.Need-returns-2
+unfolding beginsWord
+returns-2 c = simp (sym (c .before .is-letter .ensures) ∙ c .if1 .left)
+
+pub begins-word-spec : {M : Type 1} → statement M
+begins-word-spec = tie.close (tie.spec is-letter-requires returns returns-2)
