@@ -1,16 +1,15 @@
 -- Decimal integers and chars. Assumes nothing: these are definitions.
 use Prim.Native.Nat.{ℕ, suc, _+_, _*_, _-_}
 use Prim.Native.Char.{code}
-use mathlib.Core.Bool.{Bool, true, false, cond, not, _&&_, _||_}
+use mathlib.Core.Bool.{Bool, cond, not, _&&_, _||_}
 use mathlib.Core.List.{List, [], _∷_}
 use lib.Dec.{eqb, ltb}
 use lib.ListN.{drop}
 use Rattle.image.specs.Lists.{member}
 use Rattle.text_chars.specs.declared.Scalar.{Scalar}
 use Rattle.text_chars.specs.declared.Scalar.the-variants.{Of, Nothing}
-use Rattle.text_chars.specs.Bytes.{byteOf, ascii, run}
+use Rattle.text_chars.specs.Bytes.{byteOf, run}
 use Rattle.text_chars.specs.Scalars.{isScalarValue, scalarOf, onScalar}
-use Rattle.pattern_words.specs.declared.Kind.{Kind}
 use Rattle.pattern_words.specs.declared.Kind.the-variants.{Integer, Char}
 use Rattle.pattern_words.specs.declared.Piece.{Piece}
 use Rattle.pattern_words.specs.Words.{between, isDigit, isLetter, beginsWord, inWord, piece, failing}

@@ -1,7 +1,7 @@
 // Chars.
+use crate::integers::byte_behind;
 use pattern_words::Kind;
 use pattern_words::Piece;
-use crate::integers::byte_behind;
 use pattern_words::words::is_between;
 use pattern_words::words::is_in_word;
 use pattern_words::words::is_letter;

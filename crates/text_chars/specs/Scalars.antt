@@ -1,7 +1,7 @@
 -- UTF-8: "Each source file is interpreted as a sequence of Unicode characters encoded in UTF-8" (input.encoding.utf8). Assumes nothing:
 -- these are definitions.
 use Prim.Native.Nat.{ℕ, zero, suc, _+_, _*_, _%_}
-use mathlib.Core.Bool.{Bool, true, false, cond, not, _&&_, _||_}
+use mathlib.Core.Bool.{Bool, false, cond, not, _&&_, _||_}
 use mathlib.Core.List.{List, [], _∷_}
 use lib.Dec.{eqb, ltb, leb}
 use Rattle.text_chars.specs.Bytes.{byteOf}

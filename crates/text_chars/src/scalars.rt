@@ -65,7 +65,11 @@ pub fn scalar_from(a: u32, b: u32, c: u32, d: u32) -> Scalar
         return Scalar::Nothing;
     }
     if a < 0xF8 {
-        return shortest_form(0x10000, a % 8 * 262144 + b % 64 * 4096 + c % 64 * 64 + d % 64, 3);
+        return shortest_form(
+            0x10000,
+            a % 8 * 262144 + b % 64 * 4096 + c % 64 * 64 + d % 64,
+            3,
+        );
     }
     Scalar::Nothing
 }

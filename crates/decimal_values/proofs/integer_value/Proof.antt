@@ -1,17 +1,13 @@
 use Rattle.decimal_values.proofs.integer_value.Statement.{statement}
 use Rattle.decimal_values.proofs.integer_value.Tie as tie
-use Rattle.decimal_values.proofs.integer_value.Reads as reads
-use Rattle.decimal_values.proofs.integer_value.Lts as lts
-use Rattle.decimal_values.proofs.times_ten.Reads as times-ten-reads
-use Rattle.pattern_words.proofs.words.is_digit.Reads as is-digit-reads
 use mathlib.Core.Path.{_≡_, refl, sym, _∙_, ap}
 use native.Mathlib.Omega.{arith}
 use borrow.Author.Needs.{needs}
-use borrow.Author.Tests.{lt-ltb, le-ltb, le-leb, lt-leb, eq-eqb, ne-eqb, not-true, not-false}
-use Prim.Native.Nat.{ℕ, _≤_, _<_, _+_, _-_, _*_, _^_}
-use lib.ListN.{length, take, drop, getD}
+use borrow.Author.Tests.{not-true, not-false}
+use Prim.Native.Nat.{ℕ, _<_, _+_, _-_, _*_, _^_}
+use lib.ListN.{take, drop, getD}
 use Rattle.pattern_words.proofs.Spelling.{digit-true}
-use Rattle.decimal_values.specs.Values.{decimalFrom, inHalves, integerValue}
+use Rattle.decimal_values.specs.Values.{decimalFrom, integerValue}
 use Rattle.decimal_values.proofs.Digits.{decimal-on, decimal-over, decimal-end, halves, too-long, carried}
 
 abbrev Inv-loop : tie.InvT-loop

@@ -1,18 +1,9 @@
 use borrow.Author.Needs.{needs}
 use Rattle.pattern_tokens.proofs.piece_of.Statement.{statement}
 use Rattle.pattern_tokens.proofs.piece_of.Tie as tie
-use Rattle.pattern_tokens.proofs.piece_of.Reads as reads
-use Rattle.pattern_tokens.proofs.piece_of.Lts as lts
-use Rattle.pattern_tokens.proofs.chars.char_piece.Reads as char-piece-reads
-use Rattle.pattern_tokens.proofs.integers.integer_piece.Reads as integer-piece-reads
-use Rattle.pattern_tokens.proofs.punctuation.mark_piece.Reads as mark-piece-reads
-use Rattle.pattern_words.proofs.words.begins_word.Reads as begins-word-reads
-use Rattle.pattern_words.proofs.words.is_digit.Reads as is-digit-reads
-use Rattle.pattern_words.proofs.words.word_piece.Reads as word-piece-reads
-use Rattle.text_chars.proofs.byte_of.Reads as byte-of-reads
-use mathlib.Core.Path.{_≡_, refl, sym, _∙_, ap}
+use mathlib.Core.Path.{sym, _∙_}
 use native.Mathlib.Omega.{arith}
-use borrow.Author.Tests.{lt-ltb, le-ltb, le-leb, lt-leb, eq-eqb, ne-eqb, not-true, not-false}
+use borrow.Author.Tests.{eq-eqb, ne-eqb}
 use Rattle.pattern_tokens.specs.Tokens.{pieceOf}
 use Rattle.pattern_tokens.proofs.Sizes.{quote-there}
 

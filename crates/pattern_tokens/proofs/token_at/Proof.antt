@@ -1,14 +1,8 @@
 use borrow.Author.Needs.{needs}
 use Rattle.pattern_tokens.proofs.token_at.Statement.{statement}
 use Rattle.pattern_tokens.proofs.token_at.Tie as tie
-use Rattle.pattern_tokens.proofs.token_at.Reads as reads
-use Rattle.pattern_tokens.proofs.token_at.Lts as lts
-use Rattle.pattern_tokens.proofs.piece_of.Reads as piece-of-reads
-use Rattle.pattern_tokens.proofs.place.Reads as place-reads
-use Rattle.text_chars.proofs.start_of.Reads as start-of-reads
-use mathlib.Core.Path.{_≡_, refl, sym, _∙_, ap}
+use mathlib.Core.Path.{sym, _∙_}
 use native.Mathlib.Omega.{arith}
-use borrow.Author.Tests.{lt-ltb, le-ltb, le-leb, lt-leb, eq-eqb, ne-eqb, not-true, not-false}
 use Rattle.pattern_tokens.proofs.Sizes.{token-end, token-broken, token-there, token-fits}
 use Rattle.text_chars.proofs.Loops.{left}
 use lib.ListN.{length-drop}

@@ -1,14 +1,7 @@
 use borrow.Author.Needs.{needs}
 use Rattle.text_chars.proofs.gap_of.Statement.{statement}
 use Rattle.text_chars.proofs.gap_of.Tie as tie
-use Rattle.text_chars.proofs.gap_of.Reads as reads
-use Rattle.text_chars.proofs.gap_of.Lts as lts
-use Rattle.text_chars.proofs.comments.comment_of.Reads as comment-of-reads
-use Rattle.text_chars.proofs.is_whitespace.Reads as is-whitespace-reads
-use Rattle.text_chars.proofs.scalar_of.Reads as scalar-of-reads
-use mathlib.Core.Path.{_≡_, refl, sym, _∙_, ap}
-use native.Mathlib.Omega.{arith}
-use borrow.Author.Tests.{lt-ltb, le-ltb, le-leb, lt-leb, eq-eqb, ne-eqb, not-true, not-false}
+use mathlib.Core.Path.{sym, _∙_}
 use Rattle.text_chars.specs.Gaps.{gapOf}
 
 scalar-of-requires : tie.Need-scalar-of-requires

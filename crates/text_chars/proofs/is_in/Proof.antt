@@ -1,11 +1,9 @@
 use Rattle.text_chars.proofs.is_in.Statement.{statement}
 use Rattle.text_chars.proofs.is_in.Tie as tie
-use Rattle.text_chars.proofs.is_in.Reads as reads
-use Rattle.text_chars.proofs.is_in.Lts as lts
-use mathlib.Core.Path.{_≡_, refl, sym, _∙_, ap}
+use mathlib.Core.Path.{_≡_, refl, sym, _∙_}
 use native.Mathlib.Omega.{arith}
 use borrow.Author.Needs.{needs}
-use borrow.Author.Tests.{lt-ltb, le-ltb, le-leb, lt-leb, eq-eqb, ne-eqb, not-true, not-false}
+use borrow.Author.Tests.{eq-eqb, ne-eqb}
 use Prim.Native.Nat.{_≤_, _-_}
 use lib.ListN.{length, drop}
 use Rattle.image.specs.Lists.{member}

@@ -1,12 +1,6 @@
 use Rattle.text_chars.proofs.is_whitespace.Statement.{statement}
 use Rattle.text_chars.proofs.is_whitespace.Tie as tie
-use Rattle.text_chars.proofs.is_whitespace.Reads as reads
-use Rattle.text_chars.proofs.is_whitespace.Lts as lts
-use Rattle.text_chars.proofs.is_in.Reads as is-in-reads
-use mathlib.Core.Path.{_≡_, refl, sym, _∙_, ap}
-use native.Mathlib.Omega.{arith}
 use borrow.Author.Needs.{needs}
-use borrow.Author.Tests.{lt-ltb, le-ltb, le-leb, lt-leb, eq-eqb, ne-eqb, not-true, not-false}
 use Rattle.text_chars.specs.Gaps.{isWhitespace, whitespace}
 
 slice-aggregate-is-in : tie.Need-slice-aggregate-is-in

@@ -1,14 +1,6 @@
 use borrow.Author.Needs.{needs}
 use Rattle.text_chars.proofs.scalar_of.Statement.{statement}
 use Rattle.text_chars.proofs.scalar_of.Tie as tie
-use Rattle.text_chars.proofs.scalar_of.Reads as reads
-use Rattle.text_chars.proofs.scalar_of.Lts as lts
-use Rattle.text_chars.proofs.byte_of.Reads as byte-of-reads
-use Rattle.text_chars.proofs.scalars.scalar_from.Reads as scalar-from-reads
-use Rattle.text_chars.proofs.scalars.wide.Reads as wide-reads
-use mathlib.Core.Path.{_≡_, refl, sym, _∙_, ap}
-use native.Mathlib.Omega.{arith}
-use borrow.Author.Tests.{lt-ltb, le-ltb, le-leb, lt-leb, eq-eqb, ne-eqb, not-true, not-false}
 use Rattle.text_chars.specs.Scalars.{scalarOf}
 
 byte-of-requires : tie.Need-byte-of-requires

@@ -1,13 +1,8 @@
 use Rattle.text_chars.proofs.start_of.Statement.{statement}
 use Rattle.text_chars.proofs.start_of.Tie as tie
-use Rattle.text_chars.proofs.start_of.Reads as reads
-use Rattle.text_chars.proofs.start_of.Lts as lts
-use Rattle.text_chars.proofs.gap_of.Reads as gap-of-reads
-use mathlib.Core.Path.{_≡_, refl, sym, _∙_, ap}
-use native.Mathlib.Omega.{arith}
+use mathlib.Core.Path.{_≡_, refl, sym, _∙_}
 use borrow.Author.Needs.{needs}
-use borrow.Author.Tests.{lt-ltb, le-ltb, le-leb, lt-leb, eq-eqb, ne-eqb, not-true, not-false}
-use Prim.Native.Nat.{_≤_, _+_, _-_}
+use Prim.Native.Nat.{_-_}
 use lib.ListN.{length, drop}
 use Rattle.text_chars.specs.Gaps.{startFrom}
 use Rattle.text_chars.proofs.Loops.{left, start-over, start-on, start-gap, start-here, start-broken}

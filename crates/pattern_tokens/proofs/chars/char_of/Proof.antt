@@ -1,15 +1,7 @@
 use borrow.Author.Needs.{needs}
 use Rattle.pattern_tokens.proofs.chars.char_of.Statement.{statement}
 use Rattle.pattern_tokens.proofs.chars.char_of.Tie as tie
-use Rattle.pattern_tokens.proofs.chars.char_of.Reads as reads
-use Rattle.pattern_tokens.proofs.chars.char_of.Lts as lts
-use Rattle.pattern_tokens.proofs.chars.escape_of.Reads as escape-of-reads
-use Rattle.pattern_tokens.proofs.chars.plain_char.Reads as plain-char-reads
-use Rattle.text_chars.proofs.byte_of.Reads as byte-of-reads
-use Rattle.text_chars.proofs.scalar_of.Reads as scalar-of-reads
-use mathlib.Core.Path.{_≡_, refl, sym, _∙_, ap}
-use native.Mathlib.Omega.{arith}
-use borrow.Author.Tests.{lt-ltb, le-ltb, le-leb, lt-leb, eq-eqb, ne-eqb, not-true, not-false}
+use borrow.Author.Tests.{eq-eqb, ne-eqb}
 use Rattle.pattern_tokens.specs.Literals.{charOf}
 
 byte-of-requires : tie.Need-byte-of-requires

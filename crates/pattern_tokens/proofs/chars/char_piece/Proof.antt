@@ -1,13 +1,7 @@
 use borrow.Author.Needs.{needs}
 use Rattle.pattern_tokens.proofs.chars.char_piece.Statement.{statement}
 use Rattle.pattern_tokens.proofs.chars.char_piece.Tie as tie
-use Rattle.pattern_tokens.proofs.chars.char_piece.Reads as reads
-use Rattle.pattern_tokens.proofs.chars.char_piece.Lts as lts
-use Rattle.pattern_tokens.proofs.chars.char_of.Reads as char-of-reads
-use Rattle.pattern_tokens.proofs.chars.closed_char.Reads as closed-char-reads
-use mathlib.Core.Path.{_≡_, refl, sym, _∙_, ap}
-use native.Mathlib.Omega.{arith}
-use borrow.Author.Tests.{lt-ltb, le-ltb, le-leb, lt-leb, eq-eqb, ne-eqb, not-true, not-false}
+use mathlib.Core.Path.{sym, _∙_}
 use Rattle.pattern_tokens.specs.Literals.{charPiece}
 use Rattle.text_chars.proofs.Loops.{left}
 

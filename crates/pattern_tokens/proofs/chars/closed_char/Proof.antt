@@ -1,15 +1,11 @@
 use borrow.Author.Needs.{needs}
 use Rattle.pattern_tokens.proofs.chars.closed_char.Statement.{statement}
 use Rattle.pattern_tokens.proofs.chars.closed_char.Tie as tie
-use Rattle.pattern_tokens.proofs.chars.closed_char.Reads as reads
-use Rattle.pattern_tokens.proofs.chars.closed_char.Lts as lts
-use Rattle.pattern_tokens.proofs.chars.is_suffix.Reads as is-suffix-reads
-use Rattle.pattern_tokens.proofs.integers.byte_behind.Reads as byte-behind-reads
-use mathlib.Core.Path.{_≡_, refl, sym, _∙_, ap}
+use mathlib.Core.Path.{sym, _∙_}
 use native.Mathlib.Omega.{arith}
-use borrow.Author.Tests.{lt-ltb, le-ltb, le-leb, lt-leb, eq-eqb, ne-eqb, not-true, not-false}
+use borrow.Author.Tests.{eq-eqb, ne-eqb}
 use Rattle.pattern_tokens.specs.Literals.{closedChar}
-use Prim.Native.Nat.{_≤_, _<_, _+_, _-_, _*_, _^_}
+use Prim.Native.Nat.{_+_}
 use Rattle.pattern_tokens.proofs.Sizes.{quote-there}
 
 byte-behind-requires : tie.Need-byte-behind-requires

@@ -1,15 +1,7 @@
 use borrow.Author.Needs.{needs}
 use Rattle.pattern_tokens.proofs.chars.escape_of.Statement.{statement}
 use Rattle.pattern_tokens.proofs.chars.escape_of.Tie as tie
-use Rattle.pattern_tokens.proofs.chars.escape_of.Reads as reads
-use Rattle.pattern_tokens.proofs.chars.escape_of.Lts as lts
-use Rattle.pattern_tokens.proofs.chars.byte_escape.Reads as byte-escape-reads
-use Rattle.pattern_tokens.proofs.chars.simple_escape.Reads as simple-escape-reads
-use Rattle.pattern_tokens.proofs.chars.unicode_escape.Reads as unicode-escape-reads
-use Rattle.text_chars.proofs.byte_of.Reads as byte-of-reads
-use mathlib.Core.Path.{_≡_, refl, sym, _∙_, ap}
-use native.Mathlib.Omega.{arith}
-use borrow.Author.Tests.{lt-ltb, le-ltb, le-leb, lt-leb, eq-eqb, ne-eqb, not-true, not-false}
+use borrow.Author.Tests.{eq-eqb, ne-eqb}
 use Rattle.pattern_tokens.specs.Literals.{escapeOf}
 
 byte-of-requires : tie.Need-byte-of-requires
@@ -43,14 +35,14 @@ unicode-escape-requires c κs = search needs
 
 returns-3 : tie.Need-returns-3
 unfolding escapeOf
-returns-3 c = simp (← c .before .before .byte-of4 .ensures, ← c .before .before .before .before .before .byte-of .ensures, ne-eqb _ _ (c .before .before .before .before .if1 .left), eq-eqb _ _ (c .before .before .before .if2 .left), eq-eqb _ _ (c .before .if3 .taken)) (c .unicode-escape .ensures)
+returns-3 c = simp (← c .before .before .byte-of4 .ensures, ← c .before .before .before .before .before .byte-of .ensures, ne-eqb _ _ (c .before .before .before .before .if1 .left), eq-eqb _ _ (c .before .before .before .if2 .left)) (c .unicode-escape .ensures)
 
 simple-escape-requires-2 : tie.Need-simple-escape-requires-2
 simple-escape-requires-2 c κs = search needs
 
 returns-4 : tie.Need-returns-4
 unfolding escapeOf
-returns-4 c = simp (← c .before .before .byte-of4 .ensures, ← c .before .before .before .before .before .byte-of .ensures, ne-eqb _ _ (c .before .before .before .before .if1 .left), eq-eqb _ _ (c .before .before .before .if2 .left), ne-eqb _ _ (c .before .if3 .left)) (c .simple-escape2 .ensures)
+returns-4 c = simp (← c .before .before .byte-of4 .ensures, ← c .before .before .before .before .before .byte-of .ensures, ne-eqb _ _ (c .before .before .before .before .if1 .left), eq-eqb _ _ (c .before .before .before .if2 .left)) (c .simple-escape2 .ensures)
 
 pub escape-of-spec : {M : Type 1} → statement M
 escape-of-spec =

@@ -1,12 +1,7 @@
 use borrow.Author.Needs.{needs}
 use Rattle.pattern_tokens.proofs.chars.escaped_value.Statement.{statement}
 use Rattle.pattern_tokens.proofs.chars.escaped_value.Tie as tie
-use Rattle.pattern_tokens.proofs.chars.escaped_value.Reads as reads
-use Rattle.pattern_tokens.proofs.chars.escaped_value.Lts as lts
-use Rattle.text_chars.proofs.scalars.is_scalar_value.Reads as is-scalar-value-reads
-use mathlib.Core.Path.{_≡_, refl, sym, _∙_, ap}
-use native.Mathlib.Omega.{arith}
-use borrow.Author.Tests.{lt-ltb, le-ltb, le-leb, lt-leb, eq-eqb, ne-eqb, not-true, not-false}
+use mathlib.Core.Path.{sym, _∙_}
 use Rattle.pattern_tokens.specs.Literals.{escaped}
 
 is-scalar-value-requires : tie.Need-is-scalar-value-requires

@@ -1,13 +1,8 @@
 use borrow.Author.Needs.{needs}
 use Rattle.pattern_tokens.proofs.chars.hex_digit.Statement.{statement}
 use Rattle.pattern_tokens.proofs.chars.hex_digit.Tie as tie
-use Rattle.pattern_tokens.proofs.chars.hex_digit.Reads as reads
-use Rattle.pattern_tokens.proofs.chars.hex_digit.Lts as lts
-use Rattle.pattern_words.proofs.words.is_between.Reads as is-between-reads
-use Rattle.text_chars.proofs.scalars.wide.Reads as wide-reads
-use mathlib.Core.Path.{_≡_, refl, sym, _∙_, ap}
+use mathlib.Core.Path.{sym, _∙_}
 use native.Mathlib.Omega.{arith}
-use borrow.Author.Tests.{lt-ltb, le-ltb, le-leb, lt-leb, eq-eqb, ne-eqb, not-true, not-false}
 use Rattle.pattern_tokens.specs.Literals.{hexDigit}
 use Rattle.pattern_words.proofs.Spelling.{between-true}
 

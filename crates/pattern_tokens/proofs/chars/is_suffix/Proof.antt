@@ -1,13 +1,8 @@
 use borrow.Author.Needs.{needs}
 use Rattle.pattern_tokens.proofs.chars.is_suffix.Statement.{statement}
 use Rattle.pattern_tokens.proofs.chars.is_suffix.Tie as tie
-use Rattle.pattern_tokens.proofs.chars.is_suffix.Reads as reads
-use Rattle.pattern_tokens.proofs.chars.is_suffix.Lts as lts
-use Rattle.pattern_words.proofs.words.is_in_word.Reads as is-in-word-reads
-use Rattle.pattern_words.proofs.words.is_letter.Reads as is-letter-reads
-use mathlib.Core.Path.{_≡_, refl, sym, _∙_, ap}
-use native.Mathlib.Omega.{arith}
-use borrow.Author.Tests.{lt-ltb, le-ltb, le-leb, lt-leb, eq-eqb, ne-eqb, not-true, not-false}
+use mathlib.Core.Path.{sym, _∙_}
+use borrow.Author.Tests.{eq-eqb, ne-eqb}
 use Rattle.pattern_tokens.specs.Literals.{isSuffix}
 
 is-letter-requires : tie.Need-is-letter-requires

@@ -1,11 +1,7 @@
 use borrow.Author.Needs.{needs}
 use Rattle.pattern_tokens.proofs.chars.plain_char.Statement.{statement}
 use Rattle.pattern_tokens.proofs.chars.plain_char.Tie as tie
-use Rattle.pattern_tokens.proofs.chars.plain_char.Reads as reads
-use Rattle.pattern_tokens.proofs.chars.plain_char.Lts as lts
-use mathlib.Core.Path.{_≡_, refl, sym, _∙_, ap}
-use native.Mathlib.Omega.{arith}
-use borrow.Author.Tests.{lt-ltb, le-ltb, le-leb, lt-leb, eq-eqb, ne-eqb, not-true, not-false}
+use borrow.Author.Tests.{ne-eqb}
 use Rattle.pattern_tokens.specs.Literals.{plainChar}
 use Rattle.image.specs.Lists.{member}
 

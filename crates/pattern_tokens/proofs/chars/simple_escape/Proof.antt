@@ -1,11 +1,6 @@
 use Rattle.pattern_tokens.proofs.chars.simple_escape.Statement.{statement}
 use Rattle.pattern_tokens.proofs.chars.simple_escape.Tie as tie
-use Rattle.pattern_tokens.proofs.chars.simple_escape.Reads as reads
-use Rattle.pattern_tokens.proofs.chars.simple_escape.Lts as lts
-use mathlib.Core.Path.{_≡_, refl, sym, _∙_, ap}
-use native.Mathlib.Omega.{arith}
-use borrow.Author.Needs.{needs}
-use borrow.Author.Tests.{lt-ltb, le-ltb, le-leb, lt-leb, eq-eqb, ne-eqb, not-true, not-false}
+use borrow.Author.Tests.{ne-eqb}
 use Rattle.pattern_tokens.specs.Literals.{simpleEscape}
 
 returns : tie.Need-returns

@@ -1,16 +1,12 @@
 use Rattle.pattern_tokens.proofs.chars.unicode_escape.Statement.{statement}
 use Rattle.pattern_tokens.proofs.chars.unicode_escape.Tie as tie
-use Rattle.pattern_tokens.proofs.chars.unicode_escape.Reads as reads
-use Rattle.pattern_tokens.proofs.chars.unicode_escape.Lts as lts
-use Rattle.pattern_tokens.proofs.chars.escaped_value.Reads as escaped-value-reads
-use Rattle.pattern_tokens.proofs.chars.hex_digit.Reads as hex-digit-reads
-use mathlib.Core.Path.{_≡_, refl, sym, _∙_, ap}
+use mathlib.Core.Path.{_≡_, refl, sym, _∙_}
 use native.Mathlib.Omega.{arith}
 use borrow.Author.Needs.{needs}
-use borrow.Author.Tests.{lt-ltb, le-ltb, le-leb, lt-leb, eq-eqb, ne-eqb, not-true, not-false}
-use Prim.Native.Nat.{_≤_, _<_, _+_, _-_, _*_, _^_}
-use lib.ListN.{length, take, drop, getD}
-use Rattle.pattern_tokens.specs.Literals.{unicodeFrom, hexDigit}
+use borrow.Author.Tests.{lt-ltb, le-ltb, eq-eqb, ne-eqb}
+use Prim.Native.Nat.{_≤_, _<_, _-_, _^_}
+use lib.ListN.{length, drop}
+use Rattle.pattern_tokens.specs.Literals.{unicodeFrom}
 use Rattle.pattern_tokens.proofs.Escapes.{unicode-on, unicode-over, digits-on, digits-fit}
 
 abbrev Inv-loop : tie.InvT-loop

@@ -1,13 +1,10 @@
 use borrow.Author.Needs.{needs}
 use Rattle.pattern_tokens.proofs.integers.byte_behind.Statement.{statement}
 use Rattle.pattern_tokens.proofs.integers.byte_behind.Tie as tie
-use Rattle.pattern_tokens.proofs.integers.byte_behind.Reads as reads
-use Rattle.pattern_tokens.proofs.integers.byte_behind.Lts as lts
-use mathlib.Core.Path.{_≡_, refl, sym, _∙_, ap}
+use mathlib.Core.Path.{refl, sym}
 use native.Mathlib.Omega.{arith}
-use borrow.Author.Tests.{lt-ltb, le-ltb, le-leb, lt-leb, eq-eqb, ne-eqb, not-true, not-false}
 use lib.ListN.{List·getD-eq-default}
-use Prim.Native.Nat.{_≤_, _<_, _+_, _-_, _*_, _^_}
+use Prim.Native.Nat.{_+_}
 
 returns : tie.Need-returns
 returns c = sym (List·getD-eq-default (c .before .args .bytes .now) 0 {n = c .before .args .at + c .before .args .k} (omega arith))

@@ -1,12 +1,8 @@
 use borrow.Author.Needs.{needs}
 use Rattle.pattern_tokens.proofs.integers.goes_on.Statement.{statement}
 use Rattle.pattern_tokens.proofs.integers.goes_on.Tie as tie
-use Rattle.pattern_tokens.proofs.integers.goes_on.Reads as reads
-use Rattle.pattern_tokens.proofs.integers.goes_on.Lts as lts
-use Rattle.pattern_words.proofs.words.begins_word.Reads as begins-word-reads
-use mathlib.Core.Path.{_≡_, refl, sym, _∙_, ap}
-use native.Mathlib.Omega.{arith}
-use borrow.Author.Tests.{lt-ltb, le-ltb, le-leb, lt-leb, eq-eqb, ne-eqb, not-true, not-false}
+use mathlib.Core.Path.{sym, _∙_}
+use borrow.Author.Tests.{eq-eqb, ne-eqb}
 use Rattle.pattern_tokens.specs.Literals.{goesOn}
 
 begins-word-requires : tie.Need-begins-word-requires

@@ -1,15 +1,7 @@
 use borrow.Author.Needs.{needs}
 use Rattle.pattern_tokens.proofs.integers.integer_piece.Statement.{statement}
 use Rattle.pattern_tokens.proofs.integers.integer_piece.Tie as tie
-use Rattle.pattern_tokens.proofs.integers.integer_piece.Reads as reads
-use Rattle.pattern_tokens.proofs.integers.integer_piece.Lts as lts
-use Rattle.pattern_tokens.proofs.integers.byte_behind.Reads as byte-behind-reads
-use Rattle.pattern_tokens.proofs.integers.goes_on.Reads as goes-on-reads
-use Rattle.pattern_tokens.proofs.integers.integer_run.Reads as integer-run-reads
-use Rattle.text_chars.proofs.byte_of.Reads as byte-of-reads
-use mathlib.Core.Path.{_≡_, refl, sym, _∙_, ap}
-use native.Mathlib.Omega.{arith}
-use borrow.Author.Tests.{lt-ltb, le-ltb, le-leb, lt-leb, eq-eqb, ne-eqb, not-true, not-false}
+use mathlib.Core.Path.{sym, _∙_}
 use Rattle.pattern_tokens.specs.Literals.{integerPiece, integerOf}
 
 integer-run-requires : tie.Need-integer-run-requires

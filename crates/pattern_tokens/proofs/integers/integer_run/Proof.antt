@@ -1,14 +1,11 @@
 use Rattle.pattern_tokens.proofs.integers.integer_run.Statement.{statement}
 use Rattle.pattern_tokens.proofs.integers.integer_run.Tie as tie
-use Rattle.pattern_tokens.proofs.integers.integer_run.Reads as reads
-use Rattle.pattern_tokens.proofs.integers.integer_run.Lts as lts
-use Rattle.pattern_tokens.proofs.integers.is_in_integer.Reads as is-in-integer-reads
-use mathlib.Core.Path.{_≡_, refl, sym, _∙_, ap}
+use mathlib.Core.Path.{_≡_, sym, _∙_}
 use native.Mathlib.Omega.{arith}
 use borrow.Author.Needs.{needs}
-use borrow.Author.Tests.{lt-ltb, le-ltb, le-leb, lt-leb, eq-eqb, ne-eqb, not-true, not-false}
-use Prim.Native.Nat.{_≤_, _<_, _+_, _-_, _*_, _^_}
-use lib.ListN.{length, take, drop, getD}
+use borrow.Author.Tests.{not-true, not-false}
+use Prim.Native.Nat.{_+_, _-_}
+use lib.ListN.{length, drop}
 use Rattle.text_chars.specs.Bytes.{run}
 use Rattle.pattern_tokens.specs.Literals.{inInteger}
 use Rattle.text_chars.proofs.Loops.{run-on, run-stops, run-over}

@@ -1,12 +1,7 @@
 use borrow.Author.Needs.{needs}
 use Rattle.pattern_tokens.proofs.integers.is_in_integer.Statement.{statement}
 use Rattle.pattern_tokens.proofs.integers.is_in_integer.Tie as tie
-use Rattle.pattern_tokens.proofs.integers.is_in_integer.Reads as reads
-use Rattle.pattern_tokens.proofs.integers.is_in_integer.Lts as lts
-use Rattle.pattern_words.proofs.words.is_digit.Reads as is-digit-reads
-use mathlib.Core.Path.{_≡_, refl, sym, _∙_, ap}
-use native.Mathlib.Omega.{arith}
-use borrow.Author.Tests.{lt-ltb, le-ltb, le-leb, lt-leb, eq-eqb, ne-eqb, not-true, not-false}
+use mathlib.Core.Path.{sym, _∙_}
 use Rattle.pattern_tokens.specs.Literals.{inInteger}
 
 is-digit-requires : tie.Need-is-digit-requires

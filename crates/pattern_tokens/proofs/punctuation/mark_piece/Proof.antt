@@ -1,13 +1,6 @@
 use borrow.Author.Needs.{needs}
 use Rattle.pattern_tokens.proofs.punctuation.mark_piece.Statement.{statement}
 use Rattle.pattern_tokens.proofs.punctuation.mark_piece.Tie as tie
-use Rattle.pattern_tokens.proofs.punctuation.mark_piece.Reads as reads
-use Rattle.pattern_tokens.proofs.punctuation.mark_piece.Lts as lts
-use Rattle.pattern_tokens.proofs.punctuation.mark_of.Reads as mark-of-reads
-use Rattle.text_chars.proofs.byte_of.Reads as byte-of-reads
-use mathlib.Core.Path.{_≡_, refl, sym, _∙_, ap}
-use native.Mathlib.Omega.{arith}
-use borrow.Author.Tests.{lt-ltb, le-ltb, le-leb, lt-leb, eq-eqb, ne-eqb, not-true, not-false}
 use Rattle.pattern_tokens.specs.Tokens.{begins, punctuation, firstOf}
 use Rattle.text_chars.specs.Bytes.{ascii}
 

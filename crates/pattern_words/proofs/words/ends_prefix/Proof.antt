@@ -1,11 +1,6 @@
 use Rattle.pattern_words.proofs.words.ends_prefix.Statement.{statement}
 use Rattle.pattern_words.proofs.words.ends_prefix.Tie as tie
-use Rattle.pattern_words.proofs.words.ends_prefix.Reads as reads
-use Rattle.pattern_words.proofs.words.ends_prefix.Lts as lts
-use mathlib.Core.Path.{_≡_, refl, sym, _∙_, ap}
-use native.Mathlib.Omega.{arith}
-use borrow.Author.Needs.{needs}
-use borrow.Author.Tests.{lt-ltb, le-ltb, le-leb, lt-leb, eq-eqb, ne-eqb, not-true, not-false}
+use borrow.Author.Tests.{eq-eqb, ne-eqb}
 use Rattle.pattern_words.specs.Words.{endsPrefix}
 
 returns : tie.Need-returns

@@ -1,12 +1,6 @@
 use borrow.Author.Needs.{needs}
 use Rattle.pattern_words.proofs.words.is_never_raw.Statement.{statement}
 use Rattle.pattern_words.proofs.words.is_never_raw.Tie as tie
-use Rattle.pattern_words.proofs.words.is_never_raw.Reads as reads
-use Rattle.pattern_words.proofs.words.is_never_raw.Lts as lts
-use Rattle.text_chars.proofs.is_in.Reads as is-in-reads
-use mathlib.Core.Path.{_≡_, refl, sym, _∙_, ap}
-use native.Mathlib.Omega.{arith}
-use borrow.Author.Tests.{lt-ltb, le-ltb, le-leb, lt-leb, eq-eqb, ne-eqb, not-true, not-false}
 use Rattle.pattern_words.specs.Words.{neverRaw}
 use Rattle.text_chars.specs.Bytes.{ascii}
 use Rattle.image.specs.Bytes.{littleEndian}

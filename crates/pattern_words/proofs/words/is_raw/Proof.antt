@@ -1,13 +1,7 @@
 use borrow.Author.Needs.{needs}
 use Rattle.pattern_words.proofs.words.is_raw.Statement.{statement}
 use Rattle.pattern_words.proofs.words.is_raw.Tie as tie
-use Rattle.pattern_words.proofs.words.is_raw.Reads as reads
-use Rattle.pattern_words.proofs.words.is_raw.Lts as lts
-use Rattle.pattern_words.proofs.words.begins_word.Reads as begins-word-reads
-use Rattle.text_chars.proofs.byte_of.Reads as byte-of-reads
-use mathlib.Core.Path.{_≡_, refl, sym, _∙_, ap}
-use native.Mathlib.Omega.{arith}
-use borrow.Author.Tests.{lt-ltb, le-ltb, le-leb, lt-leb, eq-eqb, ne-eqb, not-true, not-false}
+use borrow.Author.Tests.{eq-eqb, ne-eqb}
 use Rattle.pattern_words.specs.Words.{isRaw}
 
 byte-of-requires : tie.Need-byte-of-requires

@@ -1,13 +1,7 @@
 use borrow.Author.Needs.{needs}
 use Rattle.pattern_words.proofs.words.is_reserved.Statement.{statement}
 use Rattle.pattern_words.proofs.words.is_reserved.Tie as tie
-use Rattle.pattern_words.proofs.words.is_reserved.Reads as reads
-use Rattle.pattern_words.proofs.words.is_reserved.Lts as lts
-use Rattle.pattern_words.proofs.words.is_never_raw.Reads as is-never-raw-reads
-use Rattle.pattern_words.proofs.words.word_number.Reads as word-number-reads
-use mathlib.Core.Path.{_≡_, refl, sym, _∙_, ap}
-use native.Mathlib.Omega.{arith}
-use borrow.Author.Tests.{lt-ltb, le-ltb, le-leb, lt-leb, eq-eqb, ne-eqb, not-true, not-false}
+use mathlib.Core.Path.{sym, _∙_}
 use Rattle.pattern_words.proofs.Spelling.{reserved-by-number, reserved-long}
 
 returns : tie.Need-returns

@@ -1,18 +1,8 @@
 use borrow.Author.Needs.{needs}
 use Rattle.pattern_words.proofs.words.plain_piece.Statement.{statement}
 use Rattle.pattern_words.proofs.words.plain_piece.Tie as tie
-use Rattle.pattern_words.proofs.words.plain_piece.Reads as reads
-use Rattle.pattern_words.proofs.words.plain_piece.Lts as lts
-use Rattle.pattern_words.proofs.words.ends_prefix.Reads as ends-prefix-reads
-use Rattle.pattern_words.proofs.words.word_of.Reads as word-of-reads
-use Rattle.pattern_words.proofs.words.word_run.Reads as word-run-reads
-use Rattle.text_chars.proofs.byte_of.Reads as byte-of-reads
-use mathlib.Core.Path.{_≡_, refl, sym, _∙_, ap}
+use mathlib.Core.Path.{sym, _∙_}
 use native.Mathlib.Omega.{arith}
-use borrow.Author.Tests.{lt-ltb, le-ltb, le-leb, lt-leb, eq-eqb, ne-eqb, not-true, not-false}
-use Prim.Native.Nat.{_≤_, _<_, _+_, _-_, _*_, _^_}
-use lib.ListN.{length, take, drop, getD}
-use Rattle.text_chars.specs.Bytes.{run}
 use Rattle.pattern_words.specs.Words.{inWord, plainPiece}
 use Rattle.pattern_words.proofs.Spelling.{run-bound, run-all}
 use lib.Seq.{length-take-le}

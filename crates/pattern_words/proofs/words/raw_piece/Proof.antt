@@ -1,15 +1,10 @@
 use borrow.Author.Needs.{needs}
 use Rattle.pattern_words.proofs.words.raw_piece.Statement.{statement}
 use Rattle.pattern_words.proofs.words.raw_piece.Tie as tie
-use Rattle.pattern_words.proofs.words.raw_piece.Reads as reads
-use Rattle.pattern_words.proofs.words.raw_piece.Lts as lts
-use Rattle.pattern_words.proofs.words.is_reserved.Reads as is-reserved-reads
-use Rattle.pattern_words.proofs.words.word_run.Reads as word-run-reads
-use mathlib.Core.Path.{_≡_, refl, sym, _∙_, ap}
+use mathlib.Core.Path.{_≡_, sym, _∙_}
 use native.Mathlib.Omega.{arith}
-use borrow.Author.Tests.{lt-ltb, le-ltb, le-leb, lt-leb, eq-eqb, ne-eqb, not-true, not-false}
-use Prim.Native.Nat.{_≤_, _<_, _+_, _-_, _*_, _^_}
-use lib.ListN.{length, take, drop, getD}
+use Prim.Native.Nat.{_≤_, _+_, _-_}
+use lib.ListN.{length, drop}
 use Rattle.text_chars.specs.Bytes.{run}
 use Rattle.pattern_words.specs.Words.{inWord, rawPiece}
 use Rattle.pattern_words.proofs.Spelling.{run-bound, run-all}

@@ -1,13 +1,9 @@
 use Rattle.pattern_words.proofs.words.word_number.Statement.{statement}
 use Rattle.pattern_words.proofs.words.word_number.Tie as tie
-use Rattle.pattern_words.proofs.words.word_number.Reads as reads
-use Rattle.pattern_words.proofs.words.word_number.Lts as lts
-use mathlib.Core.Path.{_≡_, refl, sym, _∙_, ap}
+use mathlib.Core.Path.{_≡_}
 use native.Mathlib.Omega.{arith}
-use borrow.Author.Needs.{needs}
-use borrow.Author.Tests.{lt-ltb, le-ltb, le-leb, lt-leb, eq-eqb, ne-eqb, not-true, not-false}
-use Prim.Native.Nat.{_≤_, _<_, _+_, _-_, _*_, _^_}
-use lib.ListN.{length, take, drop, getD}
+use Prim.Native.Nat.{_≤_, _<_, _-_, _^_}
+use lib.ListN.{length, drop, getD}
 use Rattle.image.specs.Bytes.{littleEndian}
 use Rattle.pattern_words.proofs.Spelling.{number-start, number-on, number-bound, number-fits}
 

@@ -1,14 +1,9 @@
 use borrow.Author.Needs.{needs}
 use Rattle.pattern_words.proofs.words.word_of.Statement.{statement}
 use Rattle.pattern_words.proofs.words.word_of.Tie as tie
-use Rattle.pattern_words.proofs.words.word_of.Reads as reads
-use Rattle.pattern_words.proofs.words.word_of.Lts as lts
-use Rattle.pattern_words.proofs.words.is_keyword.Reads as is-keyword-reads
-use Rattle.pattern_words.proofs.words.word_number.Reads as word-number-reads
-use mathlib.Core.Path.{_≡_, refl, sym, _∙_, ap}
-use native.Mathlib.Omega.{arith}
-use borrow.Author.Tests.{lt-ltb, le-ltb, le-leb, lt-leb, eq-eqb, ne-eqb, not-true, not-false}
-use lib.ListN.{length, take, drop, getD}
+use mathlib.Core.Path.{sym, _∙_}
+use borrow.Author.Tests.{eq-eqb, ne-eqb}
+use lib.ListN.{length}
 use Rattle.pattern_words.proofs.Spelling.{byNumber, word-by-number, word-long}
 
 returns : tie.Need-returns

@@ -1,17 +1,10 @@
 use borrow.Author.Needs.{needs}
 use Rattle.pattern_words.proofs.words.word_piece.Statement.{statement}
 use Rattle.pattern_words.proofs.words.word_piece.Tie as tie
-use Rattle.pattern_words.proofs.words.word_piece.Reads as reads
-use Rattle.pattern_words.proofs.words.word_piece.Lts as lts
-use Rattle.pattern_words.proofs.words.is_raw.Reads as is-raw-reads
-use Rattle.pattern_words.proofs.words.plain_piece.Reads as plain-piece-reads
-use Rattle.pattern_words.proofs.words.raw_piece.Reads as raw-piece-reads
-use mathlib.Core.Path.{_≡_, refl, sym, _∙_, ap}
+use mathlib.Core.Path.{sym, _∙_}
 use native.Mathlib.Omega.{arith}
-use borrow.Author.Tests.{lt-ltb, le-ltb, le-leb, lt-leb, eq-eqb, ne-eqb, not-true, not-false}
 use Rattle.pattern_words.specs.Words.{wordPiece}
 use Rattle.pattern_words.proofs.Spelling.{raw-long}
-use Prim.Native.Nat.{_≤_, _<_, _+_, _-_, _*_, _^_}
 
 is-raw-requires : tie.Need-is-raw-requires
 is-raw-requires c κs = search needs

@@ -1,15 +1,9 @@
 use Rattle.text_chars.proofs.comments.block_end.Statement.{statement}
 use Rattle.text_chars.proofs.comments.block_end.Tie as tie
-use Rattle.text_chars.proofs.comments.block_end.Reads as reads
-use Rattle.text_chars.proofs.comments.block_end.Lts as lts
-use Rattle.text_chars.proofs.comments.depth_behind.Reads as depth-behind-reads
-use Rattle.text_chars.proofs.comments.is_end.Reads as is-end-reads
-use Rattle.text_chars.proofs.comments.unpaired_byte.Reads as unpaired-byte-reads
-use mathlib.Core.Path.{_≡_, refl, sym, _∙_, ap}
+use mathlib.Core.Path.{_≡_, refl, sym, _∙_}
 use native.Mathlib.Omega.{arith}
 use borrow.Author.Needs.{needs}
-use borrow.Author.Tests.{lt-ltb, le-ltb, le-leb, lt-leb, eq-eqb, ne-eqb, not-true, not-false}
-use Prim.Native.Nat.{_≤_, _+_, _-_}
+use Prim.Native.Nat.{_≤_, _-_}
 use lib.ListN.{length, drop, getD}
 use Rattle.text_chars.specs.Gaps.{blockFrom}
 use Rattle.text_chars.proofs.Loops.{block-on, block-over, depth-grows}

@@ -1,14 +1,7 @@
 use borrow.Author.Needs.{needs}
 use Rattle.text_chars.proofs.comments.block_gap.Statement.{statement}
 use Rattle.text_chars.proofs.comments.block_gap.Tie as tie
-use Rattle.text_chars.proofs.comments.block_gap.Reads as reads
-use Rattle.text_chars.proofs.comments.block_gap.Lts as lts
-use Rattle.text_chars.proofs.comments.block_end.Reads as block-end-reads
-use Rattle.text_chars.proofs.comments.in_utf8.Reads as in-utf8-reads
-use Rattle.text_chars.proofs.comments.is_block_doc.Reads as is-block-doc-reads
-use mathlib.Core.Path.{_≡_, refl, sym, _∙_, ap}
-use native.Mathlib.Omega.{arith}
-use borrow.Author.Tests.{lt-ltb, le-ltb, le-leb, lt-leb, eq-eqb, ne-eqb, not-true, not-false}
+use mathlib.Core.Path.{sym, _∙_}
 use Rattle.text_chars.specs.Gaps.{blockGap}
 
 is-block-doc-requires : tie.Need-is-block-doc-requires

@@ -1,14 +1,7 @@
 use borrow.Author.Needs.{needs}
 use Rattle.text_chars.proofs.comments.comment_of.Statement.{statement}
 use Rattle.text_chars.proofs.comments.comment_of.Tie as tie
-use Rattle.text_chars.proofs.comments.comment_of.Reads as reads
-use Rattle.text_chars.proofs.comments.comment_of.Lts as lts
-use Rattle.text_chars.proofs.byte_of.Reads as byte-of-reads
-use Rattle.text_chars.proofs.comments.block_gap.Reads as block-gap-reads
-use Rattle.text_chars.proofs.comments.line_gap.Reads as line-gap-reads
-use mathlib.Core.Path.{_≡_, refl, sym, _∙_, ap}
-use native.Mathlib.Omega.{arith}
-use borrow.Author.Tests.{lt-ltb, le-ltb, le-leb, lt-leb, eq-eqb, ne-eqb, not-true, not-false}
+use borrow.Author.Tests.{eq-eqb, ne-eqb}
 use Rattle.text_chars.specs.Gaps.{commentOf}
 
 byte-of-requires : tie.Need-byte-of-requires

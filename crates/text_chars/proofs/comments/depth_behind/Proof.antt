@@ -1,13 +1,8 @@
 use borrow.Author.Needs.{needs}
 use Rattle.text_chars.proofs.comments.depth_behind.Statement.{statement}
 use Rattle.text_chars.proofs.comments.depth_behind.Tie as tie
-use Rattle.text_chars.proofs.comments.depth_behind.Reads as reads
-use Rattle.text_chars.proofs.comments.depth_behind.Lts as lts
-use Rattle.text_chars.proofs.comments.is_close.Reads as is-close-reads
-use Rattle.text_chars.proofs.comments.is_open.Reads as is-open-reads
-use mathlib.Core.Path.{_≡_, refl, sym, _∙_, ap}
+use mathlib.Core.Path.{sym, _∙_}
 use native.Mathlib.Omega.{arith}
-use borrow.Author.Tests.{lt-ltb, le-ltb, le-leb, lt-leb, eq-eqb, ne-eqb, not-true, not-false}
 use Rattle.text_chars.specs.Gaps.{depthBehind}
 use native.Mathlib.Numerals.{add-one}
 
@@ -16,14 +11,14 @@ is-close-requires c κs = search needs
 
 returns : tie.Need-returns
 unfolding depthBehind
-returns c = simp (sym (c .before .before .is-close .ensures) ∙ c .before .if1 .taken, eq-eqb _ _ (c .if2 .taken)) (omega arith)
+returns c = simp (sym (c .before .before .is-close .ensures) ∙ c .before .if1 .taken) (omega arith)
 
 sub-result : tie.Need-sub-result
 sub-result c = search needs
 
 returns-2 : tie.Need-returns-2
 unfolding depthBehind
-returns-2 c = simp (sym (c .before .before .is-close .ensures) ∙ c .before .if1 .taken, ne-eqb _ _ (c .if2 .left))
+returns-2 c = simp (sym (c .before .before .is-close .ensures) ∙ c .before .if1 .taken)
 
 is-open-requires : tie.Need-is-open-requires
 is-open-requires c κs = search needs

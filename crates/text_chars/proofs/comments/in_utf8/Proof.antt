@@ -1,12 +1,7 @@
 use borrow.Author.Needs.{needs}
 use Rattle.text_chars.proofs.comments.in_utf8.Statement.{statement}
 use Rattle.text_chars.proofs.comments.in_utf8.Tie as tie
-use Rattle.text_chars.proofs.comments.in_utf8.Reads as reads
-use Rattle.text_chars.proofs.comments.in_utf8.Lts as lts
-use Rattle.text_chars.proofs.scalars.is_utf8.Reads as is-utf8-reads
-use mathlib.Core.Path.{_≡_, refl, sym, _∙_, ap}
-use native.Mathlib.Omega.{arith}
-use borrow.Author.Tests.{lt-ltb, le-ltb, le-leb, lt-leb, eq-eqb, ne-eqb, not-true, not-false}
+use mathlib.Core.Path.{sym, _∙_}
 use Rattle.text_chars.specs.Gaps.{inUtf8}
 
 enum-known-gap : tie.Need-enum-known-gap

@@ -1,12 +1,7 @@
 use borrow.Author.Needs.{needs}
 use Rattle.text_chars.proofs.comments.is_end.Statement.{statement}
 use Rattle.text_chars.proofs.comments.is_end.Tie as tie
-use Rattle.text_chars.proofs.comments.is_end.Reads as reads
-use Rattle.text_chars.proofs.comments.is_end.Lts as lts
-use Rattle.text_chars.proofs.comments.is_close.Reads as is-close-reads
-use mathlib.Core.Path.{_≡_, refl, sym, _∙_, ap}
-use native.Mathlib.Omega.{arith}
-use borrow.Author.Tests.{lt-ltb, le-ltb, le-leb, lt-leb, eq-eqb, ne-eqb, not-true, not-false}
+use mathlib.Core.Path.{sym, _∙_}
 
 is-close-requires : tie.Need-is-close-requires
 is-close-requires c κs = search needs

@@ -1,13 +1,7 @@
 use borrow.Author.Needs.{needs}
 use Rattle.text_chars.proofs.comments.unpaired_byte.Statement.{statement}
 use Rattle.text_chars.proofs.comments.unpaired_byte.Tie as tie
-use Rattle.text_chars.proofs.comments.unpaired_byte.Reads as reads
-use Rattle.text_chars.proofs.comments.unpaired_byte.Lts as lts
-use Rattle.text_chars.proofs.comments.is_close.Reads as is-close-reads
-use Rattle.text_chars.proofs.comments.is_open.Reads as is-open-reads
-use mathlib.Core.Path.{_≡_, refl, sym, _∙_, ap}
-use native.Mathlib.Omega.{arith}
-use borrow.Author.Tests.{lt-ltb, le-ltb, le-leb, lt-leb, eq-eqb, ne-eqb, not-true, not-false}
+use mathlib.Core.Path.{sym, _∙_}
 use Rattle.text_chars.specs.Gaps.{unpaired}
 
 is-close-requires : tie.Need-is-close-requires

@@ -1,14 +1,8 @@
 use Rattle.text_chars.proofs.scalars.is_utf8.Statement.{statement}
 use Rattle.text_chars.proofs.scalars.is_utf8.Tie as tie
-use Rattle.text_chars.proofs.scalars.is_utf8.Reads as reads
-use Rattle.text_chars.proofs.scalars.is_utf8.Lts as lts
-use Rattle.text_chars.proofs.scalar_of.Reads as scalar-of-reads
-use mathlib.Core.Path.{_≡_, refl, sym, _∙_, ap}
-use native.Mathlib.Omega.{arith}
+use mathlib.Core.Path.{_≡_, refl, sym, _∙_}
 use borrow.Author.Needs.{needs}
-use borrow.Author.Tests.{lt-ltb, le-ltb, le-leb, lt-leb, eq-eqb, ne-eqb, not-true, not-false}
-use Prim.Native.Nat.{_≤_, _+_, _-_}
-use lib.ListN.{length, drop}
+use lib.ListN.{drop}
 use Rattle.text_chars.specs.Scalars.{isUtf8}
 use Rattle.text_chars.proofs.Loops.{left, utf8-short, utf8-on, utf8-next, utf8-broken}
 
