@@ -35,14 +35,14 @@ unicode-escape-requires c κs = search needs
 
 returns-3 : tie.Need-returns-3
 unfolding escapeOf
-returns-3 c = simp (← c .before .before .byte-of4 .ensures, ← c .before .before .before .before .before .byte-of .ensures, ne-eqb _ _ (c .before .before .before .before .if1 .left), eq-eqb _ _ (c .before .before .before .if2 .left)) (c .unicode-escape .ensures)
+returns-3 c = simp (← c .before .before .byte-of4 .ensures, ← c .before .before .before .before .before .byte-of .ensures, ne-eqb _ _ (c .before .before .before .before .if1 .left), eq-eqb _ _ (c .before .before .before .if2 .left), eq-eqb _ _ (c .before .if3 .taken)) (c .unicode-escape .ensures)
 
 simple-escape-requires-2 : tie.Need-simple-escape-requires-2
 simple-escape-requires-2 c κs = search needs
 
 returns-4 : tie.Need-returns-4
 unfolding escapeOf
-returns-4 c = simp (← c .before .before .byte-of4 .ensures, ← c .before .before .before .before .before .byte-of .ensures, ne-eqb _ _ (c .before .before .before .before .if1 .left), eq-eqb _ _ (c .before .before .before .if2 .left)) (c .simple-escape2 .ensures)
+returns-4 c = simp (← c .before .before .byte-of4 .ensures, ← c .before .before .before .before .before .byte-of .ensures, ne-eqb _ _ (c .before .before .before .before .if1 .left), eq-eqb _ _ (c .before .before .before .if2 .left), ne-eqb _ _ (c .before .if3 .left)) (c .simple-escape2 .ensures)
 
 pub escape-of-spec : {M : Type 1} → statement M
 escape-of-spec =
