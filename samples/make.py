@@ -64,6 +64,9 @@ Written from document 01 and the Rust alone, not from the definitions:
   prints the listing of an image. `builder.py` holds what lower.rs and mir.rs give it.
 - `corners.py`: checks document 01's corners, which are in `accepted.py` and
   `refusals.py`. `python3 samples/corners.py` prints each with its listing's first line.
+- `judged.py`: whether patterns fit, which values match, what they bind and where a run comes,
+  judged by hand from document 01 and the Reference; `sketch.py` is the short notation for
+  their images. `corner_theorems.py` prints these and the corners as rows of theorems.
 - `params.py`: the same for lists of parameters, and document 01's corners on them. With
   `-` it answers the harness's calls.
 - `params_list.py`: the stored list of calls on parameters, `crates/replay_params`: the
