@@ -1,15 +1,15 @@
-use Rattle.pattern_walk.proofs.idle.nothing_to_do.Statement.{statement}
-use Rattle.pattern_walk.proofs.idle.nothing_to_do.Tie as tie
-use Rattle.pattern_walk.proofs.idle.nothing_to_do.Reads as reads
-use Rattle.pattern_walk.proofs.idle.nothing_to_do.Lts as lts
+use Rattle.pattern_idle.proofs.nothing_to_do.Statement.{statement}
+use Rattle.pattern_idle.proofs.nothing_to_do.Tie as tie
+use Rattle.pattern_idle.proofs.nothing_to_do.Reads as reads
+use Rattle.pattern_idle.proofs.nothing_to_do.Lts as lts
 use Rattle.image.proofs.kinds.pat_kind.Reads as pat-kind-reads
 use Rattle.image.proofs.rows.pat_at.Reads as pat-at-reads
 use Rattle.pattern_matching.proofs.is_check.Reads as is-check-reads
-use Rattle.pattern_walk.proofs.idle.idle_beyond_check.Reads as idle-beyond-check-reads
-use Rattle.pattern_walk.proofs.idle.idle_in_check.Reads as idle-in-check-reads
+use Rattle.pattern_idle.proofs.idle_beyond_check.Reads as idle-beyond-check-reads
+use Rattle.pattern_idle.proofs.idle_in_check.Reads as idle-in-check-reads
 use mathlib.Core.Path.{sym, _∙_}
 use Rattle.pattern_nodes.proofs.Known.{row-shape}
-use Rattle.pattern_walk.proofs.Idling.{derefs-left, told-in-check, told-beyond}
+use Rattle.pattern_idle.proofs.Idling.{derefs-left, told-in-check, told-beyond}
 
 pat-at-requires : tie.Need-pat-at-requires
 pat-at-requires c κs = (c .before .pre .1, rw (c .before .pre .1 .pattern-count) (c .before .pre .2))

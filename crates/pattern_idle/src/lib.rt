@@ -19,7 +19,7 @@ ghost use Rattle.image.specs.Tables.{Whole, patternCount};
 ghost use Rattle.image.specs.Rows.{patAt};
 ghost use Rattle.image.specs.Patterns.{patternShapeHolds};
 ghost use Rattle.image.specs.Valid.{valid};
-ghost use Rattle.pattern_walk.specs.Idle.{idleInCheck, namesConstant, idleBeyondCheck, nothingToDo};
+ghost use Rattle.pattern_idle.specs.Idle.{idleInCheck, namesConstant, idleBeyondCheck, nothingToDo};
 
 // In Check: a wildcard, and a Bind that has no subpattern, b being the subpattern's word.
 fn idle_in_check(kind: PatKind, b: u16) -> bool

@@ -38,7 +38,7 @@ use Rattle.walking.specs.Walk.{Inner}
 use Rattle.walking.proofs.Looking.{walks-skips}
 use Rattle.walking.proofs.Entering.{inner-goes}
 use Rattle.walking.proofs.Descending.{behind-none}
-use Rattle.pattern_walk.specs.Idle.{idleInCheck, namesConstant, idleBeyondCheck, nothingToDo}
+use Rattle.pattern_idle.specs.Idle.{idleInCheck, namesConstant, idleBeyondCheck, nothingToDo}
 
 -- what a lowering does where there is nothing to do
 abbrev Idle : Lowering → MatchingMode → Type 0

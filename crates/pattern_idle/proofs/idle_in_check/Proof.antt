@@ -1,10 +1,10 @@
 use borrow.Author.Needs.{needs}
-use Rattle.pattern_walk.proofs.idle.idle_in_check.Statement.{statement}
-use Rattle.pattern_walk.proofs.idle.idle_in_check.Tie as tie
-use Rattle.pattern_walk.proofs.idle.idle_in_check.Reads as reads
-use Rattle.pattern_walk.proofs.idle.idle_in_check.Lts as lts
+use Rattle.pattern_idle.proofs.idle_in_check.Statement.{statement}
+use Rattle.pattern_idle.proofs.idle_in_check.Tie as tie
+use Rattle.pattern_idle.proofs.idle_in_check.Reads as reads
+use Rattle.pattern_idle.proofs.idle_in_check.Lts as lts
 use mathlib.Core.Path.{refl}
-use Rattle.pattern_walk.specs.Idle.{idleInCheck}
+use Rattle.pattern_idle.specs.Idle.{idleInCheck}
 
 enum-told : tie.Need-enum-told
 enum-told c = search needs

@@ -1,20 +1,20 @@
 use borrow.Author.Needs.{needs}
-use Rattle.pattern_walk.proofs.idle.idle_beyond_check.Statement.{statement}
-use Rattle.pattern_walk.proofs.idle.idle_beyond_check.Tie as tie
-use Rattle.pattern_walk.proofs.idle.idle_beyond_check.Reads as reads
-use Rattle.pattern_walk.proofs.idle.idle_beyond_check.Lts as lts
+use Rattle.pattern_idle.proofs.idle_beyond_check.Statement.{statement}
+use Rattle.pattern_idle.proofs.idle_beyond_check.Tie as tie
+use Rattle.pattern_idle.proofs.idle_beyond_check.Reads as reads
+use Rattle.pattern_idle.proofs.idle_beyond_check.Lts as lts
 use Rattle.image.proofs.kinds.operand_kind.Reads as operand-kind-reads
 use Rattle.image.proofs.kinds.path_kind.Reads as path-kind-reads
 use Rattle.image.proofs.rows.operand_at.Reads as operand-at-reads
 use Rattle.pattern_tests.proofs.consts.is_literal.Reads as is-literal-reads
-use Rattle.pattern_walk.proofs.idle.names_constant.Reads as names-constant-reads
+use Rattle.pattern_idle.proofs.names_constant.Reads as names-constant-reads
 use mathlib.Core.Path.{refl, sym, ap, _∙_}
 use native.Mathlib.Omega.{arith}
 use Rattle.image.specs.Patterns.{patternShapeHolds}
 use Rattle.literals.proofs.Operands.{operand-listed}
 use Rattle.literals.proofs.Answers.{kind-of}
 use Rattle.pattern_tests.specs.Testing.{isLiteral}
-use Rattle.pattern_walk.specs.Idle.{namesConstant, idleBeyondCheck}
+use Rattle.pattern_idle.specs.Idle.{namesConstant, idleBeyondCheck}
 
 enum-told : tie.Need-enum-told
 enum-told c = search needs

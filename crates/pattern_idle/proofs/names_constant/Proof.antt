@@ -1,10 +1,10 @@
 use borrow.Author.Needs.{needs}
-use Rattle.pattern_walk.proofs.idle.names_constant.Statement.{statement}
-use Rattle.pattern_walk.proofs.idle.names_constant.Tie as tie
-use Rattle.pattern_walk.proofs.idle.names_constant.Reads as reads
-use Rattle.pattern_walk.proofs.idle.names_constant.Lts as lts
+use Rattle.pattern_idle.proofs.names_constant.Statement.{statement}
+use Rattle.pattern_idle.proofs.names_constant.Tie as tie
+use Rattle.pattern_idle.proofs.names_constant.Reads as reads
+use Rattle.pattern_idle.proofs.names_constant.Lts as lts
 use mathlib.Core.Path.{refl}
-use Rattle.pattern_walk.specs.Idle.{namesConstant}
+use Rattle.pattern_idle.specs.Idle.{namesConstant}
 
 enum-told : tie.Need-enum-told
 enum-told c = search needs
