@@ -31,7 +31,7 @@ use Rattle.walks.specs.declared.Lowered.{Lowered}
 use Rattle.walks.specs.Answers.{Lent, Begins}
 use Rattle.pattern_parts.proofs.Visiting.{visitedIn}
 use Rattle.pattern_tests.specs.Testing.{isLiteral}
-use Rattle.pattern_tests.proofs.Cutting.{not-in-check}
+use Rattle.pattern_switching.proofs.Cutting.{not-in-check}
 use Rattle.pattern_nodes.specs.Leaves.{leafPattern}
 use Rattle.pattern_nodes.specs.Nodes.{kindPattern}
 use Rattle.walking.specs.Walk.{Inner}

@@ -1,6 +1,4 @@
 // Ranges: each end is a test, the start before the end.
-use super::switching::compare;
-use super::switching::else_block;
 use image::PatId;
 use image::Tables;
 use literals::LoweredOperand;
@@ -16,6 +14,8 @@ use mir::rvalues::Constant;
 use mir::rvalues::Left;
 use pattern_matching::MatchingMode;
 use pattern_matching::is_check;
+use pattern_switching::compare;
+use pattern_switching::else_block;
 use place::Place;
 use refusals::MirLowerError;
 use state::Stepped;
@@ -30,7 +30,7 @@ ghost use Rattle.image.specs.Valid.{valid};
 ghost use Rattle.pattern_matching.specs.Tests.{rangeEnd?};
 ghost use Rattle.pattern_matching.specs.Patterns.{rangePattern};
 ghost use Rattle.walks.specs.Answers.{lent, Primed, Begins, Lowers};
-ghost use Rattle.pattern_tests.specs.Testing.{rangeTest};
+ghost use Rattle.pattern_ranges.specs.Ranges.{rangeTest};
 
 // A place is compared with one end; an else is made before the block that goes on.
 fn range_test(

@@ -24,7 +24,7 @@ use Rattle.pattern_matching.specs.Walking.{Ctx, Out, Walk, step, out, withState
 use Rattle.walks.specs.declared.Lowered.{Lowered}
 use Rattle.walks.specs.Answers.{Lent, bodyOf, Primed, Begins, ctxOf, walkOf, loweredCounts, Onward, OnwardBy, Lowers}
 use Rattle.walks.proofs.Following.{step-then, step-stops, stays, answers-by, onward-trans, onward-refl, onward-grown, block-made, block-onward}
-use Rattle.pattern_tests.specs.Testing.{elseMade, Steps}
+use Rattle.pattern_switching.specs.Switching.{elseMade, Steps}
 
 -- `new_basic_block`: what it answers
 block-answers : (t : Lent) (scopes : List ℕ) (c : Counts) (current : ℕ) {r : NewBlock} → r ≡ newBlock c → Ready (bodyOf t scopes) c →

@@ -1,14 +1,14 @@
 use borrow.Author.Needs.{needs}
-use Rattle.pattern_tests.proofs.switching.compare.Statement.{statement}
-use Rattle.pattern_tests.proofs.switching.compare.Tie as tie
-use Rattle.pattern_tests.proofs.switching.compare.Reads as reads
-use Rattle.pattern_tests.proofs.switching.compare.Lts as lts
+use Rattle.pattern_switching.proofs.compare.Statement.{statement}
+use Rattle.pattern_switching.proofs.compare.Tie as tie
+use Rattle.pattern_switching.proofs.compare.Reads as reads
+use Rattle.pattern_switching.proofs.compare.Lts as lts
 use Rattle.lower.proofs.temps.temp.Reads as temp-reads
 use Rattle.mir.proofs.blocks.set_terminator.Reads as set-terminator-reads
 use Rattle.mir.proofs.rvalues.push_binary_assignment.Reads as push-binary-assignment-reads
 use mathlib.Core.Path.{sym, _∙_}
 use native.Mathlib.Omega.{arith}
-use Rattle.pattern_tests.proofs.Comparing.{compare-no-temp, compare-full, compare-ends}
+use Rattle.pattern_switching.proofs.Comparing.{compare-no-temp, compare-full, compare-ends}
 
 set-terminator-requires : tie.Need-set-terminator-requires
 set-terminator-requires c κs = (c .before .before .before .before .before .before .before .before .before .before .before .before .before .before .before .before .before .before .before .before .before .before .before .before .before .before .pre .1 .blocks, omega (arith, c .before .before .before .before .before .before .before .before .before .before .before .before .before .before .before .before .before .before .before .before .before .before .before .before .before .before .pre .1 .block-count, c .before .before .before .before .before .before .before .before .before .before .before .before .before .before .before .before .before .before .before .before .before .before .before .before .before .before .pre .2))

@@ -27,15 +27,23 @@ use Rattle.lower.specs.declared.temps.DiscrTemp.{DiscrTemp}
 use Rattle.lower.specs.declared.merging.OptBlock.{OptBlock}
 use Rattle.pattern_matching.specs.declared.MatchingMode.{MatchingMode}
 use Rattle.pattern_matching.specs.Modes.{isCheck}
-use Rattle.pattern_matching.specs.Walking.{Ctx, Out, Walk, next, step, out}
+use Rattle.pattern_matching.specs.Walking.{Ctx, Out, Walk, next, step, out, elseState, elseBlock}
 use Rattle.pattern_matching.specs.Tests.{rangeEnd, rangeEnd?}
 use Rattle.pattern_matching.specs.Patterns.{rangePattern}
 use Rattle.walks.specs.declared.Lowered.{Lowered}
 use Rattle.walks.specs.Answers.{Lent, Primed, Begins, Lowers}
 use Rattle.walks.proofs.Sequences.{lowers-skips, lowers-refuses, lowers-by, lowers-stops, lowers-then}
-use Rattle.pattern_tests.specs.Testing.{elseMade, compareStep, rangeTest, Steps}
-use Rattle.pattern_tests.proofs.Branching.{loweredBy, else-full, else-then-full, else-then-made, else-then-ends, grown-to}
-use Rattle.pattern_tests.proofs.Cutting.{in-check, not-in-check, range-cut}
+use Rattle.pattern_switching.specs.Switching.{elseMade, compareStep, Steps}
+use Rattle.pattern_ranges.specs.Ranges.{rangeTest}
+use Rattle.pattern_switching.proofs.Branching.{loweredBy, else-full, else-then-full, else-then-made, else-then-ends, grown-to, elseThen}
+use Rattle.pattern_switching.proofs.Cutting.{in-check, not-in-check, compare-cut}
+use Rattle.state.specs.Steps.{nextBlock, tryBlock}
+
+module _ (image : List ℕ) (p : PatId) (constant : Constant) (place : Place) (current : BasicBlockId) (els : OptBlock) (ctx : Ctx) where
+  -- one end of a range: an else is made before the block that goes on
+  range-cut : (op : BinOp) → elseThen p (λ st on other. compareStep image op (Left.Constant constant) place st current on other) els ctx ≡ rangeTest image (p .0) op constant ctx current els place
+  unfolding rangeTest
+  range-cut op = λ i. step (p .0) (elseState (ctx .state) els) (λ st₁. step (p .0) (tryBlock st₁) (λ st₂. compare-cut image (p .0) op (Left.Constant constant) place ctx st₂ current (nextBlock st₁) (elseBlock (ctx .state) els) i))
 
 -- `range_test`; t lies in the tables at entry
 module _ (image : List ℕ) (t : Lent) (c : Counts) (discr : DiscrTemp) (p : PatId) (op : BinOp) (constant : Constant) (current : BasicBlockId) (els : OptBlock) (place : Place) where

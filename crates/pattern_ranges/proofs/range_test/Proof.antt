@@ -1,15 +1,15 @@
 use borrow.Author.Needs.{needs}
-use Rattle.pattern_tests.proofs.ranges.range_test.Statement.{statement}
-use Rattle.pattern_tests.proofs.ranges.range_test.Tie as tie
-use Rattle.pattern_tests.proofs.ranges.range_test.Reads as reads
-use Rattle.pattern_tests.proofs.ranges.range_test.Lts as lts
+use Rattle.pattern_ranges.proofs.range_test.Statement.{statement}
+use Rattle.pattern_ranges.proofs.range_test.Tie as tie
+use Rattle.pattern_ranges.proofs.range_test.Reads as reads
+use Rattle.pattern_ranges.proofs.range_test.Lts as lts
 use Rattle.mir.proofs.blocks.new_basic_block.Reads as new-basic-block-reads
-use Rattle.pattern_tests.proofs.switching.compare.Reads as compare-reads
-use Rattle.pattern_tests.proofs.switching.else_block.Reads as else-block-reads
+use Rattle.pattern_switching.proofs.compare.Reads as compare-reads
+use Rattle.pattern_switching.proofs.else_block.Reads as else-block-reads
 use mathlib.Core.Path.{sym, _∙_}
 use Rattle.state.specs.declared.Stepped.{Stepped}
-use Rattle.pattern_tests.proofs.Branching.{else-then-made}
-use Rattle.pattern_tests.proofs.Ends.{range-full, range-then-full, range-ends}
+use Rattle.pattern_switching.proofs.Branching.{else-then-made}
+use Rattle.pattern_ranges.proofs.Ends.{range-full, range-then-full, range-ends}
 
 compare-requires : tie.Need-compare-requires
 compare-requires c κs =

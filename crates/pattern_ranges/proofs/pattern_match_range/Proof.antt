@@ -1,14 +1,14 @@
 use borrow.Author.Needs.{needs}
-use Rattle.pattern_tests.proofs.ranges.pattern_match_range.Statement.{statement}
-use Rattle.pattern_tests.proofs.ranges.pattern_match_range.Tie as tie
-use Rattle.pattern_tests.proofs.ranges.pattern_match_range.Reads as reads
-use Rattle.pattern_tests.proofs.ranges.pattern_match_range.Lts as lts
-use Rattle.pattern_tests.proofs.ranges.range_end.Reads as range-end-reads
+use Rattle.pattern_ranges.proofs.pattern_match_range.Statement.{statement}
+use Rattle.pattern_ranges.proofs.pattern_match_range.Tie as tie
+use Rattle.pattern_ranges.proofs.pattern_match_range.Reads as reads
+use Rattle.pattern_ranges.proofs.pattern_match_range.Lts as lts
+use Rattle.pattern_ranges.proofs.range_end.Reads as range-end-reads
 use Rattle.pattern_matching.proofs.is_check.Reads as is-check-reads
 use mathlib.Core.Path.{sym, _∙_}
 use borrow.Author.Tests.{not-true, not-false}
 use Rattle.walks.proofs.Sequences.{lowers-goes}
-use Rattle.pattern_tests.proofs.Ends.{range-skips, range-stops, range-both}
+use Rattle.pattern_ranges.proofs.Ends.{range-skips, range-stops, range-both}
 
 returns : tie.Need-returns
 returns c = range-skips _ _ _ _ _ _ _ _ _ _ _ _ (sym (c .before .is-check .ensures) ∙ not-true _ (c .if1 .taken)) (c .before .before .before .before .before .before .before .pre .1 .1)

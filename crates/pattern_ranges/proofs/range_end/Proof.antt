@@ -1,11 +1,11 @@
 use borrow.Author.Needs.{needs}
-use Rattle.pattern_tests.proofs.ranges.range_end.Statement.{statement}
-use Rattle.pattern_tests.proofs.ranges.range_end.Tie as tie
-use Rattle.pattern_tests.proofs.ranges.range_end.Reads as reads
-use Rattle.pattern_tests.proofs.ranges.range_end.Lts as lts
+use Rattle.pattern_ranges.proofs.range_end.Statement.{statement}
+use Rattle.pattern_ranges.proofs.range_end.Tie as tie
+use Rattle.pattern_ranges.proofs.range_end.Reads as reads
+use Rattle.pattern_ranges.proofs.range_end.Lts as lts
 use Rattle.literals.proofs.lower_literal_or_const_to_operand.Reads as lower-literal-or-const-to-operand-reads
-use Rattle.pattern_tests.proofs.ranges.range_test.Reads as range-test-reads
-use Rattle.pattern_tests.proofs.Ends.{range-holds, end-absent, end-refused, end-tests}
+use Rattle.pattern_ranges.proofs.range_test.Reads as range-test-reads
+use Rattle.pattern_ranges.proofs.Ends.{range-holds, end-absent, end-refused, end-tests}
 
 returns : tie.Need-returns
 returns c = end-absent _ _ _ _ _ _ _ _ _ _ _ (c .if1 .taken) (c .before .before .before .before .before .before .pre .1 .1)

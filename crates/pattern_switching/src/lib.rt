@@ -26,7 +26,7 @@ ghost use Prim.Native.Nat.{_<_, _≤_};
 ghost use lib.ListN.{length};
 ghost use Rattle.image.specs.Tables.{Whole};
 ghost use Rattle.walks.specs.Answers.{lent, Primed, Begins};
-ghost use Rattle.pattern_tests.specs.Testing.{elseMade, compareStep, thenSwitch, Steps, Switches};
+ghost use Rattle.pattern_switching.specs.Switching.{elseMade, compareStep, thenSwitch, Steps, Switches};
 
 // The else that there is, or a new block.
 pub fn else_block(counts: Counts, els: OptBlock) -> NewBlock

@@ -1,14 +1,14 @@
 use borrow.Author.Needs.{needs}
-use Rattle.pattern_tests.proofs.switching.then_switch.Statement.{statement}
-use Rattle.pattern_tests.proofs.switching.then_switch.Tie as tie
-use Rattle.pattern_tests.proofs.switching.then_switch.Reads as reads
-use Rattle.pattern_tests.proofs.switching.then_switch.Lts as lts
+use Rattle.pattern_switching.proofs.then_switch.Statement.{statement}
+use Rattle.pattern_switching.proofs.then_switch.Tie as tie
+use Rattle.pattern_switching.proofs.then_switch.Reads as reads
+use Rattle.pattern_switching.proofs.then_switch.Lts as lts
 use Rattle.mir.proofs.blocks.new_basic_block.Reads as new-basic-block-reads
 use Rattle.mir.proofs.blocks.set_terminator.Reads as set-terminator-reads
-use Rattle.pattern_tests.proofs.switching.else_block.Reads as else-block-reads
+use Rattle.pattern_switching.proofs.else_block.Reads as else-block-reads
 use mathlib.Core.Path.{sym, _∙_}
 use native.Mathlib.Omega.{arith}
-use Rattle.pattern_tests.proofs.Forking.{switch-full, switch-else-full, switch-ends}
+use Rattle.pattern_switching.proofs.Forking.{switch-full, switch-else-full, switch-ends}
 
 set-terminator-requires : tie.Need-set-terminator-requires
 set-terminator-requires c κs = (c .before .before .before .before .before .before .before .before .before .before .pre .0, omega (arith, c .before .before .before .before .before .before .before .before .before .before .pre .1, c .before .before .before .before .before .before .before .before .before .before .pre .2 .start))

@@ -32,7 +32,7 @@ use Rattle.lower.specs.Promises.{Makes}
 use Rattle.pattern_matching.specs.Tests.{ifTrue}
 use Rattle.walks.specs.Answers.{Lent, lent}
 use Rattle.walks.proofs.Following.{answers-by}
-use Rattle.pattern_tests.specs.Testing.{compareStep, Steps}
+use Rattle.pattern_switching.specs.Switching.{compareStep, Steps}
 
 -- bl₀, s₀, l₀ and e₀ are the tables at entry
 module _ (image bl₀ s₀ l₀ e₀ : List ℕ) (c : Counts) (op : BinOp) (left : Left) (place : Place) (current on other : BasicBlockId) where

@@ -23,8 +23,8 @@ use Rattle.lower.specs.declared.merging.OptBlock.{OptBlock}
 use Rattle.walks.specs.declared.Lowered.{Lowered}
 use Rattle.walks.specs.Answers.{lent, Begins}
 use Rattle.walks.proofs.Following.{block-onward}
-use Rattle.pattern_tests.specs.Testing.{elseMade, thenSwitch, Switches}
-use Rattle.pattern_tests.proofs.Branching.{then-full, then-else-full, then-else-ends, else-onward}
+use Rattle.pattern_switching.specs.Switching.{elseMade, thenSwitch, Switches}
+use Rattle.pattern_switching.proofs.Branching.{then-full, then-else-full, then-else-ends, else-onward}
 
 -- bl₀ is the table at entry
 module _ (bl₀ : List ℕ) (c : Counts) (discr : DiscrTemp) (p : PatId) (l : LocalId) (low high : ℕ) (current : BasicBlockId) (els : OptBlock) where

@@ -1,11 +1,11 @@
 use borrow.Author.Needs.{needs}
-use Rattle.pattern_tests.proofs.switching.else_block.Statement.{statement}
-use Rattle.pattern_tests.proofs.switching.else_block.Tie as tie
-use Rattle.pattern_tests.proofs.switching.else_block.Reads as reads
-use Rattle.pattern_tests.proofs.switching.else_block.Lts as lts
+use Rattle.pattern_switching.proofs.else_block.Statement.{statement}
+use Rattle.pattern_switching.proofs.else_block.Tie as tie
+use Rattle.pattern_switching.proofs.else_block.Reads as reads
+use Rattle.pattern_switching.proofs.else_block.Lts as lts
 use Rattle.mir.proofs.blocks.new_basic_block.Reads as new-basic-block-reads
 use mathlib.Core.Path.{refl}
-use Rattle.pattern_tests.specs.Testing.{elseMade}
+use Rattle.pattern_switching.specs.Switching.{elseMade}
 
 returns : tie.Need-returns
 unfolding elseMade
