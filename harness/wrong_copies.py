@@ -25,7 +25,7 @@ LISTINGS, PARAMETERS = ("run", "--counts"), ("parameters",)
 REFUSED = (
     "pattern_switching/switch_turned_round",
     "pattern_ranges/then_before_else",
-    "listing_text/switch_exchanged",
+    "listing_body/switch_exchanged",
     "pattern_leaves/an_arrays_length_tested",
     "pattern_rows/suffix_item_from_the_front",
     "pattern_alternatives/an_alternative_after_a_sure_one",

@@ -1,18 +1,18 @@
 use borrow.Author.Needs.{needs}
-use Rattle.listing_text.proofs.blocks.put_terminator.Statement.{statement}
-use Rattle.listing_text.proofs.blocks.put_terminator.Tie as tie
-use Rattle.listing_text.proofs.blocks.put_terminator.Reads as reads
-use Rattle.listing_text.proofs.blocks.put_terminator.Lts as lts
-use Rattle.listing_text.proofs.blocks.put_switch.Reads as put-switch-reads
+use Rattle.listing_body.proofs.blocks.put_terminator.Statement.{statement}
+use Rattle.listing_body.proofs.blocks.put_terminator.Tie as tie
+use Rattle.listing_body.proofs.blocks.put_terminator.Reads as reads
+use Rattle.listing_body.proofs.blocks.put_terminator.Lts as lts
+use Rattle.listing_body.proofs.blocks.put_switch.Reads as put-switch-reads
 use Rattle.listing_text.proofs.numbers.put_line.Reads as put-line-reads
 use Rattle.listing_text.proofs.numbers.put_numbered.Reads as put-numbered-reads
 use Rattle.listing_text.proofs.pen.put.Reads as put-reads
 use lib.ListN.{getD}
 use Rattle.listing_text.specs.Words.{gotoWord, unreachableWord, dropWord, openWord, space, newline}
 use Rattle.listing_text.specs.Numbers.{decimal}
 use Rattle.listing_text.specs.Listing.{terminatorText}
 use Rattle.listing_text.proofs.Pieces.{two-then}
 use Rattle.listing_text.proofs.Readings.{terminator-kind, terminator-open}
 
 returns : tie.Need-returns
 unfolding terminatorText gotoWord

@@ -1,16 +1,16 @@
 use borrow.Author.Needs.{needs}
-use Rattle.listing_text.proofs.blocks.put_block.Statement.{statement}
-use Rattle.listing_text.proofs.blocks.put_block.Tie as tie
-use Rattle.listing_text.proofs.blocks.put_block.Reads as reads
-use Rattle.listing_text.proofs.blocks.put_block.Lts as lts
-use Rattle.listing_text.proofs.blocks.put_statements.Reads as put-statements-reads
-use Rattle.listing_text.proofs.blocks.put_terminator.Reads as put-terminator-reads
+use Rattle.listing_body.proofs.blocks.put_block.Statement.{statement}
+use Rattle.listing_body.proofs.blocks.put_block.Tie as tie
+use Rattle.listing_body.proofs.blocks.put_block.Reads as reads
+use Rattle.listing_body.proofs.blocks.put_block.Lts as lts
+use Rattle.listing_body.proofs.blocks.put_statements.Reads as put-statements-reads
+use Rattle.listing_body.proofs.blocks.put_terminator.Reads as put-terminator-reads
 use Rattle.listing_text.proofs.numbers.put_line.Reads as put-line-reads
 use Rattle.listing_text.specs.Words.{blockWord, newline}
 use Rattle.listing_text.specs.Numbers.{decimal}
 use Rattle.listing_text.specs.Listing.{blockText}
 use Rattle.listing_text.proofs.Pieces.{and-then, three-then}
 use Rattle.listing_text.proofs.Readings.{row-part}
 
 returns : tie.Need-returns
 unfolding blockText blockWord

@@ -1,11 +1,11 @@
 // Blocks, each with its statements and its terminator.
-use super::numbers::put_hex_halves;
-use super::numbers::put_line;
-use super::numbers::put_numbered;
-use super::pen::Pen;
-use super::pen::put;
-use super::rows::four_words;
-use super::statements::put_statement;
+use listing_text::numbers::put_hex_halves;
+use listing_text::numbers::put_line;
+use listing_text::numbers::put_numbered;
+use listing_text::pen::Pen;
+use listing_text::pen::put;
+use listing_text::rows::four_words;
+use listing_text::statements::put_statement;
 use mir::Counts;
 ghost use mathlib.Core.Path.{_≡_};
 ghost use mathlib.Core.List.{map};

@@ -1,20 +1,20 @@
 use borrow.Author.Needs.{needs}
-use Rattle.listing_text.proofs.put_listing.Statement.{statement}
-use Rattle.listing_text.proofs.put_listing.Tie as tie
-use Rattle.listing_text.proofs.put_listing.Reads as reads
-use Rattle.listing_text.proofs.put_listing.Lts as lts
-use Rattle.listing_text.proofs.blocks.put_blocks.Reads as put-blocks-reads
+use Rattle.listing_body.proofs.put_listing.Statement.{statement}
+use Rattle.listing_body.proofs.put_listing.Tie as tie
+use Rattle.listing_body.proofs.put_listing.Reads as reads
+use Rattle.listing_body.proofs.put_listing.Lts as lts
+use Rattle.listing_body.proofs.blocks.put_blocks.Reads as put-blocks-reads
 use Rattle.listing_text.proofs.locals.put_locals.Reads as put-locals-reads
 use Rattle.listing_text.proofs.numbers.put_numbered.Reads as put-numbered-reads
 use Rattle.listing_text.proofs.pen.put.Reads as put-reads
-use Rattle.listing_text.proofs.put_else.Reads as put-else-reads
+use Rattle.listing_body.proofs.put_else.Reads as put-else-reads
 use native.Mathlib.Omega.{arith}
 use Rattle.state.specs.State.{decode}
 use Rattle.views.specs.Views.{mirOf}
 use Rattle.listing_text.specs.Words.{thenWord, elseWord, newline}
 use Rattle.listing_text.specs.Numbers.{decimal}
 use Rattle.listing_text.specs.Listing.{listing}
 use Rattle.listing_text.proofs.Pieces.{and-then, two-then}
 
 put-blocks-requires : tie.Need-put-blocks-requires
 put-blocks-requires c κs = (c .before .before .before .before .before .before .before .before .before .before .before .before .before .before .before .before .before .before .before .before .before .before .before .before .before .before .before .before .pre .0, c .before .before .before .before .before .before .before .before .before .before .before .before .before .before .before .before .before .before .before .before .before .before .before .before .before .before .before .before .pre .1, c .before .before .before .before .before .before .before .before .before .before .before .before .before .before .before .before .before .before .before .before .before .before .before .before .before .before .before .before .pre .3, c .before .before .before .before .before .before .before .before .before .before .before .before .before .before .before .before .before .before .before .before .before .before .before .before .before .before .before .before .pre .4)

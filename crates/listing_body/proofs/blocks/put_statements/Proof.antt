@@ -1,17 +1,17 @@
-use Rattle.listing_text.proofs.blocks.put_statements.Statement.{statement}
-use Rattle.listing_text.proofs.blocks.put_statements.Tie as tie
-use Rattle.listing_text.proofs.blocks.put_statements.Reads as reads
-use Rattle.listing_text.proofs.blocks.put_statements.Lts as lts
+use Rattle.listing_body.proofs.blocks.put_statements.Statement.{statement}
+use Rattle.listing_body.proofs.blocks.put_statements.Tie as tie
+use Rattle.listing_body.proofs.blocks.put_statements.Reads as reads
+use Rattle.listing_body.proofs.blocks.put_statements.Lts as lts
 use Rattle.listing_text.proofs.pen.put.Reads as put-reads
 use Rattle.listing_text.proofs.statements.put_statement.Reads as put-statement-reads
 use Prim.Native.Nat.{_-_}
 use mathlib.Core.Path.{refl}
 use native.Mathlib.Omega.{arith}
 use borrow.Author.Needs.{needs}
 use Rattle.listing_text.proofs.Pieces.{and-then}
 use Rattle.listing_text.proofs.Loops.{Going, going-start, going-more, going-on, going-end}
 use Rattle.listing_text.proofs.Readings.{row-part, part-length}
 use Rattle.listing_text.proofs.Texts.{linesFrom, line-here, line-elsewhere, lines-end}
 
 abbrev Inv-loop : tie.InvT-loop
 Inv-loop out₀ statements count block written₀ i₀ out written i = Going out₀ written₀ (linesFrom statements count block 0) (linesFrom statements count block i) written out

@@ -1,17 +1,17 @@
-use Rattle.listing_text.proofs.blocks.put_blocks.Statement.{statement}
-use Rattle.listing_text.proofs.blocks.put_blocks.Tie as tie
-use Rattle.listing_text.proofs.blocks.put_blocks.Reads as reads
-use Rattle.listing_text.proofs.blocks.put_blocks.Lts as lts
-use Rattle.listing_text.proofs.blocks.put_block.Reads as put-block-reads
+use Rattle.listing_body.proofs.blocks.put_blocks.Statement.{statement}
+use Rattle.listing_body.proofs.blocks.put_blocks.Tie as tie
+use Rattle.listing_body.proofs.blocks.put_blocks.Reads as reads
+use Rattle.listing_body.proofs.blocks.put_blocks.Lts as lts
+use Rattle.listing_body.proofs.blocks.put_block.Reads as put-block-reads
 use Rattle.listing_text.proofs.pen.put.Reads as put-reads
 use Prim.Native.Nat.{_-_}
 use mathlib.Core.Path.{refl}
 use native.Mathlib.Omega.{arith}
 use borrow.Author.Needs.{needs}
 use Rattle.listing_text.specs.RowParts.{linesOf}
 use Rattle.listing_text.proofs.Pieces.{and-then}
 use Rattle.listing_text.proofs.Loops.{Going, going-start, going-more, going-end}
 use Rattle.listing_text.proofs.Texts.{blocksFrom, blocks-more, blocks-end}
 
 abbrev Inv-loop : tie.InvT-loop
 Inv-loop out₀ blocks statements counts written₀ b₀ out written b = Going out₀ written₀ (blocksFrom (linesOf statements (counts .statements)) blocks (counts .blocks) 0) (blocksFrom (linesOf statements (counts .statements)) blocks (counts .blocks) b) written out

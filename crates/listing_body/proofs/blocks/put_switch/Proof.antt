@@ -1,19 +1,19 @@
 use borrow.Author.Needs.{needs}
-use Rattle.listing_text.proofs.blocks.put_switch.Statement.{statement}
-use Rattle.listing_text.proofs.blocks.put_switch.Tie as tie
-use Rattle.listing_text.proofs.blocks.put_switch.Reads as reads
-use Rattle.listing_text.proofs.blocks.put_switch.Lts as lts
+use Rattle.listing_body.proofs.blocks.put_switch.Statement.{statement}
+use Rattle.listing_body.proofs.blocks.put_switch.Tie as tie
+use Rattle.listing_body.proofs.blocks.put_switch.Reads as reads
+use Rattle.listing_body.proofs.blocks.put_switch.Lts as lts
 use Rattle.listing_text.proofs.numbers.put_hex_halves.Reads as put-hex-halves-reads
 use Rattle.listing_text.proofs.numbers.put_line.Reads as put-line-reads
 use Rattle.listing_text.proofs.numbers.put_numbered.Reads as put-numbered-reads
 use Rattle.listing_text.proofs.pen.put.Reads as put-reads
 use Rattle.listing_text.proofs.rows.four_words.Reads as four-words-reads
 use native.Mathlib.Omega.{arith}
 use lib.ListN.{getD}
 use Rattle.listing_text.specs.Words.{switchWord, space}
 use Rattle.listing_text.specs.Numbers.{decimal}
 use Rattle.listing_text.specs.Listing.{terminatorText}
 use Rattle.listing_text.proofs.Pieces.{and-then, two-then}
 
 shared-slice-read-put-line : tie.Need-shared-slice-read-put-line
 shared-slice-read-put-line c = omega (arith, c .before .before .before .before .before .before .before .before .before .before .before .before .before .before .before .before .before .before .before .before .before .before .before .before .before .before .before .before .pre)

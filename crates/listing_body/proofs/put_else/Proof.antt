@@ -1,12 +1,12 @@
 use borrow.Author.Needs.{needs}
-use Rattle.listing_text.proofs.put_else.Statement.{statement}
-use Rattle.listing_text.proofs.put_else.Tie as tie
-use Rattle.listing_text.proofs.put_else.Reads as reads
-use Rattle.listing_text.proofs.put_else.Lts as lts
+use Rattle.listing_body.proofs.put_else.Statement.{statement}
+use Rattle.listing_body.proofs.put_else.Tie as tie
+use Rattle.listing_body.proofs.put_else.Reads as reads
+use Rattle.listing_body.proofs.put_else.Lts as lts
 use Rattle.listing_text.proofs.numbers.put_decimal.Reads as put-decimal-reads
 use Rattle.listing_text.proofs.pen.put.Reads as put-reads
 use Rattle.listing_text.specs.Words.{dash}
 use Rattle.listing_text.specs.Listing.{elseText}
 
 returns : tie.Need-returns
 unfolding elseText dash
