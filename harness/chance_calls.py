@@ -2,7 +2,7 @@
 """Writes scripts of calls by chance, and the lines that samples/calls.py answers them with.
 
 `chance_calls.py SEED COUNT GIVEN PRINTED`: a seed, how many scripts, and the two files, in
-the form of `crates/replay_calls/stdin` and `stdout`.
+the form of `crates/replay/stdin` and `stdout`.
 """
 
 import random
@@ -13,7 +13,7 @@ sys.dont_write_bytecode = True
 sys.path.insert(0, str(Path(__file__).resolve().parent.parent / "samples"))
 
 from call_chance import chance_script
-from call_list import lines_of, stored
+from call_list import lines_of, script_record
 
 
 def main():
@@ -23,7 +23,7 @@ def main():
     with open(given, "wb") as scripts, open(printed, "w", encoding="utf-8") as lines:
         for _ in range(int(count)):
             image, script = chance_script(rng)
-            scripts.write(stored(image, script))
+            scripts.write(script_record(image, script))
             lines.writelines(f"{line}\n" for line in lines_of(image, script)[0])
 
 

@@ -1,9 +1,9 @@
 #!/usr/bin/env python3
-"""Answers a list of images as `replay_listings` does, with samples/lowering.py.
+"""Answers a list of images as `replay` does, with samples/lowering.py.
 
-The list is on standard input: for each image four big-endian bytes n, four big-endian bytes
-z, and n bytes; the image is these and z zero bytes. One listing or refusal is printed after
-the other. With the argument `assigns` the last pattern is lowered by
+The list is on standard input: for each image a byte, four big-endian bytes n, four big-endian
+bytes z, and n bytes; the image is these and z zero bytes. One listing or refusal is printed
+after the other. With the argument `assigns` the last pattern is lowered by
 `pattern_match_assignment`; with `visits` a listing ends with a line `visits` and how often
 each pattern was visited.
 """
@@ -37,8 +37,8 @@ def main():
     """Reads the list and prints the answers."""
     given, place = sys.stdin.buffer.read(), 0
     while place < len(given):
-        kept, zeros = struct.unpack_from(">II", given, place)
-        place += 8
+        _, kept, zeros = struct.unpack_from(">BII", given, place)
+        place += 9
         sys.stdout.write(answer(given[place:place + kept] + bytes(zeros), sys.argv[1:]))
         place += kept
 

@@ -2,8 +2,8 @@
 """Does the comparison find errors of the Rattle code? Changes it in one place, and compares.
 
 `wrong_copies.py [NAME..]` copies the crates to a temporary folder, makes one change there,
-compiles replay_listings or replay_params without a proof and makes the quick run's comparison
-of listings, or of parameters, with it. A line for each change says how many images or calls
+compiles replay without a proof and makes the quick run's comparison of listings, or of
+parameters, with it. A line for each change says how many images or calls
 differ; it fails if a change is not found. The harness must be built. NAMEs choose changes.
 """
 
@@ -17,11 +17,8 @@ HERE = Path(__file__).resolve().parent
 REPOSITORY = HERE.parent
 COMPARE = HERE / "target/release/compare"
 
-# How a program is compared, and the stored lists that come first.
-COMPARISONS = {
-    "replay_listings": (("run", "--counts"), ("replay_images", "replay_listings")),
-    "replay_params": (("parameters",), ("replay_params",)),
-}
+# What the program answers is compared with these words of `compare`.
+LISTINGS, PARAMETERS = ("run", "--counts"), ("parameters",)
 
 # Edits that the prover must refuse, of crates that the program stands on, whose effect a listing
 # shows: crates/CRATE/must-fail/LABEL.edit.
@@ -45,7 +42,7 @@ REFUSED = (
     "pattern_rules/char_that_is_no_scalar_value",
 )
 
-# The same of what replay_params stands on besides.
+# The same of what the calls on parameters stand on besides.
 REFUSED_OF_PARAMETERS = (
     "param_locals/local_missing_from_its_scope",
     "param_locals/ref_x_by_the_parameters_own_local",
@@ -139,10 +136,10 @@ def must_fail(label):
 
 
 def all_changes():
-    """Programs and names, each with its changes."""
-    yield from (("replay_listings", name, [(file, old, new)]) for name, file, old, new in CHANGES)
-    yield from (("replay_listings", label, must_fail(label)) for label in REFUSED)
-    yield from (("replay_params", label, must_fail(label)) for label in REFUSED_OF_PARAMETERS)
+    """How each is compared, and names, with the changes."""
+    yield from ((LISTINGS, name, [(file, old, new)]) for name, file, old, new in CHANGES)
+    yield from ((LISTINGS, label, must_fail(label)) for label in REFUSED)
+    yield from ((PARAMETERS, label, must_fail(label)) for label in REFUSED_OF_PARAMETERS)
 
 
 def changed_copy(folder, changes):
@@ -156,27 +153,25 @@ def changed_copy(folder, changes):
         path.write_text(text.replace(old, new), encoding="utf-8")
 
 
-def found(name, changes):
+def found(how, changes):
     """What the comparison says last of the changed program, and whether it differs."""
-    how, lists = COMPARISONS[name]
     with tempfile.TemporaryDirectory() as folder:
         folder = Path(folder)
         changed_copy(folder, changes)
-        program = folder / name
-        subprocess.run([HERE / "build_unproved", name, program, folder], check=True)
-        stored = [word for crate in lists for word in ("--stored", REPOSITORY / "crates" / crate / "stdin")]
-        done = subprocess.run([COMPARE, *how, "--other", program, "--count", "1500", *stored],
-                              capture_output=True, text=True, check=False)
+        program = folder / "replay"
+        subprocess.run([HERE / "build_unproved", "replay", program, folder], check=True)
+        done = subprocess.run([COMPARE, *how, "--other", program, "--count", "1500", "--stored",
+                               REPOSITORY / "crates/replay/stdin"], capture_output=True, text=True, check=False)
     return done.stdout.rstrip().rsplit("\n", 1)[-1], done.returncode == 1
 
 
 def main():
     """Tries all changes, or those that are named."""
     tried = missed = 0
-    for program, name, changes in all_changes():
+    for how, name, changes in all_changes():
         if sys.argv[1:] and name not in sys.argv[1:]:
             continue
-        told, differs = found(program, changes)
+        told, differs = found(how, changes)
         tried += 1
         missed += not differs
         print(f"{name}: {told}", flush=True)

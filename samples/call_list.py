@@ -7,8 +7,7 @@ from call_faults import OTHER_IMAGES, body_scripts, call_scripts
 from call_notation import YARD, commands
 from call_scripts import SCRIPTS
 from calls import CALL_RULES, Replay
-
-PROGRAM = "crates/replay_calls"
+from records import SCRIPT, record
 
 
 def all_scripts():
@@ -42,14 +41,14 @@ def lines_of(image, script):
     return lines, alone
 
 
-def stored(image, script):
+def script_record(image, script):
     """One script as the stored list has it."""
     words = b"".join(struct.pack(">4H", *command) for command in script)
-    return struct.pack(">I", len(image)) + image + struct.pack(">I", len(script)) + words
+    return record(SCRIPT, image) + struct.pack(">I", len(script)) + words
 
 
-def call_files():
-    """The contents of the program's files by their paths from the root."""
+def call_records(before):
+    """The scripts' records, the lines printed for them, and calls.txt; so many lines are printed before."""
     given, printed, listed, names, alone = [], [], [], set(), set()
     for name, text, image, script, answers in all_scripts():
         lines, broken_alone = lines_of(image, script)
@@ -57,10 +56,8 @@ def call_files():
         assert name not in names and " " not in name, name
         names.add(name)
         alone.update(broken_alone if answers is not None else ())
-        listed.append(f"{len(printed) + 1} {name} {text}\n")
-        given.append(stored(image, script))
+        listed.append(f"{before + len(printed) + 1} {name} {text}\n")
+        given.append(script_record(image, script))
         printed.extend(lines)
     assert alone == set(CALL_RULES), set(CALL_RULES) - alone
-    return {f"{PROGRAM}/stdin": b"".join(given),
-            f"{PROGRAM}/stdout": "".join(f"{line}\n" for line in printed).encode(),
-            "samples/calls.txt": "".join(listed).encode()}
+    return given, [f"{line}\n" for line in printed], "".join(listed)

@@ -1,4 +1,4 @@
-"""The stored list of images with their listings, for `crates/replay_listings`."""
+"""The images whose listings are stored, for `crates/replay`."""
 
 import random
 from collections import Counter
@@ -10,9 +10,9 @@ from corners import CORNERS
 from images import ABSENT, LIT, OR, TUPLE, TUPLE_TYPE, WILD
 from lowering import listing
 from readable import sample_files
+from records import LISTING, record
 from typed_chance import typed_image
 
-PROGRAM = "crates/replay_listings"
 # Images that the harness made and keeps here: a line has a sort, hexadecimal digits, and how many zero bytes follow.
 HARNESS = Path(__file__).resolve().parent / "harness_images.txt"
 SEED = 2026
@@ -79,16 +79,12 @@ def all_images():
         yield f"harness:{number}:{sort}", image
 
 
-def listing_files(stored):
-    """The contents of the program's files and of the list by their paths from the root."""
+def listing_records():
+    """The records, what is printed for each, and listings.txt."""
     given, printed, listed = [], [], []
     for number, (name, image) in enumerate(all_images(), 1):
         answer = listing(image)
-        given.append(stored(image, 0))
+        given.append(record(LISTING, image))
         printed.append(answer)
         listed.append(f"{number} {name} {answer.split(chr(10), 1)[0]}\n")
-    return {
-        f"{PROGRAM}/stdin": b"".join(given),
-        f"{PROGRAM}/stdout": "".join(printed).encode(),
-        "samples/listings.txt": "".join(listed).encode(),
-    }
+    return given, printed, "".join(listed)

@@ -9,21 +9,21 @@ from pathlib import Path
 
 sys.dont_write_bytecode = True
 
-from call_list import call_files
+from call_list import call_records
 from chance import chance_cases
 from faults import fault_cases
+from fit_list import fit_records
 from images import RULES, broken, read_counts
-from listing_list import listing_files
+from listing_list import listing_records
 from lowering import listing
-from params_list import params_files
+from params_list import params_records
 from readable import sample_files
+from records import IMAGE, record
 from whole import valid_images
 
 ROOT = Path(__file__).resolve().parent.parent
 REFUSED = "refused 1 65535 0"
-# From so many zero bytes at its end on, an image is stored without them.
-LONG_ZEROS = 64
-LARGEST_FILE = 1_000_000
+LARGEST_FILE = 2_000_000
 
 README = """# Sample images
 
@@ -33,14 +33,25 @@ is answered: the counts of types, variants, patterns, bindings, list words and d
 bytes, or the refusal.
 
 {samples}
-`list.txt` has one line for each image of the stored list in `crates/replay_images`:
-its number from 1, its name, and `valid` or the names of the rules that it breaks. The
-names follow the order of the document; they are all in `images.py`, as `RULES`.
+## The stored lists
 
-The stored list, `crates/replay_images/stdin`, has for each image four big-endian bytes n,
-four big-endian bytes z, and n bytes: the image is these n bytes and z zero bytes.
-`crates/replay_images/stdout` has one line of answer for each. `crates/check_image/stdin`
-is `enum_fields.img`.
+The program `replay` replays them all: `crates/replay/stdin` has the records, one behind
+the other, and `crates/replay/stdout` what is printed for them. A record is a byte, its
+sort; four big-endian bytes n, four big-endian bytes z, and n bytes, the image being these
+n bytes and z zero bytes; and what its sort has besides:
+
+| sort | record | printed |
+|---|---|---|
+| 1 | an image | a line: its counts, or its refusal |
+| 2 | an image | its listing, or its refusal |
+| 3 | a script: four big-endian bytes m, and m commands of four big-endian words | a line for each call |
+| 4 | a call on parameters: four big-endian bytes k, and k big-endian words | the listing and the locals, or the refusal |
+| 5 | a question whether a pattern fits: the same, with other words | `fits`, `does not fit` or the refusal |
+
+`list.txt` has one line for each record of sort 1: its number from 1, its name, and `valid`
+or the names of the rules that it breaks. The names follow the order of the document; they
+are all in `images.py`, as `RULES`. `crates/check_image/stdin` and `crates/listing/stdin`
+are `enum_fields.img`.
 
 ## How they are made
 
@@ -53,6 +64,7 @@ same; with `--check` it writes none and fails if one differs.
 - `whole.py`: valid images, at the edges and limits too.
 - `faults.py`: images that break rules; every rule is broken alone at least once.
 - `chance.py`: random images and random damage, from a fixed seed.
+- `records.py`: a record of the stored lists.
 - `make.py`: puts them together and writes the files.
 - `theorems.py`: prints the samples as theorems about the definitions, for `crates/samples/proofs/Samples.antt`.
 
@@ -64,34 +76,40 @@ Written from document 01 and the Rust alone, not from the definitions:
   prints the listing of an image. `builder.py` holds what lower.rs and mir.rs give it.
 - `corners.py`: checks document 01's corners, which are in `accepted.py` and
   `refusals.py`. `python3 samples/corners.py` prints each with its listing's first line.
+- `judged.py`: whether patterns fit, which values match, what they bind and where a run comes,
+  judged by hand from document 01 and the Reference; `sketch.py` is the short notation for
+  their images. `corner_theorems.py` prints these and the corners as rows of theorems.
 - `params.py`: the same for lists of parameters, and document 01's corners on them. With
   `-` it answers the harness's calls.
-- `params_list.py`: the stored list of calls on parameters, `crates/replay_params`: the
-  corners, and random calls from a fixed seed. An entry is an image as in
-  `crates/replay_images`, four big-endian bytes k and k big-endian words, as `params.py`
-  says. `params.txt` has for each its number from 1, its name, and the first line printed.
+- `params_list.py`: the stored calls on parameters: the corners, and random calls from a
+  fixed seed. `params.py` says what the words are. `params.txt` has for each its number
+  from 1, its name, and the first line printed.
 - `counts.py`: visits, blocks and statements counted from the tree. `python3
   samples/counts.py N` compares them with lowerings of N random images of each sort.
 - `typed_chance.py`: random images whose patterns follow their types.
-- `listing_list.py`: the stored list of images with their listings, `crates/replay_listings`:
-  the samples, the corners, the largest images, random ones from a fixed seed, and those of
-  `harness_images.txt`. An entry is as in `crates/replay_images`, and
-  `crates/replay_listings/stdout` has what is printed for each, one behind the other.
+- `listing_list.py`: the images whose listings are stored: the samples, the corners, the
+  largest images, random ones from a fixed seed, and those of `harness_images.txt`.
   `listings.txt` has for each its number from 1, its name, and the first line that is
-  printed. `crates/listing/stdin` is `enum_fields.img`.
+  printed.
 - `harness_images.txt`: images of every sort that the harness makes, each answer among them.
   `harness/run images` wrote it from the harness's generators, which `make.py` does not run;
   the answers in the stored list are those of `lowering.py`, and the harness's quick run
   compares them with the Rust's.
 
+## The fit
+
+- `fits.py`: judges whether a pattern fits, by document 01's paragraph "A pattern fits when"
+  alone.
+- `fit_list.py`: the stored questions, and what their words are: the corners, numbers that
+  name nothing, and random patterns with all sorts of locals. `fits.txt` has for each its
+  number from 1, its name, and the answer.
+
 ## Calls
 
-`crates/replay_calls/stdin` is a list of scripts: four big-endian bytes n, an image of n
-bytes, four big-endian bytes m, and m commands of four big-endian words. A command is one
-of the six calls on a body and its scopes, or sets a word of their tables, or a count.
-`crates/replay_calls/stdout` has a line for each call: its answer, the five counts, and a
-checksum of each table. `calls.txt` has for each script the number of its first line
-there, its name, and what it shows.
+A command of a script is one of the six calls on a body and its scopes, or sets a word of
+their tables, or a count. For each call a line is printed: its answer, the five counts, and a
+checksum of each table. `calls.txt` has for each script the number of its first line in
+`crates/replay/stdout`, its name, and what it shows.
 
 - `calls.py`: answers the calls, by document 01 and the rows of `docs/BODY.md` alone, and
   names the rules that number 2 is given for.
@@ -134,13 +152,27 @@ def judged_cases():
     return judged
 
 
-def stored(image, zeros):
-    """One image as the stored list has it."""
-    head = image.rstrip(b"\0")
-    if len(image) - len(head) < LONG_ZEROS:
-        head = image
-    zeros += len(image) - len(head)
-    return len(head).to_bytes(4, "big") + zeros.to_bytes(4, "big") + head
+def image_records():
+    """The records of images, the line printed for each, and list.txt."""
+    cases = judged_cases()
+    given = [record(IMAGE, image, zeros) for _, image, zeros, _ in cases]
+    printed = [answer(image, rules) + "\n" for _, image, _, rules in cases]
+    listed = "".join(f"{number} {name} {' '.join(rules) or 'valid'}\n"
+                     for number, (name, _, _, rules) in enumerate(cases, 1))
+    return given, printed, listed
+
+
+def replay_files():
+    """What `crates/replay` is run on and prints, and the names of its records."""
+    given, printed, listed = image_records()
+    files = {"samples/list.txt": listed.encode()}
+    for name, (more, lines, text) in (("calls", call_records(len(printed))), ("listings", listing_records()),
+                                      ("params", params_records()), ("fits", fit_records())):
+        given, printed = given + more, printed + lines
+        files[f"samples/{name}.txt"] = text.encode()
+    files["crates/replay/stdin"] = b"".join(given)
+    files["crates/replay/stdout"] = "".join(printed).encode()
+    return files
 
 
 def sample_lines():
@@ -160,17 +192,7 @@ def all_files():
     sample = next(image for name, _, image in sample_files() if name == "enum_fields")
     files["crates/check_image/stdin"] = sample
     files["crates/check_image/stdout"] = (answer(sample, broken(sample)) + "\n").encode()
-    cases = judged_cases()
-    files["crates/replay_images/stdin"] = b"".join(
-        stored(image, zeros) for _, image, zeros, _ in cases)
-    files["crates/replay_images/stdout"] = "".join(
-        answer(image, rules) + "\n" for _, image, _, rules in cases).encode()
-    files["samples/list.txt"] = "".join(
-        f"{number} {name} {' '.join(rules) or 'valid'}\n"
-        for number, (name, _, _, rules) in enumerate(cases, 1)).encode()
-    files.update(call_files())
-    files.update(listing_files(stored))
-    files.update(params_files(stored))
+    files.update(replay_files())
     files["crates/listing/stdin"] = sample
     files["crates/listing/stdout"] = listing(sample).encode()
     assert all(len(content) < LARGEST_FILE for content in files.values())

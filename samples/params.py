@@ -7,10 +7,10 @@ list: "tuple" or the number of a variant, and then its fields.
 
 `python3 samples/params.py` prints the listing of each corner, with the bindings' locals.
 `python3 samples/params.py -` answers the calls on standard input, one after the other. A call
-is four big-endian bytes n, four big-endian bytes z, n bytes (the image is these and z zero
-bytes), four big-endian bytes k, and k big-endian words: how many scopes are open (0 or 1), 1
+is a byte, four big-endian bytes n, four big-endian bytes z, n bytes (the image is these and z
+zero bytes), four big-endian bytes k, and k big-endian words: how many scopes are open (0 or 1), 1
 or 0 for self or none, self's binding and type, and the list, a pattern and a type for each
-parameter. The start is block 0, open, no local, and no binding with a local. Further words:
+parameter; fewer than four words name nothing. The start is block 0, open, no local, and no binding with a local. Further words:
 `locals N`, N locals of type 0 are there before; `visits`, a line of visits behind the others;
 `drop`, `drop_until_scope` of scope 0 comes after; `pop`, `pop_and_drop` comes after.
 """
@@ -164,12 +164,16 @@ def answered(given, visits=False, **handed):
     """The answers to the calls of a list of bytes."""
     place = 0
     while place < len(given):
-        kept, zeros = struct.unpack_from(">II", given, place)
-        image = given[place + 8:place + 8 + kept] + bytes(zeros)
-        place += 8 + kept
+        _, kept, zeros = struct.unpack_from(">BII", given, place)
+        image = given[place + 9:place + 9 + kept] + bytes(zeros)
+        place += 9 + kept
         count, = struct.unpack_from(">I", given, place)
-        scopes, own, binding, type_, *words = struct.unpack_from(f">{count}H", given, place + 4)
+        words = struct.unpack_from(f">{count}H", given, place + 4)
         place += 4 + 2 * count
+        if count < 4:
+            yield f"refused {1 if broken(image) else 2} 65535 0"
+            continue
+        scopes, own, binding, type_, *words = words
         receiver = (binding, type_) if own else None
         body, refusal = called(image, scopes, receiver, words, **handed)
         yield from ("refused {} {} {}".format(*refusal),) if refusal else lines_of(body, visits)

@@ -1,4 +1,4 @@
-"""The stored list of calls on parameters with their answers, for `crates/replay_params`."""
+"""The stored calls on parameters with their answers, for `crates/replay`."""
 
 import random
 import struct
@@ -7,9 +7,9 @@ from collections import Counter
 from chance import random_image, word_damage
 from images import ABSENT, decode
 from params import PARAM_CORNERS, answered
+from records import PARAMETERS, record
 from typed_chance import typed_image
 
-PROGRAM = "crates/replay_params"
 SEED = 1851
 # So many random calls of each sort, and of a sort's answers at most so many that begin alike.
 RANDOM, ALIKE = 900, 12
@@ -24,6 +24,15 @@ def corner_calls():
         listed = [word for param in params for word in param]
         for scopes in (1, 0):
             yield f"corner:{name}:{scopes}", m.encode(), (scopes, *own, *listed)
+
+
+def short_calls():
+    """Calls of fewer than four words, which name nothing; number 1 comes before that."""
+    whole = next(m.encode() for _, m, *_ in PARAM_CORNERS)
+    for count in range(4):
+        yield f"short:{count}", whole, (1,) * count
+    yield "short:version", bytes((0, 0, 0, 1, 2)), (1, 0, 0)
+    yield "short:cut", whole[:-1], ()
 
 
 def fitting_words(rng, m):
@@ -68,9 +77,9 @@ def random_calls():
                 yield "damaged", word_damage(rng, image), (1, *own, *listed)
 
 
-def entry(stored, image, words):
+def call_record(image, words):
     """A call as the stored list has it."""
-    return stored(image, 0) + struct.pack(f">I{len(words)}H", len(words), *words)
+    return record(PARAMETERS, image) + struct.pack(f">I{len(words)}H", len(words), *words)
 
 
 def text(call):
@@ -78,14 +87,14 @@ def text(call):
     return "".join(f"{line}\n" for line in answered(call))
 
 
-def all_calls(stored):
+def all_calls():
     """Name, bytes and answer of each call."""
-    for name, image, words in corner_calls():
-        call = entry(stored, image, words)
+    for name, image, words in (*corner_calls(), *short_calls()):
+        call = call_record(image, words)
         yield name, call, text(call)
     alike = Counter()
     for sort, image, words in random_calls():
-        call = entry(stored, image, words)
+        call = call_record(image, words)
         answer = text(call)
         first = answer.split("\n", 1)[0].split(" ")
         kind = (sort, first[1] if first[0] == "refused" else len(answer) // 200)
@@ -94,13 +103,9 @@ def all_calls(stored):
             yield f"{sort}:{sum(alike.values())}", call, answer
 
 
-def params_files(stored):
-    """The contents of the program's files and of the list by their paths from the root."""
-    calls = list(all_calls(stored))
-    return {
-        f"{PROGRAM}/stdin": b"".join(call for _, call, _ in calls),
-        f"{PROGRAM}/stdout": "".join(answer for _, _, answer in calls).encode(),
-        "samples/params.txt": "".join(
-            f"{number} {name} {answer.split(chr(10), 1)[0]}\n"
-            for number, (name, _, answer) in enumerate(calls, 1)).encode(),
-    }
+def params_records():
+    """The records, what is printed for each, and params.txt."""
+    calls = list(all_calls())
+    listed = (f"{number} {name} {answer.split(chr(10), 1)[0]}\n"
+              for number, (name, _, answer) in enumerate(calls, 1))
+    return [call for _, call, _ in calls], [answer for _, _, answer in calls], "".join(listed)

@@ -2,7 +2,7 @@
 pub mod nodes; // nodes.rt: a pattern's own binding, and its row of subpatterns
 pub mod found; // found.rt: whether a binding stands in a row of patterns
 pub mod each; // each.rt: what is asked of each binding of a row of patterns
-pub mod fit; // fit.rt: the clause, for each pattern of a row
+pub mod clause; // clause.rt: the clause, for each pattern of a row
 
 use image::PatId;
 use image::Tables;
@@ -19,5 +19,5 @@ pub fn bindings_fit(image: &[u8], tables: Tables, p: PatId) -> bool
     requires { ⌜ (valid (now image) ≡ true) × Whole (now image) tables × (p .0 < patternCount (now image)) ⌝ }
     ensures { λ r. ⌜ r ≡ bindingsFit (now (image .entry)) (tree (now (image .entry)) (p .0)) ⌝ }
 {
-    fit::all_fit(image, tables, nodes::one(p.0 + 1, p.0))
+    clause::all_fit(image, tables, nodes::one(p.0 + 1, p.0))
 }

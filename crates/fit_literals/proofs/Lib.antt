@@ -1,4 +1,3 @@
-pub mod Sizes
 pub mod Ranging
 pub mod Shapes
 pub mod Clauses

@@ -1,8 +1,10 @@
 -- What a type is, by its row: the number of its kind, and what the row of a kind stands for. Assumes nothing.
 use Prim.Native.Nat.{ℕ, zero, suc, _<_}
 use mathlib.Core.Path.{_≡_, refl, sym, ap, _∙_}
-use mathlib.Core.Bool.{true, false, false≢true}
-use mathlib.Core.List.{List}
+use mathlib.Core.Bool.{Bool, true, false, false≢true}
+use mathlib.Core.List.{List, [], _∷_}
+use types.Run.{OneOf, miss}
+use denote.Enum.Declared as Declared
 use borrow.Author.Tests.{ltb-true}
 use lib.Dec.{eqb}
 use Rattle.image.specs.declared.kinds.TypeKind.{TypeKind}
@@ -15,8 +17,9 @@ use Rattle.image.specs.Types.{Shape, integer, bool, char, str, tuple, adt, refe
 use Rattle.image.specs.Valid.{valid}
 use Rattle.image.proofs.Bools.{and-left}
 use Rattle.image.proofs.Known.{shape-holds}
+use Rattle.image.proofs.kinds.TypeKind as type-kind
 use Rattle.meaning.specs.Values.{kindNumber}
-use Rattle.meaning.specs.Typing.{refersToStr}
+use Rattle.meaning.specs.Typing.{integerFits, refersToStr}
 
 -- the number of the kind of a row that holds
 row-kind : (image : List ℕ) (k : ℕ) (row : TypeRow) → typeShapeHolds (typeKind k) image row ≡ true → kindNumber (shapeBy (typeKind k) image row) ≡ k
@@ -81,3 +84,18 @@ refers-not image (reference t) h = absurd (h refl)
 refers-not image (array t n) h = refl
 refers-not image (slice t) h = refl
 refers-not image unknown h = refl
+
+-- what is no integer type has no integers
+pub not-integer : (image : List ℕ) (row : TypeRow) (kind : TypeKind) → OneOf (1 ∷ 2 ∷ 3 ∷ 4 ∷ 5 ∷ 6 ∷ 7 ∷ 8 ∷ 9 ∷ []) (Declared.tagOf type-kind.the-type kind)
+    → (negative : Bool) (bytes : List ℕ) → false ≡ integerFits (shapeBy kind image row) negative bytes
+unfolding shapeBy integerFits
+not-integer image row TypeKind.Integer h negative bytes = absurd (miss (1 ∷ 2 ∷ 3 ∷ 4 ∷ 5 ∷ 6 ∷ 7 ∷ 8 ∷ 9 ∷ []) 0 tt h)
+not-integer image row TypeKind.Bool h negative bytes = refl
+not-integer image row TypeKind.Char h negative bytes = refl
+not-integer image row TypeKind.Str h negative bytes = refl
+not-integer image row TypeKind.Tuple h negative bytes = refl
+not-integer image row TypeKind.Adt h negative bytes = refl
+not-integer image row TypeKind.Reference h negative bytes = refl
+not-integer image row TypeKind.Array h negative bytes = refl
+not-integer image row TypeKind.Slice h negative bytes = refl
+not-integer image row TypeKind.Unknown h negative bytes = refl

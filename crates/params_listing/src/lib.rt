@@ -1,5 +1,4 @@
 // What is printed for a call on parameters, written into a lent buffer.
-use image::BindingId;
 use image::Tables;
 use listing_text::pen::Pen;
 use listing_text::put_refusal;
@@ -8,91 +7,25 @@ use lowered_params::SelfParam;
 use mir::BasicBlockId;
 use mir::Counts;
 use params::lower_params_and_bindings;
+use params_start::call_words;
+use params_start::many_of;
+use params_start::start_params;
+use params_start::unbind;
 use params_text::put_params_answer;
 use read_image::Read;
 use read_image::read_image;
 use row_tables::clear_from;
 ghost use mathlib.Core.Path.{_≡_};
 ghost use mathlib.Core.Bool.{true};
-ghost use lib.ListN.{length, replicate};
+ghost use lib.ListN.{length};
 ghost use Rattle.image.specs.Tables.{Whole};
 ghost use Rattle.image.specs.Valid.{valid};
-ghost use Rattle.state.specs.State.{body, encode, countsOf};
+ghost use Rattle.state.specs.State.{body};
 ghost use Rattle.listing_text.specs.Writing.{Wrote};
 ghost use Rattle.image_text.specs.Listed.{Printed};
 ghost use Rattle.listing_start.specs.Sizes.{TablesSized};
-ghost use Rattle.params_listing.specs.Started.{startState, receiver, manyOf, Starts, startText, paramsText};
-
-// Self, by a word that is 0 for none, its binding and its type.
-fn receiver_of(own: u16, binding: u16, ty: u16) -> SelfParam
-    ensures { λ r. ⌜ r ≡ receiver own binding ty ⌝ }
-{
-    if own == 0 {
-        return SelfParam::None;
-    }
-    SelfParam::Some(BindingId(binding), ty)
-}
-
-// How many locals self and a list of so many words have; a list of more than 64 parameters is not taken.
-fn many_of(receiver: SelfParam, size: usize) -> u16
-    ensures { λ r. ⌜ r ≡ manyOf receiver size ⌝ }
-{
-    if size > 128 {
-        return 0;
-    }
-    let count = (size / 2) as u16;
-    match receiver {
-        SelfParam::None => count,
-        SelfParam::Some(_, _) => count + 1,
-    }
-}
-
-// No binding has a local.
-fn unbind(bindings: &mut [u16])
-    requires { ⌜ length (now bindings) ≡ 256 ⌝ }
-    ensures { λ _. ⌜ now (bindings .exit) ≡ replicate 256 65535 ⌝ }
-{
-    let mut i = 0;
-    while i < bindings.len() {
-        bindings[i] = 65535;
-        i += 1;
-    }
-}
-
-// Block 0 is open, there is no local, and a scope is open or none.
-fn start_params(
-    blocks: &mut [u16],
-    statements: &mut [u16],
-    locals: &mut [u16],
-    scopes: &mut [u16],
-    entries: &mut [u16],
-    opened: u16,
-) -> Counts
-    requires { ⌜ TablesSized (body (now blocks) (now statements) (now locals) (now scopes) (now entries)) ⌝ }
-    ensures { λ r. ⌜ (r ≡ countsOf (startState opened)) × (body (now (blocks .exit)) (now (statements .exit)) (now (locals .exit)) (now (scopes .exit)) (now (entries .exit)) ≡ encode (startState opened)) ⌝ }
-{
-    clear_from(blocks, 0);
-    clear_from(statements, 0);
-    clear_from(locals, 0);
-    clear_from(scopes, 0);
-    clear_from(entries, 0);
-    if opened == 0 {
-        return Counts {
-            blocks: 1,
-            statements: 0,
-            locals: 0,
-            scopes: 0,
-            entries: 0,
-        };
-    }
-    Counts {
-        blocks: 1,
-        statements: 0,
-        locals: 0,
-        scopes: 1,
-        entries: 0,
-    }
-}
+ghost use Rattle.params_start.specs.Started.{Starts};
+ghost use Rattle.params_listing.specs.Listed.{startText, paramsText};
 
 // Self and the list are lowered from the start, and the text of the answer is written.
 fn put_called(
@@ -201,27 +134,29 @@ fn put_params(
     requires { ⌜ TablesSized (body (now blocks) (now statements) (now locals) (now scopes) (now entries)) × (length (now visits) ≡ 512) ⌝ }
     ensures { λ r. ⌜ Wrote (now (out .entry)) pen (paramsText (now (image .entry)) (now (words .entry))) r (now (out .exit)) ⌝ }
 {
+    let Read::Image(tables) = read_image(image) else {
+        return put_refusal(out, pen, 1, 65535, 0);
+    };
     if words.len() < 4 {
         return put_refusal(out, pen, 2, 65535, 0);
     }
-    match read_image(image) {
-        Read::Refused => put_refusal(out, pen, 1, 65535, 0),
-        Read::Image(tables) => put_lowered(
-            image,
-            tables,
-            words[0],
-            receiver_of(words[1], words[2], words[3]),
-            &words[4..],
-            blocks,
-            statements,
-            locals,
-            scopes,
-            entries,
-            visits,
-            out,
-            pen,
-        ),
-    }
+    let call = call_words(words);
+    let receiver = call.receiver;
+    put_lowered(
+        image,
+        tables,
+        call.opened,
+        receiver,
+        &words[4..],
+        blocks,
+        statements,
+        locals,
+        scopes,
+        entries,
+        visits,
+        out,
+        pen,
+    )
 }
 
 // The text of a call, or its refusal, from the start of a buffer on: answers how many bytes it has, or 0 where the buffer has no room for it.

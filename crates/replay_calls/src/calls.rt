@@ -23,11 +23,11 @@ fn opt_block(word: u16) -> OptBlock {
 
 pub fn call_temp(
     image: &[u8],
-    blocks: &mut [u16],
-    stmts: &mut [u16],
-    locals: &mut [u16],
-    scopes: &mut [u16],
-    entries: &mut [u16],
+    blocks: &mut [u16; 6144],
+    stmts: &mut [u16; 50176],
+    locals: &mut [u16; 512],
+    scopes: &mut [u16; 32],
+    entries: &mut [u16; 1024],
     counts: Counts,
     word: u16,
     block: u16,
@@ -49,11 +49,11 @@ pub fn call_temp(
 
 pub fn call_merge(
     image: &[u8],
-    blocks: &mut [u16],
-    stmts: &mut [u16],
-    locals: &mut [u16],
-    scopes: &mut [u16],
-    entries: &mut [u16],
+    blocks: &mut [u16; 6144],
+    stmts: &mut [u16; 50176],
+    locals: &mut [u16; 512],
+    scopes: &mut [u16; 32],
+    entries: &mut [u16; 1024],
     counts: Counts,
     a: u16,
     b: u16,
@@ -66,11 +66,11 @@ pub fn call_merge(
 
 pub fn call_push(
     image: &[u8],
-    blocks: &mut [u16],
-    stmts: &mut [u16],
-    locals: &mut [u16],
-    scopes: &mut [u16],
-    entries: &mut [u16],
+    blocks: &mut [u16; 6144],
+    stmts: &mut [u16; 50176],
+    locals: &mut [u16; 512],
+    scopes: &mut [u16; 32],
+    entries: &mut [u16; 1024],
     counts: Counts,
 ) -> Counts {
     let answer = push_drop_scope(image, blocks, stmts, locals, scopes, entries, counts);
@@ -79,11 +79,11 @@ pub fn call_push(
 
 pub fn call_assume(
     image: &[u8],
-    blocks: &mut [u16],
-    stmts: &mut [u16],
-    locals: &mut [u16],
-    scopes: &mut [u16],
-    entries: &mut [u16],
+    blocks: &mut [u16; 6144],
+    stmts: &mut [u16; 50176],
+    locals: &mut [u16; 512],
+    scopes: &mut [u16; 32],
+    entries: &mut [u16; 1024],
     counts: Counts,
 ) -> Counts {
     let answer = pop_assume_dropped(image, blocks, stmts, locals, scopes, entries, counts);
@@ -92,11 +92,11 @@ pub fn call_assume(
 
 pub fn call_pop(
     image: &[u8],
-    blocks: &mut [u16],
-    stmts: &mut [u16],
-    locals: &mut [u16],
-    scopes: &mut [u16],
-    entries: &mut [u16],
+    blocks: &mut [u16; 6144],
+    stmts: &mut [u16; 50176],
+    locals: &mut [u16; 512],
+    scopes: &mut [u16; 32],
+    entries: &mut [u16; 1024],
     counts: Counts,
     block: u16,
 ) -> Counts {
@@ -107,11 +107,11 @@ pub fn call_pop(
 
 pub fn call_until(
     image: &[u8],
-    blocks: &mut [u16],
-    stmts: &mut [u16],
-    locals: &mut [u16],
-    scopes: &mut [u16],
-    entries: &mut [u16],
+    blocks: &mut [u16; 6144],
+    stmts: &mut [u16; 50176],
+    locals: &mut [u16; 512],
+    scopes: &mut [u16; 32],
+    entries: &mut [u16; 1024],
     counts: Counts,
     i: u16,
     block: u16,

@@ -42,11 +42,11 @@ fn poke_count(counts: Counts, i: u16, count: u16) -> Counts {
 
 // The word b of the table a.
 fn set_word(
-    blocks: &mut [u16],
-    stmts: &mut [u16],
-    locals: &mut [u16],
-    scopes: &mut [u16],
-    entries: &mut [u16],
+    blocks: &mut [u16; 6144],
+    stmts: &mut [u16; 50176],
+    locals: &mut [u16; 512],
+    scopes: &mut [u16; 32],
+    entries: &mut [u16; 1024],
     command: Command,
 ) {
     let table = command.a;
@@ -65,11 +65,11 @@ fn set_word(
 // A call, which prints its answer, and the counts behind it.
 fn call(
     image: &[u8],
-    blocks: &mut [u16],
-    stmts: &mut [u16],
-    locals: &mut [u16],
-    scopes: &mut [u16],
-    entries: &mut [u16],
+    blocks: &mut [u16; 6144],
+    stmts: &mut [u16; 50176],
+    locals: &mut [u16; 512],
+    scopes: &mut [u16; 32],
+    entries: &mut [u16; 1024],
     counts: Counts,
     command: Command,
 ) -> Counts {
@@ -90,11 +90,11 @@ fn call(
 // A command, and the counts behind it.
 pub fn run(
     image: &[u8],
-    blocks: &mut [u16],
-    stmts: &mut [u16],
-    locals: &mut [u16],
-    scopes: &mut [u16],
-    entries: &mut [u16],
+    blocks: &mut [u16; 6144],
+    stmts: &mut [u16; 50176],
+    locals: &mut [u16; 512],
+    scopes: &mut [u16; 32],
+    entries: &mut [u16; 1024],
     counts: Counts,
     command: Command,
 ) -> Counts {

@@ -8,7 +8,7 @@ use std::path::Path;
 use std::time::Instant;
 use std::{env, fs};
 
-use compare::{other, plan};
+use compare::{plan, records};
 use images::Group;
 use published::prepared::Prepared;
 use rattle::{Given, Lent};
@@ -52,7 +52,7 @@ fn main() {
 /// A file for each group, numbered, and its name in another.
 fn write(folder: &Path) {
     for (number, group) in images::groups().iter().enumerate() {
-        let list: Vec<u8> = group.images.iter().flat_map(|m| other::image_entry(&m.encode())).collect();
+        let list: Vec<u8> = group.images.iter().flat_map(|m| records::entry(records::LISTING, &m.encode())).collect();
         fs::write(folder.join(format!("{number:02}.list")), list).expect("written");
         fs::write(folder.join(format!("{number:02}.name")), &group.name).expect("written");
     }

@@ -1,4 +1,4 @@
-//! Compares the six calls on a body and its scopes: the lines that `replay_calls` prints for a
+//! Compares the six calls on a body and its scopes: the lines that `replay` prints for a
 //! list of scripts, with what the published text makes of each call. The harness keeps the five
 //! tables itself, as docs/BODY.md has them.
 
@@ -6,6 +6,8 @@ use std::collections::BTreeMap;
 
 use image::{ABSENT, Tables};
 use published::calls::{Call, CallAnswer, Handed, Made, SetTo, call};
+
+use crate::records::{self, Record};
 
 const LIMITS: [usize; 5] = [512, 1024, 512, 32, 1024];
 const WIDTHS: [usize; 5] = [12, 49, 1, 1, 1];
@@ -27,25 +29,16 @@ pub struct Script {
     pub commands: Vec<[u16; 4]>,
 }
 
-/// The scripts of a list.
-pub fn scripts(mut list: &[u8]) -> Vec<Script> {
-    let mut found = Vec::new();
-    while !list.is_empty() {
-        let image = part(&mut list, 1).to_vec();
-        let words = part(&mut list, 8);
-        let word = |command: &[u8], at: usize| u16::from_be_bytes([command[2 * at], command[2 * at + 1]]);
-        let commands = words.chunks(8).map(|command| std::array::from_fn(|at| word(command, at)));
-        found.push(Script { image, commands: commands.collect() });
-    }
-    found
-}
-
-/// A count of four bytes, and as many entries of a size.
-fn part<'a>(list: &mut &'a [u8], size: usize) -> &'a [u8] {
-    let count = u32::from_be_bytes(list[..4].try_into().expect("four bytes")) as usize;
-    let (found, rest) = list[4..].split_at(count * size);
-    *list = rest;
-    found
+/// The scripts of a list, and how many images before them are answered by a line.
+pub fn scripts(list: &[u8]) -> (Vec<Script>, usize) {
+    let records = records::read(list);
+    let before = records.iter().take_while(|record| record.sort == records::IMAGE).count();
+    let scripts = records.into_iter().filter(|record| record.sort == records::SCRIPT);
+    let script = |Record { image, words, .. }: Record| {
+        let commands = words.chunks(4).map(|command| std::array::from_fn(|at| command[at]));
+        Script { image, commands: commands.collect() }
+    };
+    (scripts.map(script).collect(), before)
 }
 
 #[derive(Clone)]
@@ -181,8 +174,8 @@ fn line(tables: Option<&Tables>, body: &mut Body, command: Call, answer: &str) -
 
 /// Compares a list of scripts with the lines that the other side printed for it; answers how many
 /// calls differed.
-pub fn compare(scripts: &[Script], printed: &str) -> usize {
-    let mut lines = printed.lines();
+pub fn compare((scripts, before): &(Vec<Script>, usize), printed: &str) -> usize {
+    let mut lines = printed.lines().skip(*before);
     let mut tally: BTreeMap<&'static str, usize> = BTreeMap::new();
     let mut differing = 0;
     for (number, script) in scripts.iter().enumerate() {

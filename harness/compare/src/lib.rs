@@ -8,6 +8,7 @@ pub mod other;
 pub mod parameters;
 pub mod plan;
 pub mod read_tree;
+pub mod records;
 pub mod rng;
 pub mod run;
 pub mod shrink;

@@ -21,7 +21,7 @@ compare run OPTIONS      compares with another side:
   --assigns              by pattern_match_assignment; the other side does the same
   --stored FILE          the images of a stored list too
 compare images           prints the images that are kept in the repository
-compare calls STDIN STDOUT  compares the lines of replay_calls for a list of scripts
+compare calls STDIN STDOUT  compares the lines of replay for a list of scripts
 compare parameters OPTIONS  compares calls of lower_params_and_bindings with another side:
   --other COMMAND, --count N, --seed N, --counts, --visits
   --locals N             so many locals are there before; the other side does the same

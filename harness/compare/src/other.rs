@@ -1,6 +1,5 @@
-//! The other side: a program that reads a list of images on standard input, each as four
-//! big-endian bytes n, four big-endian bytes z and n bytes (z zeros follow in the image), or a list
-//! of calls, and prints one listing or refusal after the other.
+//! The other side: a program that reads records of images or of calls on standard input, and prints
+//! one listing or refusal after the other.
 
 use std::io::{self, Write};
 use std::process::{Command, Stdio};
@@ -54,15 +53,6 @@ impl Other {
         feeding.join().expect("no panic")?;
         Ok(String::from_utf8_lossy(&output.stdout).into_owned())
     }
-}
-
-/// An image in a list.
-pub fn image_entry(image: &[u8]) -> Vec<u8> {
-    let kept = image.iter().rposition(|&byte| byte != 0).map_or(0, |last| last + 1);
-    let mut entry = (kept as u32).to_be_bytes().to_vec();
-    entry.extend(((image.len() - kept) as u32).to_be_bytes());
-    entry.extend(&image[..kept]);
-    entry
 }
 
 /// The answers in a text; each begins with a line `then ..` or `refused ..`.

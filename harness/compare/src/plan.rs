@@ -4,6 +4,7 @@ use std::fs;
 use std::path::Path;
 
 use crate::generate::{aimed, any, damage, fitting, limits, small};
+use crate::records::{self, Record};
 use crate::rng::Rng;
 
 /// Images or calls of one sort, one after the other.
@@ -56,19 +57,10 @@ const BY_CHANCE: [(&str, Make); 6] = [
     }),
 ];
 
-/// The images of a stored list.
+/// The images of a stored list that are read or listed.
 pub fn stored(path: &Path) -> Source {
     let bytes = fs::read(path).unwrap_or_else(|error| panic!("{}: {error}", path.display()));
-    let mut images = Vec::new();
-    let mut rest = bytes.as_slice();
-    while !rest.is_empty() {
-        let number = |at: usize| u32::from_be_bytes(rest[at..at + 4].try_into().expect("four bytes"));
-        let (kept, zeros) = (number(0) as usize, number(4) as usize);
-        let mut image = rest[8..8 + kept].to_vec();
-        image.resize(kept + zeros, 0);
-        images.push(image);
-        rest = &rest[8 + kept..];
-    }
-    let folder = path.parent().and_then(Path::file_name).unwrap_or_default();
-    source(&format!("stored for {}", folder.display()), images.into_iter())
+    let alone = |record: &Record| [records::IMAGE, records::LISTING].contains(&record.sort);
+    let images = records::read(&bytes).into_iter().filter(alone).map(|record| record.image);
+    source("stored", images)
 }

@@ -5,8 +5,9 @@ use std::hash::Hash;
 use std::time::Instant;
 
 use crate::judge::{self, Expected};
-use crate::other::{self, Other};
+use crate::other::Other;
 use crate::plan::Source;
+use crate::records;
 use crate::shrink;
 
 /// What both sides are given: an image, or a call.
@@ -31,7 +32,7 @@ impl Given for Vec<u8> {
     const NAME: &'static str = "images";
 
     fn entry(&self) -> Vec<u8> {
-        other::image_entry(self)
+        records::entry(records::LISTING, self)
     }
 
     fn expected(&self, other: &Other) -> Expected {

@@ -3,7 +3,7 @@ use Rattle.fit_bindings.proofs.bindings_fit.Statement.{statement}
 use Rattle.fit_bindings.proofs.bindings_fit.Tie as tie
 use Rattle.fit_bindings.proofs.bindings_fit.Reads as reads
 use Rattle.fit_bindings.proofs.bindings_fit.Lts as lts
-use Rattle.fit_bindings.proofs.fit.all_fit.Reads as all-fit-reads
+use Rattle.fit_bindings.proofs.clause.all_fit.Reads as all-fit-reads
 use Rattle.fit_bindings.proofs.nodes.one.Reads as one-reads
 use native.Mathlib.Omega.{arith}
 use Rattle.fit_bindings.proofs.Known.{limits}

@@ -4,13 +4,13 @@ use Rattle.params_listing.proofs.put_lowered.Tie as tie
 use Rattle.params_listing.proofs.put_lowered.Reads as reads
 use Rattle.params_listing.proofs.put_lowered.Lts as lts
 use Rattle.params_listing.proofs.put_called.Reads as put-called-reads
-use Rattle.params_listing.proofs.start_params.Reads as start-params-reads
-use Rattle.params_listing.proofs.unbind.Reads as unbind-reads
+use Rattle.params_start.proofs.start_params.Reads as start-params-reads
+use Rattle.params_start.proofs.unbind.Reads as unbind-reads
 use Rattle.row_tables.proofs.clear_from.Reads as clear-from-reads
 use mathlib.Core.Path.{sym}
 use native.Mathlib.Omega.{arith}
 use lib.Seq.{length-take-le}
-use Rattle.params_listing.proofs.Ways.{few, starts}
+use Rattle.params_start.proofs.Starting.{few, starts}
 
 start-params-requires : tie.Need-start-params-requires
 start-params-requires c κs = c .before .before .before .before .before .before .before .before .before .before .before .before .before .before .pre .2

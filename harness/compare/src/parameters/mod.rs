@@ -10,7 +10,8 @@ use published::parameters::{Parameters, lower_parameters};
 use published::{Answer, Outcome};
 
 use crate::judge::{self, Expected};
-use crate::other::{self, Other};
+use crate::other::Other;
+use crate::records;
 use crate::run::Given;
 
 pub use plan::{read_list, sources};
@@ -60,7 +61,7 @@ impl Given for Call {
 
     fn entry(&self) -> Vec<u8> {
         let words = self.all_words();
-        let mut entry = other::image_entry(&self.image);
+        let mut entry = records::entry(records::PARAMETERS, &self.image);
         entry.extend((words.len() as u32).to_be_bytes());
         entry.extend(words.iter().flat_map(|word| word.to_be_bytes()));
         entry

@@ -2,6 +2,7 @@
 
 use crate::parameters::{Call, generate, limits};
 use crate::plan::{Source, source};
+use crate::records::{self, Record};
 use crate::rng::Rng;
 
 type Make = fn(&mut Rng) -> Call;
@@ -27,22 +28,13 @@ pub fn sources(count: usize, seed: u64) -> Vec<Source<Call>> {
     SORTS.into_iter().zip(101..).map(by_chance).collect()
 }
 
-/// The calls of a list in bytes.
-pub fn read_list(mut list: &[u8]) -> Vec<Call> {
-    let mut found = Vec::new();
-    let number = |list: &[u8], at: usize| {
-        u32::from_be_bytes(list[at..at + 4].try_into().expect("four bytes")) as usize
-    };
-    while !list.is_empty() {
-        let (kept, zeros) = (number(list, 0), number(list, 4));
-        let mut image = list[8..8 + kept].to_vec();
-        image.resize(kept + zeros, 0);
-        let count = number(list, 8 + kept);
-        let (words, rest) = list[12 + kept..].split_at(2 * count);
-        let words: Vec<u16> = words.chunks(2).map(|word| u16::from_be_bytes([word[0], word[1]])).collect();
+/// The calls of a list in bytes, but those with fewer than four words: document 01 alone judges these.
+pub fn read_list(list: &[u8]) -> Vec<Call> {
+    let whole = |record: &Record| record.sort == records::PARAMETERS && record.words.len() >= 4;
+    let calls = records::read(list).into_iter().filter(whole);
+    let call = |Record { image, words, .. }: Record| {
         let own = (words[1] == 1).then_some((words[2], words[3]));
-        found.push(Call { image, scopes: words[0], own, words: words[4..].to_vec() });
-        list = rest;
-    }
-    found
+        Call { image, scopes: words[0], own, words: words[4..].to_vec() }
+    };
+    calls.map(call).collect()
 }

@@ -1,0 +1,103 @@
+"""The stored questions whether a pattern fits, with their answers, for `crates/replay`.
+
+A question is an image and words: the pattern, the type of its place, the local that is the
+place's root, the discriminant local or 65535, and the bindings' locals, 65535 for none.
+"""
+
+import random
+import struct
+from collections import Counter
+
+from chance import random_image, word_damage
+from corners import CORNERS
+from fits import fits
+from images import ABSENT, broken, decode
+from lowering import root_type
+from records import FIT, record
+from typed_chance import typed_image
+
+SEED = 716
+# So many random images of each sort, and of a sort and a kind of pattern at most so many that are answered alike.
+RANDOM, ALIKE = 1200, 5
+
+
+def place_type(m, p):
+    """The lowest type that the pattern's derefs bring to its type, or the pattern's own."""
+    found = root_type(m, p)
+    return m.patterns[p][1] if found is None else found
+
+
+def apart(m):
+    """Root 0, no discriminant local, and the bindings' locals behind it."""
+    return (0, ABSENT, *range(1, len(m.bindings) + 1))
+
+
+def mixed_locals(rng, m):
+    """Locals of which one is missing, or stands twice, or is the root, or all differ."""
+    words = list(apart(m))
+    words[1] = rng.choice((ABSENT, len(m.bindings) + 1))
+    sort = rng.randrange(6)
+    if sort == 0 and m.bindings:
+        words[2 + rng.randrange(len(m.bindings))] = ABSENT
+    elif sort == 1:
+        words[rng.randrange(1, len(words))] = 0
+    elif sort == 2 and len(m.bindings) > 1:
+        words[2] = words[3]
+    return tuple(words)
+
+
+def random_questions(rng):
+    """Sort, image and words of random questions."""
+    for _ in range(RANDOM):
+        for sort, image in (("typed", typed_image(rng).encode()), ("any", random_image(rng).encode())):
+            changed = word_damage(rng, image)
+            if broken(changed):
+                yield "damaged", changed, (0, 0, 0, ABSENT)
+            for kept, sure in ((image, sort), (changed, "changed")):
+                if broken(kept):
+                    continue
+                m = decode(kept)
+                p = len(m.patterns) - 1 if rng.randrange(3) else rng.randrange(len(m.patterns))
+                yield sure, kept, (p, place_type(m, p), *mixed_locals(rng, m))
+
+
+def all_questions():
+    """Name, image and words of each question."""
+    for name, m in CORNERS:
+        if broken(m.encode()):
+            continue
+        p = len(m.patterns) - 1
+        yield f"corner:{name}", m.encode(), (p, place_type(m, p), *apart(m))
+    name, m = CORNERS[0]
+    own = apart(m)
+    for what, words in (("pattern", (len(m.patterns), 0, *own)), ("type", (0, len(m.types), *own)),
+                        ("bindings", (0, 0, *own, 0)), ("words", (0, 0, 0))):
+        yield f"names-nothing:{what}", m.encode(), words
+    alike, rng = Counter(), random.Random(SEED)
+    for sort, image, words in random_questions(rng):
+        kind = (sort, answered(image, words), ABSENT if broken(image) else decode(image).patterns[words[0]][0])
+        if alike[kind] < ALIKE:
+            alike[kind] += 1
+            yield f"{sort}:{sum(alike.values())}", image, words
+
+
+def answered(image, words):
+    """The line that a question is answered with."""
+    if broken(image):
+        return "refused 1 65535 0"
+    m = decode(image)
+    if len(words) != 4 + len(m.bindings) or words[0] >= len(m.patterns) or words[1] >= len(m.types):
+        return "refused 2 65535 0"
+    p, type_, root, discr, *locals_ = words
+    return "fits" if fits(m, p, type_, root, discr, locals_) else "does not fit"
+
+
+def fit_records():
+    """The records, the line printed for each, and fits.txt."""
+    given, printed, listed = [], [], []
+    for number, (name, image, words) in enumerate(all_questions(), 1):
+        answer = answered(image, words)
+        given.append(record(FIT, image) + struct.pack(f">I{len(words)}H", len(words), *words))
+        printed.append(f"{answer}\n")
+        listed.append(f"{number} {name} {answer}\n")
+    return given, printed, "".join(listed)

@@ -1,0 +1,18 @@
+"""A record of the stored lists that `crates/replay` replays.
+
+A byte, the record's sort; four big-endian bytes n, four big-endian bytes z, and n bytes: the
+image is these n bytes and z zero bytes. Behind it stands what the sort has besides.
+"""
+
+IMAGE, LISTING, SCRIPT, PARAMETERS, FIT = range(1, 6)
+# From so many zero bytes at its end on, an image is stored without them.
+LONG_ZEROS = 64
+
+
+def record(sort, image, zeros=0):
+    """One record of an image, and so many zero bytes."""
+    head = image.rstrip(b"\0")
+    if len(image) - len(head) < LONG_ZEROS:
+        head = image
+    zeros += len(image) - len(head)
+    return bytes([sort]) + len(head).to_bytes(4, "big") + zeros.to_bytes(4, "big") + head
