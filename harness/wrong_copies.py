@@ -44,8 +44,11 @@ REFUSED = (
 
 # The same of what the calls on parameters stand on besides.
 REFUSED_OF_PARAMETERS = (
+    "param_lists/ref_x_by_the_parameters_own_local",
+    "param_lists/only_the_first_parameter_looked_at",
+    "param_lists/annotation_2_binds_self_again",
+    "param_lists/a_subpattern_binds_self_again",
     "param_locals/local_missing_from_its_scope",
-    "param_locals/ref_x_by_the_parameters_own_local",
     "param_steps/else_left_open",
     "params_text/bindings_and_entries_exchanged",
     "params_listing/a_scope_where_none_is_asked",

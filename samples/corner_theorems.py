@@ -20,7 +20,7 @@ from corners import CORNERS
 from images import ABSENT, broken, decode
 from judged import CLAUSES, KINDS, MARKED, PROVED
 from lowering import lower, root_type
-from params import PARAM_CORNERS, UNFIT, lower_params
+from params import PARAM_CORNERS, UNFIT, binds_again, lower_params
 from theorems import byte_list
 
 SMALL = 500
@@ -57,16 +57,16 @@ MODULES = [
 ]
 
 PARAM_MODULES = [
-    ("pattern_matching", "Patterns", "matchSelfParam"),
     ("lowered_params", "Params", "paramLocal byValue plainBind plainBinding boundTo declareSelf declareParam declareParams declareBinding declareBindings declare "
-     "shutElse shut unlessBound unlessOwn lowerSelf lowerParam lowerParams selfCount lowerAll lowerParamsAndBindings"),
+     "shutElse shut unlessBound unlessOwn lowerParam lowerParams selfCount lowerAll lowerParamsAndBindings"),
+    ("lowered_params", "Calls", "bindsReceiver noneBindsReceiver receiverApart"),
 ]
 
 FIT_MODULES = [
     ("image", "Lists", "allTrue distinct"),
     ("image", "Integers", "leastValue greatestValue inRange integerValue"),
     ("meaning", "Values", "items partsOf intFits kindNumber fieldTypes valueFits"),
-    ("meaning", "Typing", "behind typeIsThePlaces tupleFields variantsOf argumentsFit discriminantsDiffer integerFits"),
+    ("meaning", "Typing", "referent behind typeIsThePlaces tupleFields variantsOf argumentsFit discriminantsDiffer integerFits"),
     ("meaning", "Fitting", "literalFits pathFits rowFits eachFits typesFit"),
     ("meaning", "Fit", "boundIn bindingsFit"),
     ("meaning", "Fits", "hasVariant pathTaken nothingRefused present localsDiffer fits"),
@@ -286,6 +286,8 @@ def param_rows():
         body = lower_params(m, receiver, params)
         locals_ = row_of(ABSENT if local is None else local for local in body.binding_locals)
         answer = f"accepted {number(body.then)} {locals_} {content(body)} {row_of(body.visits)}"
+        if binds_again(m, receiver, [p for p, _ in params]):
+            answer = f"refusal (record {{ number = 1; pattern = {ABSENT}; reason = 0 }})"
         me = f"SelfParam.Some {number(receiver[0])} {receiver[1]}" if receiver else "SelfParam.None"
         listed = row_of(f"record {{ pattern = {p}; ty = {type_} }}" for p, type_ in params)
         label = name.replace("_", "-") + "-row"

@@ -1,9 +1,10 @@
 """Judges lists of parameters: lowers them as `lower_params_and_bindings` of lower.rs does.
 
-Written from lower.rs and from document 01 alone. `called` judges a call: an image's bytes,
-the receiver and the words of a list. `PARAM_CORNERS` has the corners of document 01 on
-parameters: name, image, receiver, parameters and values of each. A value is a number, or a
-list: "tuple" or the number of a variant, and then its fields.
+Written from lower.rs, from document 01 and from S-13 of document 02 alone. `called` judges a
+call: an image's bytes, the receiver and the words of a list. `PARAM_CORNERS` has the corners
+of document 01 on parameters, and those of S-13: name, image, receiver, parameters and values
+of each. A value is a number, or a list: "tuple" or the number of a variant, and then its
+fields.
 
 `python3 samples/params.py` prints the listing of each corner, with the bindings' locals.
 `python3 samples/params.py -` answers the calls on standard input, one after the other. A call
@@ -30,6 +31,18 @@ from refusals import option, with_u8
 
 UNANNOTATED, MUTABLE, ANNOTATED = range(3)
 MOST_PARAMS = 64
+
+
+def plain_binding(m, p):
+    """The binding of a parameter that is a Bind with no subpattern and annotation 0 or 1."""
+    kind, _, _, binding, item, _, annotation = m.patterns[p]
+    plain = kind == BIND and item == ABSENT and annotation in (UNANNOTATED, MUTABLE)
+    return binding if plain else None
+
+
+def binds_again(m, receiver, patterns):
+    """S-13: some parameter is itself such a Bind of the receiver's binding."""
+    return receiver is not None and any(plain_binding(m, p) == receiver[0] for p in patterns)
 
 
 class Params(Walk):
@@ -59,8 +72,8 @@ class Params(Walk):
             self.body.binding_locals[receiver[0]] = self.param_local(receiver[1])
         for p, type_ in params:
             local = self.param_local(type_)
-            kind, _, _, binding, item, _, annotation = self.m.patterns[p]
-            if kind == BIND and item == ABSENT and annotation in (UNANNOTATED, MUTABLE):
+            binding = plain_binding(self.m, p)
+            if binding is not None:
                 self.body.binding_locals[binding] = local
         for binding, (type_, picked) in enumerate(self.m.bindings):
             if picked == 1 and self.body.binding_locals[binding] is None:
@@ -77,11 +90,7 @@ class Params(Walk):
         self.declare(receiver, params)
         current, locals_ = 0, list(self.body.params)
         if receiver:
-            first = locals_.pop(0)
-            own = self.binding_local(receiver[0], ABSENT)
-            if own != first:
-                self.live(own, current, ABSENT)
-                self.set(current, own, ("copy", (first, ())), ABSENT)
+            locals_.pop(0)
         for local, (p, _) in zip(locals_, params):
             kind, binding = self.m.patterns[p][0], self.m.patterns[p][3]
             if kind == BIND and self.binding_local(binding, p) == local:
@@ -130,16 +139,17 @@ def lower_params(m, receiver, params, before=0, scopes=1, after=None):
     return body
 
 
-def list_holds(m, words):
-    """At most 64 parameters, each of which names a pattern and a type."""
+def list_holds(m, receiver, words):
+    """At most 64 parameters, each of which names a pattern and a type; none binds self again."""
     return (len(words) % 2 == 0 and len(words) // 2 <= MOST_PARAMS
             and all(p < len(m.patterns) for p in words[::2])
-            and all(type_ < len(m.types) for type_ in words[1::2]))
+            and all(type_ < len(m.types) for type_ in words[1::2])
+            and not binds_again(m, receiver, words[::2]))
 
 
 def called(image, scopes, receiver, words, **handed):
     """The image and the body of a call, or its three numbers, for 1 and 2."""
-    if broken(image) or not list_holds(decode(image), words):
+    if broken(image) or not list_holds(decode(image), receiver, words):
         return None, (1, ABSENT, 0)
     m = decode(image)
     if receiver and not (receiver[0] < len(m.bindings) and receiver[1] < len(m.types)):
@@ -239,26 +249,98 @@ def receiver_and_pair():
     return m, (me, u8), [(first, pair), (second, u8)], [9, ["tuple", 2, 3], 4]
 
 
-def bound_twice():
-    """`self` and `x` with one binding: the last one's local wins, and self is copied into it."""
+def receiver_and(*makes):
+    """`self` of a u8, and parameters of its type, each made from image, type and self's binding."""
     m, u8 = with_u8()
     me = m.add_binding(u8)
-    x = m.add_pattern(BIND, u8, me, ABSENT, VALUE, UNANNOTATED)
-    return m, (me, u8), [(x, u8)], [9, 4]
+    params = [(make(m, u8, me), u8) for make in makes]
+    return m, (me, u8), params, [9] + [4] * len(params)
+
+
+def wild(m, u8, _):
+    """`_`"""
+    return m.add_pattern(WILD, u8)
+
+
+def bind(item=None, mode=VALUE, annotation=UNANNOTATED, derefs=0):
+    """A Bind of self's binding, of this shape."""
+    def make(m, u8, me):
+        below = ABSENT if item is None else item(m, u8, me)
+        return m.add_pattern(BIND, u8, me, below, mode, annotation, derefs=derefs)
+    return make
+
+
+def bound_twice():
+    """`self` and `x` with one binding: number 1."""
+    return receiver_and(bind())
+
+
+def bound_first():
+    """`self`, `x` and `_`, self and x with one binding: number 1."""
+    return receiver_and(bind(), wild)
+
+
+def bound_last():
+    """`self`, `_` and `mut x` with one binding: the last parameter is looked at too."""
+    return receiver_and(wild, bind(annotation=MUTABLE))
+
+
+def bound_by_mode():
+    """`self` and an `x` whose mode is by reference: the mode is not asked for."""
+    return receiver_and(bind(mode=BY_REF))
+
+
+def bound_behind():
+    """`self` and an `x` behind a reference: the derefs are not asked for."""
+    m, u8 = with_u8()
+    there = m.add_type(REFERENCE, u8)
+    me = m.add_binding(there)
+    x = m.add_pattern(BIND, u8, me, ABSENT, BY_REF, UNANNOTATED, derefs=1)
+    return m, (me, there), [(x, there)], [9, 4]
+
+
+def bound_annotated():
+    """`self` and `ref x` with one binding: taken, and self's local is filled."""
+    return receiver_and(bind(mode=BY_REF, annotation=ANNOTATED))
+
+
+def bound_at():
+    """`self` and `x @ _` with one binding: taken."""
+    return receiver_and(bind(item=wild))
+
+
+def bound_below():
+    """`self` and `(x, _)` with one binding: taken, for x is no parameter itself."""
+    m, u8 = with_u8()
+    pair, me = m.add_tuple_type(u8, u8), m.add_binding(u8)
+    items = [bind()(m, u8, me), m.add_pattern(WILD, u8)]
+    first = m.add_pattern(TUPLE, pair, m.add_words(*items), 2, ABSENT)
+    return m, (me, u8), [(first, pair)], [9, ["tuple", 2, 3]]
+
+
+def bound_without_self():
+    """`x` and `x` with one binding, and no self: the last one's local wins."""
+    m, _, params, values = receiver_and(bind(), bind())
+    return m, None, params, values[1:]
 
 
 # These bind one binding twice, and do not fit.
-UNFIT = ("bound_twice",)
+UNFIT = ("bound_twice", "bound_first", "bound_last", "bound_by_mode", "bound_behind",
+         "bound_annotated", "bound_at", "bound_below", "bound_without_self")
 
 PARAM_CORNERS = [(make.__name__, *make()) for make in (
     plain, mutable, bound_some, by_reference, refutable, two_enums, receiver_and_pair,
-    bound_twice)]
+    bound_twice, bound_first, bound_last, bound_by_mode, bound_behind, bound_annotated, bound_at,
+    bound_below, bound_without_self)]
 
 
 def corners():
     """Prints each corner."""
     for name, m, receiver, params, _ in PARAM_CORNERS:
         assert not broken(m.encode()), name
+        if binds_again(m, receiver, [p for p, _ in params]):
+            print(name, "refused 1")
+            continue
         body = lower_params(m, receiver, params)
         print(name, "bindings", body.binding_locals, "visits", body.visits)
         print("".join(f"  {line}\n" for line in body_lines(body)), end="")

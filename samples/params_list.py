@@ -35,6 +35,16 @@ def short_calls():
     yield "short:cut", whole[:-1], ()
 
 
+def self_calls():
+    """Self's binding or its type is not in the image: no parameter binds what is not there."""
+    for name, m, receiver, params, _ in PARAM_CORNERS:
+        if name in ("bound_twice", "bound_last"):
+            listed = [word for param in params for word in param]
+            for past, own in (("binding", (len(m.bindings), receiver[1])),
+                              ("type", (receiver[0], len(m.types)))):
+                yield f"corner:{name}:no_{past}", m.encode(), (1, 1, *own, *listed)
+
+
 def fitting_words(rng, m):
     """Patterns with their own types, so that most are accepted."""
     listed = []
@@ -89,7 +99,7 @@ def text(call):
 
 def all_calls():
     """Name, bytes and answer of each call."""
-    for name, image, words in (*corner_calls(), *short_calls()):
+    for name, image, words in (*corner_calls(), *short_calls(), *self_calls()):
         call = call_record(image, words)
         yield name, call, text(call)
     alike = Counter()

@@ -16,12 +16,13 @@ use Rattle.lower_calls.specs.declared.ScopeCall.{ScopeCall}
 use Rattle.lower_calls.specs.declared.DropCall.{DropCall}
 use Rattle.lower_calls.specs.Answers.{tempRefusal, mergeRefusal, scopeRefusal, dropRefusal}
 use Rattle.match_calls.specs.declared.MatchCall.{MatchCall}
-use Rattle.match_calls.specs.Calls.{numbers}
+use Rattle.match_calls.specs.declared.SelfCall.{SelfCall}
+use Rattle.match_calls.specs.Calls.{numbers, selfNumbers}
 use Rattle.lowered_params.specs.declared.ParamsCall.{ParamsCall}
 use Rattle.lowered_params.specs.Calls.{numbers as paramsNumbers}
 use Rattle.called.specs.Call.{Call, Promised}
 use Rattle.called.specs.AsFound.{AsFound, NoneVisited}
-use Rattle.called.specs.Contracts.{PromisedAssignment, ParamsHanded, ParamsLeft, PromisedParams, OnBody, PromisedTemp, PromisedMerge, PromisedPush, PromisedPopAssumeDropped, PromisedPopAndDrop, PromisedDropUntil}
+use Rattle.called.specs.Contracts.{PromisedAssignment, SelfHanded, PromisedSelf, ParamsHanded, ParamsLeft, PromisedParams, OnBody, PromisedTemp, PromisedMerge, PromisedPush, PromisedPopAssumeDropped, PromisedPopAndDrop, PromisedDropUntil}
 use Rattle.called.proofs.Restored as restored
 
 -- A call on a pattern, its answer, what lies in the tables when it returns, and the numbers of a refusal.
@@ -33,6 +34,11 @@ module _ (call : Call) (answer : MatchCall) (body : Body) (visits : List ℕ) (r
   -- `pattern_match_assignment`
   pub a-refused-assignment-leaves-all-as-found : PromisedAssignment call answer body visits → AsFound (call .body) (call .counts) refusal body × NoneVisited (call .visits) refusal visits
   a-refused-assignment-leaves-all-as-found promised = restored.assignment-left call answer body visits refusal promised is-refused
+
+-- `match_self_param`
+pub a-refused-match-self-param-leaves-all-as-found : (call : SelfHanded) (answer : SelfCall) (body : Body) (refusal : Refusal) → PromisedSelf call answer body → selfNumbers answer ≡ some refusal →
+    AsFound (call .body) (call .counts) refusal body
+a-refused-match-self-param-leaves-all-as-found = restored.self-left
 
 -- `lower_params_and_bindings`, "and the bindings' locals .. as handed in"
 module _ (call : ParamsHanded) (answer : ParamsCall) (left : ParamsLeft) (refusal : Refusal) (is-refused : paramsNumbers answer ≡ some refusal) where

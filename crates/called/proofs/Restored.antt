@@ -3,7 +3,7 @@ use Prim.Native.Nat.{ℕ, _≤_, _<_}
 use mathlib.Core.Path.{_≡_, refl, sym, ap, subst, _∙_}
 use mathlib.Core.Bool.{Bool, true, false, cond, _&&_}
 use mathlib.Core.Option.{Option, none, some}
-use mathlib.Core.List.{List}
+use mathlib.Core.List.{List, []}
 use native.Mathlib.Omega.{arith}
 use Rattle.row_tables.specs.Rows.{zeros}
 use Rattle.refusals.specs.declared.MirLowerError.{MirLowerError}
@@ -27,7 +27,8 @@ use Rattle.lower_calls.specs.Answers.{Gives, tempRefusal, mergeRefusal, scopeRe
 use Rattle.lower_calls.proofs.Clearing.{clears}
 use Rattle.pattern_matching.specs.Walking.{Out, Walk, ok, refused}
 use Rattle.match_calls.specs.declared.MatchCall.{MatchCall}
-use Rattle.match_calls.specs.Calls.{Called, badImage, badCall, walked, numbers, refusalOf, bodyAfter, visitsAfter, patternMatchCall, patternMatchAssignmentCall}
+use Rattle.match_calls.specs.declared.SelfCall.{SelfCall}
+use Rattle.match_calls.specs.Calls.{badImage, badCall, walked, numbers, selfNumbers, refusalOf, bodyAfter, visitsAfter, patternMatchCall, patternMatchAssignmentCall, matchSelfParamCall}
 use Rattle.match_calls.specs.Calls.{call as calling}
 use Rattle.lowered_params.specs.declared.ParamsCall.{ParamsCall}
 use Rattle.lowered_params.specs.Params.{ParamsOut}
@@ -35,7 +36,7 @@ use Rattle.lowered_params.specs.Calls.{listHolds, paramsCall}
 use Rattle.lowered_params.specs.Calls as params
 use Rattle.called.specs.Call.{Call, Promised}
 use Rattle.called.specs.AsFound.{AsFound, NoneVisited}
-use Rattle.called.specs.Contracts.{PromisedAssignment, ParamsHanded, ParamsLeft, PromisedParams, OnBody, PromisedTemp, PromisedMerge, PromisedPush, PromisedPopAssumeDropped, PromisedPopAndDrop, PromisedDropUntil}
+use Rattle.called.specs.Contracts.{PromisedAssignment, SelfHanded, PromisedSelf, ParamsHanded, ParamsLeft, PromisedParams, OnBody, PromisedTemp, PromisedMerge, PromisedPush, PromisedPopAssumeDropped, PromisedPopAndDrop, PromisedDropUntil}
 
 -- the same refusal
 same-some : {x y : Refusal} → some x ≡ some y → x ≡ y
@@ -170,12 +171,20 @@ assignment-left call answer body visits refusal P is =
     on-pattern (call .image) (call .body) (call .counts) refusal body (valid (call .image)) (bodyTaken (call .image) (call .body) (call .counts)) _ _ refl (call .visits) visits
     (sym (P .gives .refusal) ∙ is) (P .gives .tables) (P .visits)
 
+-- `match_self_param`
+pub self-left : (call : SelfHanded) (answer : SelfCall) (body : Body) (refusal : Refusal) → PromisedSelf call answer body → selfNumbers answer ≡ some refusal →
+    AsFound (call .body) (call .counts) refusal body
+unfolding matchSelfParamCall calling
+self-left call answer body refusal P is =
+    on-pattern (call .image) (call .body) (call .counts) refusal body (valid (call .image)) (bodyTaken (call .image) (call .body) (call .counts)) _ _ refl [] _
+    (sym (P .refusal) ∙ is) (P .tables) refl .0
+
 -- `lower_params_and_bindings`
 pub params-left : (call : ParamsHanded) (answer : ParamsCall) (left : ParamsLeft) (refusal : Refusal) → PromisedParams call answer left → params.numbers answer ≡ some refusal →
     AsFound (call .body) (call .counts) refusal (left .body) × NoneVisited (call .visits) refusal (left .visits) × (left .bindings ≡ call .bindings)
 unfolding paramsCall
 params-left call answer left refusal P is =
-    on-params (call .image) (call .body) (call .counts) refusal (left .body) (valid (call .image) && listHolds (call .image) (call .list)) (bodyTaken (call .image) (call .body) (call .counts)) _ _ refl
+    on-params (call .image) (call .body) (call .counts) refusal (left .body) (valid (call .image) && listHolds (call .image) (call .self) (call .list)) (bodyTaken (call .image) (call .body) (call .counts)) _ _ refl
     (call .bindings) (left .bindings) (call .visits) (left .visits) (sym (P .refusal) ∙ is) (P .tables) (P .visits) (P .locals)
 
 -- the calls on a body

@@ -1,6 +1,7 @@
 -- The other public calls, and what their contracts promise. Assumes nothing: these are definitions.
 use Prim.Native.Nat.{ℕ}
 use mathlib.Core.List.{List}
+use Rattle.place.specs.declared.LocalId.{LocalId}
 use Rattle.mir.specs.declared.BasicBlockId.{BasicBlockId}
 use Rattle.mir.specs.declared.Counts.{Counts}
 use Rattle.state.specs.State.{Body, decode}
@@ -13,7 +14,8 @@ use Rattle.lower_calls.specs.declared.DropCall.{DropCall}
 use Rattle.lower_calls.specs.Calls.{tempCall, mergeBlocksCall, pushDropScopeCall, popAssumeDroppedCall, popAndDropCall, dropUntilScopeCall}
 use Rattle.lower_calls.specs.Answers.{Gives, tempAnswer, mergeAnswer, scopeAnswer, dropAnswer, tempRefusal, mergeRefusal, scopeRefusal, dropRefusal}
 use Rattle.match_calls.specs.declared.MatchCall.{MatchCall}
-use Rattle.match_calls.specs.Calls.{patternMatchAssignmentCall, Visits}
+use Rattle.match_calls.specs.declared.SelfCall.{SelfCall}
+use Rattle.match_calls.specs.Calls.{patternMatchAssignmentCall, matchSelfParamCall, Visits, GivesSelf}
 use Rattle.lowered_params.specs.declared.SelfParam.{SelfParam}
 use Rattle.lowered_params.specs.declared.ParamsCall.{ParamsCall}
 use Rattle.lowered_params.specs.Calls.{paramsCall, GivesParams}
@@ -26,6 +28,22 @@ PromisedAssignment call answer body visits =
     Visits (call .body) (call .visits) (call .counts)
     (patternMatchAssignmentCall (call .image) (call .bindings) (call .body) (call .visits) (call .counts) (call .discr) (call .pattern) (call .start) (call .place))
     answer body visits
+
+-- what `match_self_param` is handed: the image, the bindings' locals, the words of the five tables, the counts, self's binding, the block to start from, and the local that
+-- is copied
+pub record SelfHanded : Type 0 where
+  pub image : List ℕ
+  pub bindings : List ℕ
+  pub body : Body
+  pub counts : Counts
+  pub binding : ℕ
+  pub start : BasicBlockId
+  pub local : LocalId
+
+-- its contract, of a call, its answer, and the tables' words when it returns
+abbrev pub PromisedSelf : SelfHanded → SelfCall → Body → Type 0
+PromisedSelf call answer body =
+    GivesSelf (call .body) (call .counts) (matchSelfParamCall (call .image) (call .bindings) (call .body) (call .counts) (call .binding) (call .start) (call .local)) answer body
 
 -- what `lower_params_and_bindings` is handed: the image, the list of the parameters, self or none, the bindings' locals, the words of the five tables and of the visits',
 -- the counts, the local that tests of enums share if there is one, and the block to start from

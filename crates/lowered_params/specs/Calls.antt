@@ -1,7 +1,7 @@
 -- The public call on parameters: every image, list, body and number is taken, or refused by document 01's number. Assumes nothing: these are definitions.
 use Prim.Native.Nat.{ℕ, zero, suc, _+_, _*_, _/_}
 use mathlib.Core.Path.{_≡_}
-use mathlib.Core.Bool.{Bool, true, cond, _&&_}
+use mathlib.Core.Bool.{Bool, true, false, cond, not, _&&_}
 use mathlib.Core.Option.{Option, none, some}
 use mathlib.Core.List.{List, [], _∷_, map}
 use lib.Dec.{eqb, ltb, leb}
@@ -10,6 +10,7 @@ use Rattle.row_tables.specs.Rows.{zeros}
 use Rattle.refusals.specs.Refusals.{Refusal, breaksARule, namesNothing, refusalAt}
 use Rattle.image.specs.Lists.{allTrue}
 use Rattle.image.specs.Tables.{typeCount, patternCount, bindingCount}
+use Rattle.image.specs.Tree.{tree}
 use Rattle.image.specs.Valid.{valid}
 use Rattle.mir.specs.declared.BasicBlockId.{BasicBlockId}
 use Rattle.mir.specs.declared.Counts.{Counts}
@@ -22,7 +23,7 @@ use Rattle.walks.specs.Answers.{ctxOf, visitWord}
 use Rattle.handed.specs.Handed.{bindingsHold, discrHolds, startHolds}
 use Rattle.lowered_params.specs.declared.SelfParam.{SelfParam}
 use Rattle.lowered_params.specs.declared.ParamsCall.{ParamsCall}
-use Rattle.lowered_params.specs.Params.{Param, ParamsOut, lowerParamsAndBindings}
+use Rattle.lowered_params.specs.Params.{Param, ParamsOut, plainBinding, lowerParamsAndBindings}
 
 -- so many parameters of a list, from the word k on: two words for each, its pattern and its type
 unfoldable pub paramsFrom : List ℕ → ℕ → ℕ → List Param
@@ -43,8 +44,27 @@ paramsNamed image [] = true
 paramsNamed image (q ∷ qs) = ltb (q .pattern) (patternCount image) && ltb (q .ty) (typeCount image) && paramsNamed image qs
 
 -- "At most 64 parameters", of two words each, each of which names a pattern and a type
-unfoldable pub listHolds : List ℕ → List ℕ → Bool
-listHolds image words = leb (paramCount words) 64 && eqb (2 * paramCount words) (length words) && paramsNamed image (paramsOf words)
+unfoldable pub listFormed : List ℕ → List ℕ → Bool
+listFormed image words = leb (paramCount words) 64 && eqb (2 * paramCount words) (length words) && paramsNamed image (paramsOf words)
+
+-- document 02: a parameter "is itself a Bind of that same binding, with no subpattern and annotation 0 or 1"; none is no such Bind
+unfoldable pub bindsReceiver : ℕ → Option ℕ → Bool
+bindsReceiver b none = false
+bindsReceiver b (some x) = eqb x b
+
+-- no parameter is; only the parameters' own patterns are looked at, not those below
+unfoldable pub noneBindsReceiver : List ℕ → ℕ → List Param → Bool
+noneBindsReceiver image b [] = true
+noneBindsReceiver image b (q ∷ qs) = not (bindsReceiver b (plainBinding (tree image (q .pattern)))) && noneBindsReceiver image b qs
+
+-- the same of self's binding; without self nothing is looked at
+unfoldable pub receiverApart : List ℕ → SelfParam → List Param → Bool
+receiverApart image SelfParam.None params = true
+receiverApart image (SelfParam.Some b ty) params = noneBindsReceiver image (b .0) params
+
+-- a list that is taken: "A call in which one is so is now number 1"
+unfoldable pub listHolds : List ℕ → SelfParam → List ℕ → Bool
+listHolds image self words = listFormed image words && receiverApart image self (paramsOf words)
 
 -- self names a binding and a type
 unfoldable pub selfNamed : List ℕ → SelfParam → Bool
@@ -65,7 +85,7 @@ pub data ParamsCalled : Type 0 where
 -- `lower_params_and_bindings`: "1 is tried before 2, both before the walk"
 unfoldable pub paramsCall : List ℕ → List ℕ → SelfParam → List ℕ → Body → List ℕ → Counts → DiscrTemp → BasicBlockId → ParamsCalled
 paramsCall image words self bindings b visits c discr current =
-    cond (valid image && listHolds image words)
+    cond (valid image && listHolds image self words)
     (cond (bodyTaken image b c && paramsHold image self bindings (b .blocks) visits c discr current)
     (walked (lowerParamsAndBindings image self (paramsOf words) bindings (ctxOf b c discr (zeros 512)) current)) badCall) badImage
 

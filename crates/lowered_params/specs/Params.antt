@@ -19,7 +19,7 @@ use Rattle.lower.specs.declared.merging.OptBlock.{OptBlock}
 use Rattle.lower.specs.Temps.{bindingLocal}
 use Rattle.pattern_matching.specs.Walking.{Ctx, Out, Walk, next, step, out, withState, localPlace}
 use Rattle.pattern_matching.specs.Walking.{ok as gives}
-use Rattle.pattern_matching.specs.Patterns.{patternMatch, matchSelfParam}
+use Rattle.pattern_matching.specs.Patterns.{patternMatch}
 use Rattle.lowered_params.specs.declared.SelfParam.{SelfParam}
 
 -- a parameter: the numbers of its pattern and of its type
@@ -141,12 +141,6 @@ unlessOwn bindings (Pat.Expr h) l bound other = other
 unlessOwn bindings (Pat.Box h) l bound other = other
 unlessOwn bindings (Pat.Deref h) l bound other = other
 
--- self, whose local is l, from the block `current` on
-unfoldable pub lowerSelf : List ℕ → List ℕ → SelfParam → ℕ → Ctx → BasicBlockId → Walk Out
-lowerSelf image bindings SelfParam.None l ctx current = out ctx current OptBlock.None
-lowerSelf image bindings (SelfParam.Some b ty) l ctx current =
-    unlessBound bindings noPattern (b .0) l (out ctx current OptBlock.None) (shut (matchSelfParam image bindings (b .0) ctx current (record { 0 = l })))
-
 -- a parameter, whose local is l
 unfoldable pub lowerParam : List ℕ → List ℕ → ℕ → ℕ → Ctx → BasicBlockId → Walk Out
 lowerParam image bindings p l ctx current =
@@ -170,12 +164,10 @@ pub record ParamsOut : Type 0 where
   pub then : BasicBlockId
   pub bindings : List ℕ
 
--- self and the parameters, whose locals are made; self's, or else the first parameter's, is l
+-- the parameters, when all locals are made: self's, or else the first parameter's, is l. Self's binding has self's own local, so nothing is left to do for self.
 unfoldable pub lowerAll : List ℕ → List ℕ → SelfParam → List Param → ℕ → Ctx → BasicBlockId → Walk ParamsOut
 lowerAll image bindings self params l ctx current =
-    next (lowerSelf image bindings self l ctx current) (λ r.
-    next (lowerParams image bindings params (l + selfCount self) (r .ctx) (r .then)) (λ r₁.
-    gives (record { ctx = r₁ .ctx; then = r₁ .then; bindings = bindings })))
+    next (lowerParams image bindings params (l + selfCount self) ctx current) (λ r. gives (record { ctx = r .ctx; then = r .then; bindings = bindings }))
 
 -- `lower_params_and_bindings`, from the block `current` on
 unfoldable pub lowerParamsAndBindings : List ℕ → SelfParam → List Param → List ℕ → Ctx → BasicBlockId → Walk ParamsOut

@@ -19,15 +19,28 @@ use Rattle.walks.specs.declared.Lowered.{Lowered}
 use Rattle.walks.specs.Answers.{Lent, lent, bodyOf, Lowers, Walks}
 use Rattle.walks.proofs.Sequences.{lowers-walks}
 use Rattle.match_calls.specs.declared.MatchCall.{MatchCall}
-use Rattle.match_calls.specs.Calls.{Called, walked, startCtx, Gives, Visits}
+use Rattle.match_calls.specs.declared.SelfCall.{SelfCall}
+use Rattle.match_calls.specs.Calls.{Called, walked, startCtx, numbers, Gives, Visits, withoutDiscr, selfNumbers, GivesSelf}
 use Rattle.match_calls.proofs.Starting.{no-visits, row-found}
 
 -- the same by another name
 pub visits-by : {b b′ : Body} {v v′ : List ℕ} {c : Counts} {given defined : Called} {r : MatchCall} → given ≡ defined → Visits b v c given r b′ v′ → Visits b v c defined r b′ v′
 visits-by {b = b} {b′ = b′} {v = v} {v′ = v′} {c = c} {r = r} e G = subst (λ x. Visits b v c x r b′ v′) e G
 
-pub gives-by : {b b′ : Body} {c : Counts} {given defined : Called} {r : MatchCall} → given ≡ defined → Gives b c given r b′ → Gives b c defined r b′
-gives-by {b = b} {b′ = b′} {c = c} {r = r} e G = subst (λ x. Gives b c x r b′) e G
+pub self-gives-by : {b b′ : Body} {c : Counts} {given defined : Called} {r : SelfCall} → given ≡ defined → GivesSelf b c given r b′ → GivesSelf b c defined r b′
+self-gives-by {b = b} {b′ = b′} {c = c} {r = r} e G = subst (λ x. GivesSelf b c x r b′) e G
+
+-- the numbers do not hang on the discriminant local
+same-numbers : (r : MatchCall) → selfNumbers (withoutDiscr r) ≡ numbers r
+same-numbers (MatchCall.Matched c discr then els) = refl
+same-numbers (MatchCall.Refused e p) = refl
+same-numbers MatchCall.BadCall = refl
+same-numbers MatchCall.BadImage = refl
+
+-- an answer without the discriminant local
+pub self-gives : {b b′ : Body} {c : Counts} {defined : Called} (r : MatchCall) → Gives b c defined r b′ → GivesSelf b c defined (withoutDiscr r) b′
+self-gives r G =
+    record { reply = ap withoutDiscr (G .reply); refusal = same-numbers r ∙ G .refusal; tables = G .tables; reads = G .reads; ready = G .ready }
 
 -- A call that gives `defined`. The tables b and v were found; t₀, scopes and v₁ are those after zeros were written above the counts c, and in the visits'.
 module _ (defined : Ctx → Walk Out) {b : Body} {v v₁ : List ℕ} {c : Counts} {discr : DiscrTemp} {current : BasicBlockId} {els : OptBlock} {t₀ : Lent} {scopes : List ℕ} where
@@ -84,13 +97,14 @@ module _ (defined : Ctx → Walk Out) {b : Body} {v v₁ : List ℕ} {c : Counts
 module _ (defined : Ctx → Walk Out) {b : Body} {c : Counts} {discr : DiscrTemp} {current : BasicBlockId} {els : OptBlock} {bl s l scopes e : List ℕ} where
   pub filled : {c′ : Counts} {d : DiscrTemp} {then : BasicBlockId} {els′ : OptBlock} {s₂ e₂ : List ℕ} → Cleared b c (body bl s l scopes e) →
       Lowers defined c discr current els (lent bl s l e) (Lowered.Done c′ d then els′) (lent bl s₂ l e₂) →
-      Gives b c (walked (defined (startCtx b c discr))) (MatchCall.Matched c′ d then els′) (body bl s₂ l scopes e₂)
-  filled C L = accepted defined {v = []} C refl (lowers-walks (zeros 512) L) .gives
+      GivesSelf b c (walked (defined (startCtx b c discr))) (SelfCall.Matched c′ then els′) (body bl s₂ l scopes e₂)
+  filled {c′ = c′} {d = d} {then = then} {els′ = els′} C L =
+      self-gives (MatchCall.Matched c′ d then els′) (accepted defined {v = []} C refl (lowers-walks (zeros 512) L) .gives)
 
   pub not-filled : {err : MirLowerError} {q : PatId} {s₂ e₂ : List ℕ} {b₃ : Body} → Cleared b c (body bl s l scopes e) →
       Lowers defined c discr current els (lent bl s l e) (Lowered.Refused err q) (lent bl s₂ l e₂) → b₃ ≡ encode (decode (body bl s₂ l scopes e₂) c) →
-      Gives b c (walked (defined (startCtx b c discr))) (MatchCall.Refused err q) b₃
-  not-filled {s₂ = s₂} {e₂ = e₂} C L is =
+      GivesSelf b c (walked (defined (startCtx b c discr))) (SelfCall.Refused err q) b₃
+  not-filled {err = err} {q = q} {s₂ = s₂} {e₂ = e₂} C L is =
       let kept = L .answers scopes (zeros 512) (C .ready) .kept in
       let same = kept-below c (current .0) (body bl s l scopes e) (body bl s₂ l scopes e₂) bl kept refl in
-      stopped defined {v = []} (body bl s₂ l scopes e₂) C refl (lowers-walks (zeros 512) L) same is refl .gives
+      self-gives (MatchCall.Refused err q) (stopped defined {v = []} (body bl s₂ l scopes e₂) C refl (lowers-walks (zeros 512) L) same is refl .gives)

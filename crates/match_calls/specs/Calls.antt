@@ -22,6 +22,7 @@ use Rattle.pattern_matching.specs.Walking.{Ctx, Out, Walk, ok, refused}
 use Rattle.pattern_matching.specs.Patterns.{patternMatch, patternMatchAssignment, matchSelfParam}
 use Rattle.walks.specs.Answers.{ctxOf, visitWord}
 use Rattle.match_calls.specs.declared.MatchCall.{MatchCall}
+use Rattle.match_calls.specs.declared.SelfCall.{SelfCall}
 use Rattle.handed.specs.Handed.{Named, matchHolds, selfHolds}
 
 -- what a call gives: the image breaks a rule, the body or a number of the call names nothing, or what the walk gives
@@ -139,3 +140,25 @@ pub record Gives (b : Body) (c : Counts) (defined : Called) (r : MatchCall) (b�
 pub record Visits (b : Body) (v : List ℕ) (c : Counts) (defined : Called) (r : MatchCall) (b′ : Body) (v′ : List ℕ) : Type 0 where
   pub gives : Gives b c defined r b′
   pub visits : v′ ≡ visitsAfter v defined
+
+-- the answer of `match_self_param`: the same without the discriminant local, which it was not handed
+abbrev pub withoutDiscr : MatchCall → SelfCall
+withoutDiscr (MatchCall.Matched c discr then els) = SelfCall.Matched c then els
+withoutDiscr (MatchCall.Refused e p) = SelfCall.Refused e p
+withoutDiscr MatchCall.BadCall = SelfCall.BadCall
+withoutDiscr MatchCall.BadImage = SelfCall.BadImage
+
+-- its three numbers
+abbrev pub selfNumbers : SelfCall → Option Refusal
+selfNumbers (SelfCall.Matched c then els) = none
+selfNumbers (SelfCall.Refused e p) = some (refusalAt e (p .0))
+selfNumbers SelfCall.BadCall = some namesNothing
+selfNumbers SelfCall.BadImage = some breaksARule
+
+-- its promise
+pub record GivesSelf (b : Body) (c : Counts) (defined : Called) (r : SelfCall) (b′ : Body) : Type 0 where
+  pub reply : r ≡ withoutDiscr (answer defined)
+  pub refusal : selfNumbers r ≡ refusalOf defined
+  pub tables : b′ ≡ bodyAfter b c defined
+  pub reads : Reads defined b′
+  pub ready : ReadyAfter defined b′

@@ -14,3 +14,13 @@ pub enum MatchCall {
     BadCall,
     BadImage,
 }
+
+// What `match_self_param` answers: it tests no enum, so it is handed no discriminant local and hands out none.
+pub enum SelfCall {
+    // The counts, the block where it goes on, and the one where a mismatch would.
+    Matched(Counts, BasicBlockId, OptBlock),
+    // Why it was refused; the pattern is 65535.
+    Refused(MirLowerError, PatId),
+    BadCall,
+    BadImage,
+}

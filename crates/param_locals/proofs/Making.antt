@@ -21,9 +21,9 @@ use Rattle.state.proofs.Answering.{local-count, then, stops, done}
 use Rattle.walks.proofs.Following.{answers-by}
 use Rattle.lowered_params.specs.declared.SelfParam.{SelfParam}
 use Rattle.lowered_params.specs.Params.{Param, Declared, paramLocal, plainBinding, boundTo, declareSelf, declareParam, declareParams, declareBindings, declare}
-use Rattle.lowered_params.specs.Calls.{paramsFrom, paramCount, paramsOf, listHolds, selfNamed}
+use Rattle.lowered_params.specs.Calls.{paramsFrom, paramCount, paramsOf, listFormed, selfNamed}
 use Rattle.param_locals.specs.Declaring.{Declarable, SelfBound, declaredOf, Enters, Declares, DeclaresAlone}
-use Rattle.param_locals.proofs.Listing.{paramAt, params-none, params-more, Listed, list-taken, listed-behind}
+use Rattle.param_lists.proofs.Listing.{paramAt, params-none, params-more, Listed, list-taken, listed-behind}
 
 -- nothing is done
 pub declares-nothing : {c : Counts} {m l e : List ℕ} → Declares ok c m l e (Stepped.Now c) m l e
@@ -111,7 +111,7 @@ pub record ParamsGoing (image : List ℕ) (tables : Tables) (words : List ℕ) (
       Declares (declareParams image (paramsOf words)) c₀ m₀ l₀ e₀ r m′ l′ e′
 
 -- it holds at the start
-pub params-begin : {image : List ℕ} {tables : Tables} {words : List ℕ} {c : Counts} {m l e : List ℕ} → Declarable image tables m l e → listHolds image words ≡ true →
+pub params-begin : {image : List ℕ} {tables : Tables} {words : List ℕ} {c : Counts} {m l e : List ℕ} → Declarable image tables m l e → listFormed image words ≡ true →
     ParamsGoing image tables words c m l e c m l e 0 (paramCount words)
 params-begin {image = image} {words = words} A h = record { declarable = A; listed = list-taken image words h; rest = λ D. D }
 

@@ -44,11 +44,11 @@ module _ (image words : List ℕ) (self : SelfParam) (bindings : List ℕ) (b : 
 
   module _ (tables : Tables) (read : Read.Image tables ≡ readOf image) where
     -- the list breaks a rule
-    pub no-list : {r : Bool} → r ≡ listHolds image words → r ≡ false → Opened.BadImage ≡ opened
+    pub no-list : {r : Bool} → r ≡ listHolds image self words → r ≡ false → Opened.BadImage ≡ opened
     unfolding openedParams
     no-list is f = rw (read-valid image tables read .0, sym is ∙ f)
 
-    module _ (list : listHolds image words ≡ true) {r : Bool}
+    module _ (list : listHolds image self words ≡ true) {r : Bool}
         (is : r ≡ bodyHolds (tables .types .count) (tables .variants .count) (b .blocks) (b .statements) (b .locals) (b .scopes) (b .entries) c) where
       -- the body names something that is not there
       pub no-body : r ≡ false → Opened.BadCall ≡ opened
@@ -68,9 +68,9 @@ module _ (image words : List ℕ) (self : SelfParam) (bindings : List ℕ) (b : 
 
 module _ (image words : List ℕ) (self : SelfParam) (bindings : List ℕ) (b : Body) (visits : List ℕ) (c : Counts) (discr : DiscrTemp) (current : BasicBlockId) where
   -- an image or a list that is refused
-  pub not-image : Opened.BadImage ≡ openedParams image words self bindings b visits c discr current → valid image && listHolds image words ≡ false
+  pub not-image : Opened.BadImage ≡ openedParams image words self bindings b visits c discr current → valid image && listHolds image self words ≡ false
   unfolding openedParams
-  not-image e = go (valid image && listHolds image words) (bodyTaken image b c && paramsHold image self bindings (b .blocks) visits c discr current) e
+  not-image e = go (valid image && listHolds image self words) (bodyTaken image b c && paramsHold image self bindings (b .blocks) visits c discr current) e
     where
       go : (v t : Bool) → Opened.BadImage ≡ cond v (cond t (Opened.Image (tablesOf image)) Opened.BadCall) Opened.BadImage → v ≡ false
       go true true q = absurd (let z : _≡_ {A = ℕ} 0 1 = cc in omega arith)
@@ -79,9 +79,9 @@ module _ (image words : List ℕ) (self : SelfParam) (bindings : List ℕ) (b : 
 
   -- a body or a value that is refused
   pub not-call : Opened.BadCall ≡ openedParams image words self bindings b visits c discr current →
-      (valid image && listHolds image words ≡ true) × (bodyTaken image b c && paramsHold image self bindings (b .blocks) visits c discr current ≡ false)
+      (valid image && listHolds image self words ≡ true) × (bodyTaken image b c && paramsHold image self bindings (b .blocks) visits c discr current ≡ false)
   unfolding openedParams
-  not-call e = go (valid image && listHolds image words) (bodyTaken image b c && paramsHold image self bindings (b .blocks) visits c discr current) e
+  not-call e = go (valid image && listHolds image self words) (bodyTaken image b c && paramsHold image self bindings (b .blocks) visits c discr current) e
     where
       go : (v t : Bool) → Opened.BadCall ≡ cond v (cond t (Opened.Image (tablesOf image)) Opened.BadCall) Opened.BadImage → (v ≡ true) × (t ≡ false)
       go true true q = absurd (let z : _≡_ {A = ℕ} 0 1 = cc in omega arith)
@@ -92,17 +92,17 @@ module _ (image words : List ℕ) (self : SelfParam) (bindings : List ℕ) (b : 
   pub params-taken : {tables : Tables} → Opened.Image tables ≡ openedParams image words self bindings b visits c discr current →
       ParamsTaken image tables words self bindings b visits c discr current
   unfolding openedParams
-  params-taken {tables = tables} e = go (valid image && listHolds image words) (bodyTaken image b c && paramsHold image self bindings (b .blocks) visits c discr current) refl refl e
+  params-taken {tables = tables} e = go (valid image && listHolds image self words) (bodyTaken image b c && paramsHold image self bindings (b .blocks) visits c discr current) refl refl e
     where
-      go : (v t : Bool) → valid image && listHolds image words ≡ v → bodyTaken image b c && paramsHold image self bindings (b .blocks) visits c discr current ≡ t →
+      go : (v t : Bool) → valid image && listHolds image self words ≡ v → bodyTaken image b c && paramsHold image self bindings (b .blocks) visits c discr current ≡ t →
           Opened.Image tables ≡ cond v (cond t (Opened.Image (tablesOf image)) Opened.BadCall) Opened.BadImage → ParamsTaken image tables words self bindings b visits c discr current
       go true true f h q =
           let same : tables ≡ tablesOf image = cc in
-          let v = and-left (valid image) (listHolds image words) f in
+          let v = and-left (valid image) (listHolds image self words) f in
           let held = paramsHold image self bindings (b .blocks) visits c discr current in
           record {
             both = record { valid-image = v; whole = rw same (whole-of image v); body = and-left (bodyTaken image b c) held h };
-            list = and-right (valid image) (listHolds image words) f;
+            list = and-right (valid image) (listHolds image self words) f;
             call = and-right (bodyTaken image b c) held h;
           }
       go true false f h q = absurd (let z : _≡_ {A = ℕ} 0 1 = cc in omega arith)

@@ -25,7 +25,7 @@ use Rattle.state.proofs.Calls.{local-number, new-local-answers}
 use Rattle.walks.proofs.Following.{answers-by}
 use Rattle.lowered_params.specs.Params.{Declared, declareBinding, declareBindings}
 use Rattle.param_locals.specs.Declaring.{declaredOf, Declares, DeclaresAlone}
-use Rattle.param_locals.proofs.Listing.{word-within}
+use Rattle.param_lists.proofs.Listing.{word-within}
 use Rattle.param_locals.proofs.Making.{declares-nothing, declares-by, declares-stops, declares-then}
 
 -- a local of the type ty for the binding b

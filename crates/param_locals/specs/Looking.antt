@@ -3,9 +3,7 @@ use Prim.Native.Nat.{ℕ}
 use mathlib.Core.Path.{_≡_}
 use mathlib.Core.Bool.{Bool, true, cond, _&&_}
 use mathlib.Core.List.{List}
-use lib.Dec.{eqb, ltb}
 use Rattle.image.specs.declared.Tables.{Tables}
-use Rattle.image.specs.declared.rows.PatRow.{PatRow}
 use Rattle.image.specs.Tables.{tablesOf}
 use Rattle.image.specs.Valid.{valid}
 use Rattle.mir.specs.declared.BasicBlockId.{BasicBlockId}
@@ -21,15 +19,11 @@ use Rattle.lowered_params.specs.Calls.{listHolds, paramsHold}
 -- the tables' places, where image, list, body and the call's own values are taken
 unfoldable pub openedParams : List ℕ → List ℕ → SelfParam → List ℕ → Body → List ℕ → Counts → DiscrTemp → BasicBlockId → Opened
 openedParams image words self bindings b visits c discr current =
-    cond (valid image && listHolds image words)
+    cond (valid image && listHolds image self words)
     (cond (bodyTaken image b c && paramsHold image self bindings (b .blocks) visits c discr current) (Opened.Image (tablesOf image)) Opened.BadCall) Opened.BadImage
-
--- the row of a plain parameter `x`: a Bind (kind 11) with no subpattern, and with annotation 0 or 1
-unfoldable pub isPlain : PatRow → Bool
-isPlain row = eqb (row .kind) 11 && eqb (row .b) 65535 && ltb (row .d) 2
 
 -- image, list, body and the call's own values are taken
 pub record ParamsTaken (image : List ℕ) (tables : Tables) (words : List ℕ) (self : SelfParam) (bindings : List ℕ) (b : Body) (visits : List ℕ) (c : Counts) (discr : DiscrTemp) (current : BasicBlockId) : Type 0 where
   pub both : Taken image tables b c
-  pub list : listHolds image words ≡ true
+  pub list : listHolds image self words ≡ true
   pub call : paramsHold image self bindings (b .blocks) visits c discr current ≡ true

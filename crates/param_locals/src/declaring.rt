@@ -2,7 +2,6 @@
 use image::BindingId;
 use image::PatId;
 use image::Tables;
-use image::rows::PatRow;
 use image::rows::binding_at;
 use image::rows::pat_at;
 use lowered_params::SelfParam;
@@ -11,6 +10,7 @@ use mir::locals::NewLocal;
 use mir::locals::new_local;
 use mir::scopes::Counted;
 use mir::scopes::push_entry;
+use param_lists::is_plain;
 use refusals::MirLowerError;
 use state::Stepped;
 ghost use mathlib.Core.Path.{_≡_};
@@ -21,8 +21,7 @@ ghost use Rattle.image.specs.Tables.{Whole, patternCount, bindingCount};
 ghost use Rattle.image.specs.Tree.{tree};
 ghost use Rattle.image.specs.Valid.{valid};
 ghost use Rattle.lowered_params.specs.Params.{paramLocal, plainBinding, boundTo, declareSelf, declareParam, declareParams, declareBinding, declareBindings, declare};
-ghost use Rattle.lowered_params.specs.Calls.{paramsOf, listHolds, selfNamed};
-ghost use Rattle.param_locals.specs.Looking.{isPlain};
+ghost use Rattle.lowered_params.specs.Calls.{paramsOf, listFormed, selfNamed};
 ghost use Rattle.param_locals.specs.Declaring.{Declarable, SelfBound, Enters, Declares, DeclaresAlone};
 
 // A parameter's local: the next one, of the type that the word says, as the last entry of the last scope.
@@ -42,19 +41,6 @@ fn param_local(locals: &mut [u16], entries: &mut [u16], counts: Counts, ty: u16)
             }
         }
     }
-}
-
-// The row is that of a plain parameter: a Bind by value with no subpattern.
-fn is_plain(row: PatRow) -> bool
-    ensures { λ r. ⌜ r ≡ isPlain row ⌝ }
-{
-    if row.kind != 11 {
-        return false;
-    }
-    if row.b != 65535 {
-        return false;
-    }
-    row.d < 2
 }
 
 // The binding of a plain parameter has the parameter's own local l.
@@ -124,7 +110,7 @@ fn declare_params(
     counts: Counts,
     words: &[u16],
 ) -> Stepped
-    requires { ⌜ Declarable (now image) tables (now bindings) (now locals) (now entries) × (listHolds (now image) (now words) ≡ true) ⌝ }
+    requires { ⌜ Declarable (now image) tables (now bindings) (now locals) (now entries) × (listFormed (now image) (now words) ≡ true) ⌝ }
     ensures { λ r. ⌜ Declares (declareParams (now (image .entry)) (paramsOf (now (words .entry)))) counts (now (bindings .entry)) (now (locals .entry)) (now (entries .entry)) r (now (bindings .exit)) (now (locals .exit)) (now (entries .exit)) ⌝ }
 {
     let mut c = counts;
@@ -222,7 +208,7 @@ pub fn declare(
     receiver: SelfParam,
     words: &[u16],
 ) -> Stepped
-    requires { ⌜ Declarable (now image) tables (now bindings) (now locals) (now entries) × (selfNamed (now image) receiver ≡ true) × (listHolds (now image) (now words) ≡ true) ⌝ }
+    requires { ⌜ Declarable (now image) tables (now bindings) (now locals) (now entries) × (selfNamed (now image) receiver ≡ true) × (listFormed (now image) (now words) ≡ true) ⌝ }
     ensures { λ r. ⌜ Declares (declare (now (image .entry)) receiver (paramsOf (now (words .entry)))) counts (now (bindings .entry)) (now (locals .entry)) (now (entries .entry)) r (now (bindings .exit)) (now (locals .exit)) (now (entries .exit)) ⌝ }
 {
     match declare_self(bindings, locals, entries, counts, receiver) {

@@ -9,50 +9,16 @@ use lower_calls::opening::Opened;
 use lowered_params::SelfParam;
 use mir::BasicBlockId;
 use mir::Counts;
+use param_lists::list_holds;
 use read_image::Read;
 use read_image::read_image;
 ghost use mathlib.Core.Path.{_≡_};
-ghost use Prim.Native.Nat.{_*_, _≤_};
+ghost use Prim.Native.Nat.{_≤_};
 ghost use lib.ListN.{length};
 ghost use Rattle.image.specs.Tables.{Whole};
 ghost use Rattle.state.specs.State.{body};
-ghost use Rattle.lowered_params.specs.Calls.{paramCount, paramsOf, paramsNamed, listHolds, selfNamed, paramsHold};
+ghost use Rattle.lowered_params.specs.Calls.{selfNamed, paramsHold};
 ghost use Rattle.param_locals.specs.Looking.{openedParams};
-
-// Each parameter of a list names a pattern and a type.
-fn params_named(image: &[u8], tables: Tables, words: &[u16]) -> bool
-    requires { ⌜ Whole (now image) tables × (2 * paramCount (now words) ≡ length (now words)) ⌝ }
-    ensures { λ r. ⌜ r ≡ paramsNamed (now (image .entry)) (paramsOf (now (words .entry))) ⌝ }
-{
-    let mut k = 0;
-    let mut left = words.len() / 2;
-    while left != 0 {
-        if tables.patterns.count <= words[k] {
-            return false;
-        }
-        if tables.types.count <= words[k + 1] {
-            return false;
-        }
-        k += 2;
-        left -= 1;
-    }
-    true
-}
-
-// A list of parameters.
-fn list_holds(image: &[u8], tables: Tables, words: &[u16]) -> bool
-    requires { ⌜ Whole (now image) tables ⌝ }
-    ensures { λ r. ⌜ r ≡ listHolds (now (image .entry)) (now (words .entry)) ⌝ }
-{
-    let count = words.len() / 2;
-    if 64 < count {
-        return false;
-    }
-    if 2 * count != words.len() {
-        return false;
-    }
-    params_named(image, tables, words)
-}
 
 // Self names a binding and a type.
 fn self_named(image: &[u8], tables: Tables, receiver: SelfParam) -> bool
@@ -121,7 +87,7 @@ pub fn open_params(
     match read_image(image) {
         Read::Refused => Opened::BadImage,
         Read::Image(tables) => {
-            if !list_holds(image, tables, words) {
+            if !list_holds(image, tables, receiver, words) {
                 return Opened::BadImage;
             }
             if !check_body(

@@ -37,12 +37,12 @@ use Rattle.pattern_matching.specs.Tests.{compare, patternMatchConst, literal, l
 use Rattle.pattern_matching.specs.Variants.{placeTy, shapeOf, patternMatchAdt, patternMatchTupleLike, ellipsisAt, tupleOn, tuplePattern, refOn, refPattern, resolved, recordFields, variantFields, discriminantTest, variantOn, adtOn, patternMatchingVariant, variantPattern}
 use Rattle.pattern_matching.specs.Slices.{lengthConstant, lengthCompared, lengthTest, restBound, sliceItems, sliceOn}
 use Rattle.pattern_matching.specs.Patterns.{alternatives, alternativesEnd, orPattern, rangePattern, pathPattern, bindPattern, restBy, restOf, patternMatchInner, lowerings, lowering?, patternMatch}
-use Rattle.pattern_matching.specs.Patterns.{matchSelfParam}
-use Rattle.lowered_params.specs.Params.{paramLocal, byValue, plainBind, plainBinding, boundTo, declareSelf, declareParam, declareParams, declareBinding, declareBindings, declare, shutElse, shut, unlessBound, unlessOwn, lowerSelf, lowerParam, lowerParams, selfCount, lowerAll, lowerParamsAndBindings}
+use Rattle.lowered_params.specs.Params.{paramLocal, byValue, plainBind, plainBinding, boundTo, declareSelf, declareParam, declareParams, declareBinding, declareBindings, declare, shutElse, shut, unlessBound, unlessOwn, lowerParam, lowerParams, selfCount, lowerAll, lowerParamsAndBindings}
+use Rattle.lowered_params.specs.Calls.{bindsReceiver, noneBindsReceiver, receiverApart}
 use Rattle.image.specs.Lists.{allTrue, distinct}
 use Rattle.image.specs.Integers.{leastValue, greatestValue, inRange, integerValue}
 use Rattle.meaning.specs.Values.{items, partsOf, intFits, kindNumber, fieldTypes, valueFits}
-use Rattle.meaning.specs.Typing.{behind, typeIsThePlaces, tupleFields, variantsOf, argumentsFit, discriminantsDiffer, integerFits}
+use Rattle.meaning.specs.Typing.{referent, behind, typeIsThePlaces, tupleFields, variantsOf, argumentsFit, discriminantsDiffer, integerFits}
 use Rattle.meaning.specs.Fitting.{literalFits, pathFits, rowFits, eachFits, typesFit}
 use Rattle.meaning.specs.Fit.{boundIn, bindingsFit}
 use Rattle.meaning.specs.Fits.{hasVariant, pathTaken, nothingRefused, present, localsDiffer, fits}
@@ -75,17 +75,41 @@ abbrev receiver-and-pair-row : Row
 receiver-and-pair-row = record { image = 0 ∷ 0 ∷ 0 ∷ 109 ∷ 1 ∷ 0 ∷ 2 ∷ 0 ∷ 0 ∷ 0 ∷ 4 ∷ 0 ∷ 3 ∷ 0 ∷ 4 ∷ 0 ∷ 0 ∷ 0 ∷ 1 ∷ 0 ∷ 1 ∷ 0 ∷ 0 ∷ 0 ∷ 0 ∷ 0 ∷ 1 ∷ 0 ∷ 5 ∷ 0 ∷ 0 ∷ 0 ∷ 2 ∷ 0 ∷ 0 ∷ 0 ∷ 1 ∷ 0 ∷ 11 ∷ 0 ∷ 0 ∷ 0 ∷ 0 ∷ 0 ∷ 1 ∷ 255 ∷ 255 ∷ 0 ∷ 0 ∷ 0 ∷ 0 ∷ 0 ∷ 3 ∷ 0 ∷ 0 ∷ 0 ∷ 0 ∷ 0 ∷ 0 ∷ 0 ∷ 0 ∷ 0 ∷ 0 ∷ 0 ∷ 0 ∷ 0 ∷ 4 ∷ 0 ∷ 1 ∷ 0 ∷ 0 ∷ 0 ∷ 2 ∷ 0 ∷ 2 ∷ 255 ∷ 255 ∷ 0 ∷ 0 ∷ 0 ∷ 11 ∷ 0 ∷ 0 ∷ 0 ∷ 0 ∷ 0 ∷ 2 ∷ 255 ∷ 255 ∷ 0 ∷ 0 ∷ 0 ∷ 0 ∷ 0 ∷ 0 ∷ 0 ∷ 1 ∷ 0 ∷ 0 ∷ 0 ∷ 1 ∷ 0 ∷ 0 ∷ 0 ∷ 1 ∷ 0 ∷ 0 ∷ 0 ∷ 0 ∷ 0 ∷ 0 ∷ 0 ∷ 1 ∷ []; self = SelfParam.Some (record { 0 = 0 }) 0; params = (record { pattern = 2; ty = 1 } ∷ record { pattern = 3; ty = 0 } ∷ []); wanted = accepted (record { 0 = 0 }) (0 ∷ 3 ∷ 2 ∷ []) (record { terminators = (Terminator.Open ∷ []); lines = (record { block = 0; statement = live 3 } ∷ record { block = 0; statement = set 3 (ofPlace PlaceRvalue.Copy (record { local = 1; elems = ((ProjectionElem.Field 0) ∷ []) })) } ∷ []); locals = (0 ∷ 1 ∷ 0 ∷ 0 ∷ []) }) (2 ∷ 2 ∷ 2 ∷ 0 ∷ []); values = (Int (pos 9) ∷ Tuple (cons (Int (pos 2)) (cons (Int (pos 3)) nil)) ∷ Int (pos 4) ∷ []); fit = true }
 
 abbrev bound-twice-row : Row
-bound-twice-row = record { image = 0 ∷ 0 ∷ 0 ∷ 41 ∷ 1 ∷ 0 ∷ 1 ∷ 0 ∷ 0 ∷ 0 ∷ 1 ∷ 0 ∷ 1 ∷ 0 ∷ 0 ∷ 0 ∷ 0 ∷ 0 ∷ 1 ∷ 0 ∷ 1 ∷ 0 ∷ 0 ∷ 0 ∷ 0 ∷ 0 ∷ 1 ∷ 0 ∷ 11 ∷ 0 ∷ 0 ∷ 0 ∷ 0 ∷ 0 ∷ 0 ∷ 255 ∷ 255 ∷ 0 ∷ 0 ∷ 0 ∷ 0 ∷ 0 ∷ 0 ∷ 0 ∷ 1 ∷ []; self = SelfParam.Some (record { 0 = 0 }) 0; params = (record { pattern = 0; ty = 0 } ∷ []); wanted = accepted (record { 0 = 0 }) (1 ∷ []) (record { terminators = (Terminator.Open ∷ []); lines = (record { block = 0; statement = live 1 } ∷ record { block = 0; statement = set 1 (ofPlace PlaceRvalue.Copy (record { local = 0; elems = ([]) })) } ∷ []); locals = (0 ∷ 0 ∷ []) }) (0 ∷ []); values = (Int (pos 9) ∷ Int (pos 4) ∷ []); fit = false }
+bound-twice-row = record { image = 0 ∷ 0 ∷ 0 ∷ 41 ∷ 1 ∷ 0 ∷ 1 ∷ 0 ∷ 0 ∷ 0 ∷ 1 ∷ 0 ∷ 1 ∷ 0 ∷ 0 ∷ 0 ∷ 0 ∷ 0 ∷ 1 ∷ 0 ∷ 1 ∷ 0 ∷ 0 ∷ 0 ∷ 0 ∷ 0 ∷ 1 ∷ 0 ∷ 11 ∷ 0 ∷ 0 ∷ 0 ∷ 0 ∷ 0 ∷ 0 ∷ 255 ∷ 255 ∷ 0 ∷ 0 ∷ 0 ∷ 0 ∷ 0 ∷ 0 ∷ 0 ∷ 1 ∷ []; self = SelfParam.Some (record { 0 = 0 }) 0; params = (record { pattern = 0; ty = 0 } ∷ []); wanted = refusal (record { number = 1; pattern = 65535; reason = 0 }); values = (Int (pos 9) ∷ Int (pos 4) ∷ []); fit = false }
+
+abbrev bound-first-row : Row
+bound-first-row = record { image = 0 ∷ 0 ∷ 0 ∷ 55 ∷ 1 ∷ 0 ∷ 1 ∷ 0 ∷ 0 ∷ 0 ∷ 2 ∷ 0 ∷ 1 ∷ 0 ∷ 0 ∷ 0 ∷ 0 ∷ 0 ∷ 1 ∷ 0 ∷ 1 ∷ 0 ∷ 0 ∷ 0 ∷ 0 ∷ 0 ∷ 1 ∷ 0 ∷ 11 ∷ 0 ∷ 0 ∷ 0 ∷ 0 ∷ 0 ∷ 0 ∷ 255 ∷ 255 ∷ 0 ∷ 0 ∷ 0 ∷ 0 ∷ 0 ∷ 3 ∷ 0 ∷ 0 ∷ 0 ∷ 0 ∷ 0 ∷ 0 ∷ 0 ∷ 0 ∷ 0 ∷ 0 ∷ 0 ∷ 0 ∷ 0 ∷ 0 ∷ 0 ∷ 1 ∷ []; self = SelfParam.Some (record { 0 = 0 }) 0; params = (record { pattern = 0; ty = 0 } ∷ record { pattern = 1; ty = 0 } ∷ []); wanted = refusal (record { number = 1; pattern = 65535; reason = 0 }); values = (Int (pos 9) ∷ Int (pos 4) ∷ Int (pos 4) ∷ []); fit = false }
+
+abbrev bound-last-row : Row
+bound-last-row = record { image = 0 ∷ 0 ∷ 0 ∷ 55 ∷ 1 ∷ 0 ∷ 1 ∷ 0 ∷ 0 ∷ 0 ∷ 2 ∷ 0 ∷ 1 ∷ 0 ∷ 0 ∷ 0 ∷ 0 ∷ 0 ∷ 1 ∷ 0 ∷ 1 ∷ 0 ∷ 0 ∷ 0 ∷ 0 ∷ 0 ∷ 1 ∷ 0 ∷ 3 ∷ 0 ∷ 0 ∷ 0 ∷ 0 ∷ 0 ∷ 0 ∷ 0 ∷ 0 ∷ 0 ∷ 0 ∷ 0 ∷ 0 ∷ 0 ∷ 11 ∷ 0 ∷ 0 ∷ 0 ∷ 0 ∷ 0 ∷ 0 ∷ 255 ∷ 255 ∷ 0 ∷ 0 ∷ 0 ∷ 1 ∷ 0 ∷ 0 ∷ 0 ∷ 1 ∷ []; self = SelfParam.Some (record { 0 = 0 }) 0; params = (record { pattern = 0; ty = 0 } ∷ record { pattern = 1; ty = 0 } ∷ []); wanted = refusal (record { number = 1; pattern = 65535; reason = 0 }); values = (Int (pos 9) ∷ Int (pos 4) ∷ Int (pos 4) ∷ []); fit = false }
+
+abbrev bound-by-mode-row : Row
+bound-by-mode-row = record { image = 0 ∷ 0 ∷ 0 ∷ 41 ∷ 1 ∷ 0 ∷ 1 ∷ 0 ∷ 0 ∷ 0 ∷ 1 ∷ 0 ∷ 1 ∷ 0 ∷ 0 ∷ 0 ∷ 0 ∷ 0 ∷ 1 ∷ 0 ∷ 1 ∷ 0 ∷ 0 ∷ 0 ∷ 0 ∷ 0 ∷ 1 ∷ 0 ∷ 11 ∷ 0 ∷ 0 ∷ 0 ∷ 0 ∷ 0 ∷ 0 ∷ 255 ∷ 255 ∷ 0 ∷ 1 ∷ 0 ∷ 0 ∷ 0 ∷ 0 ∷ 0 ∷ 1 ∷ []; self = SelfParam.Some (record { 0 = 0 }) 0; params = (record { pattern = 0; ty = 0 } ∷ []); wanted = refusal (record { number = 1; pattern = 65535; reason = 0 }); values = (Int (pos 9) ∷ Int (pos 4) ∷ []); fit = false }
+
+abbrev bound-behind-row : Row
+bound-behind-row = record { image = 0 ∷ 0 ∷ 0 ∷ 51 ∷ 1 ∷ 0 ∷ 2 ∷ 0 ∷ 0 ∷ 0 ∷ 1 ∷ 0 ∷ 1 ∷ 0 ∷ 0 ∷ 0 ∷ 0 ∷ 0 ∷ 1 ∷ 0 ∷ 1 ∷ 0 ∷ 0 ∷ 0 ∷ 0 ∷ 0 ∷ 1 ∷ 0 ∷ 7 ∷ 0 ∷ 0 ∷ 0 ∷ 0 ∷ 0 ∷ 0 ∷ 0 ∷ 1 ∷ 0 ∷ 11 ∷ 0 ∷ 0 ∷ 0 ∷ 1 ∷ 0 ∷ 0 ∷ 255 ∷ 255 ∷ 0 ∷ 1 ∷ 0 ∷ 0 ∷ 0 ∷ 1 ∷ 0 ∷ 1 ∷ []; self = SelfParam.Some (record { 0 = 0 }) 1; params = (record { pattern = 0; ty = 1 } ∷ []); wanted = refusal (record { number = 1; pattern = 65535; reason = 0 }); values = (Int (pos 9) ∷ Int (pos 4) ∷ []); fit = false }
+
+abbrev bound-annotated-row : Row
+bound-annotated-row = record { image = 0 ∷ 0 ∷ 0 ∷ 41 ∷ 1 ∷ 0 ∷ 1 ∷ 0 ∷ 0 ∷ 0 ∷ 1 ∷ 0 ∷ 1 ∷ 0 ∷ 0 ∷ 0 ∷ 0 ∷ 0 ∷ 1 ∷ 0 ∷ 1 ∷ 0 ∷ 0 ∷ 0 ∷ 0 ∷ 0 ∷ 1 ∷ 0 ∷ 11 ∷ 0 ∷ 0 ∷ 0 ∷ 0 ∷ 0 ∷ 0 ∷ 255 ∷ 255 ∷ 0 ∷ 1 ∷ 0 ∷ 2 ∷ 0 ∷ 0 ∷ 0 ∷ 1 ∷ []; self = SelfParam.Some (record { 0 = 0 }) 0; params = (record { pattern = 0; ty = 0 } ∷ []); wanted = accepted (record { 0 = 0 }) (0 ∷ []) (record { terminators = (Terminator.Open ∷ []); lines = (record { block = 0; statement = live 0 } ∷ record { block = 0; statement = set 0 (ofPlace PlaceRvalue.Ref (record { local = 1; elems = ([]) })) } ∷ []); locals = (0 ∷ 0 ∷ []) }) (2 ∷ []); values = (Int (pos 9) ∷ Int (pos 4) ∷ []); fit = false }
+
+abbrev bound-at-row : Row
+bound-at-row = record { image = 0 ∷ 0 ∷ 0 ∷ 55 ∷ 1 ∷ 0 ∷ 1 ∷ 0 ∷ 0 ∷ 0 ∷ 2 ∷ 0 ∷ 1 ∷ 0 ∷ 0 ∷ 0 ∷ 0 ∷ 0 ∷ 1 ∷ 0 ∷ 1 ∷ 0 ∷ 0 ∷ 0 ∷ 0 ∷ 0 ∷ 1 ∷ 0 ∷ 3 ∷ 0 ∷ 0 ∷ 0 ∷ 0 ∷ 0 ∷ 0 ∷ 0 ∷ 0 ∷ 0 ∷ 0 ∷ 0 ∷ 0 ∷ 0 ∷ 11 ∷ 0 ∷ 0 ∷ 0 ∷ 0 ∷ 0 ∷ 0 ∷ 0 ∷ 0 ∷ 0 ∷ 0 ∷ 0 ∷ 0 ∷ 0 ∷ 0 ∷ 0 ∷ 1 ∷ []; self = SelfParam.Some (record { 0 = 0 }) 0; params = (record { pattern = 1; ty = 0 } ∷ []); wanted = accepted (record { 0 = 0 }) (0 ∷ []) (record { terminators = (Terminator.Open ∷ []); lines = (record { block = 0; statement = live 0 } ∷ record { block = 0; statement = set 0 (ofPlace PlaceRvalue.Copy (record { local = 1; elems = ([]) })) } ∷ []); locals = (0 ∷ 0 ∷ []) }) (2 ∷ 2 ∷ []); values = (Int (pos 9) ∷ Int (pos 4) ∷ []); fit = false }
+
+abbrev bound-below-row : Row
+bound-below-row = record { image = 0 ∷ 0 ∷ 0 ∷ 87 ∷ 1 ∷ 0 ∷ 2 ∷ 0 ∷ 0 ∷ 0 ∷ 3 ∷ 0 ∷ 1 ∷ 0 ∷ 4 ∷ 0 ∷ 0 ∷ 0 ∷ 1 ∷ 0 ∷ 1 ∷ 0 ∷ 0 ∷ 0 ∷ 0 ∷ 0 ∷ 1 ∷ 0 ∷ 5 ∷ 0 ∷ 0 ∷ 0 ∷ 2 ∷ 0 ∷ 0 ∷ 0 ∷ 1 ∷ 0 ∷ 11 ∷ 0 ∷ 0 ∷ 0 ∷ 0 ∷ 0 ∷ 0 ∷ 255 ∷ 255 ∷ 0 ∷ 0 ∷ 0 ∷ 0 ∷ 0 ∷ 3 ∷ 0 ∷ 0 ∷ 0 ∷ 0 ∷ 0 ∷ 0 ∷ 0 ∷ 0 ∷ 0 ∷ 0 ∷ 0 ∷ 0 ∷ 0 ∷ 4 ∷ 0 ∷ 1 ∷ 0 ∷ 0 ∷ 0 ∷ 2 ∷ 0 ∷ 2 ∷ 255 ∷ 255 ∷ 0 ∷ 0 ∷ 0 ∷ 0 ∷ 0 ∷ 1 ∷ 0 ∷ 0 ∷ 0 ∷ 0 ∷ 0 ∷ 0 ∷ 0 ∷ 1 ∷ []; self = SelfParam.Some (record { 0 = 0 }) 0; params = (record { pattern = 2; ty = 1 } ∷ []); wanted = accepted (record { 0 = 0 }) (0 ∷ []) (record { terminators = (Terminator.Open ∷ []); lines = (record { block = 0; statement = live 0 } ∷ record { block = 0; statement = set 0 (ofPlace PlaceRvalue.Copy (record { local = 1; elems = ((ProjectionElem.Field 0) ∷ []) })) } ∷ []); locals = (0 ∷ 1 ∷ []) }) (2 ∷ 2 ∷ 2 ∷ []); values = (Int (pos 9) ∷ Tuple (cons (Int (pos 2)) (cons (Int (pos 3)) nil)) ∷ []); fit = false }
+
+abbrev bound-without-self-row : Row
+bound-without-self-row = record { image = 0 ∷ 0 ∷ 0 ∷ 55 ∷ 1 ∷ 0 ∷ 1 ∷ 0 ∷ 0 ∷ 0 ∷ 2 ∷ 0 ∷ 1 ∷ 0 ∷ 0 ∷ 0 ∷ 0 ∷ 0 ∷ 1 ∷ 0 ∷ 1 ∷ 0 ∷ 0 ∷ 0 ∷ 0 ∷ 0 ∷ 1 ∷ 0 ∷ 11 ∷ 0 ∷ 0 ∷ 0 ∷ 0 ∷ 0 ∷ 0 ∷ 255 ∷ 255 ∷ 0 ∷ 0 ∷ 0 ∷ 0 ∷ 0 ∷ 11 ∷ 0 ∷ 0 ∷ 0 ∷ 0 ∷ 0 ∷ 0 ∷ 255 ∷ 255 ∷ 0 ∷ 0 ∷ 0 ∷ 0 ∷ 0 ∷ 0 ∷ 0 ∷ 1 ∷ []; self = SelfParam.None; params = (record { pattern = 0; ty = 0 } ∷ record { pattern = 1; ty = 0 } ∷ []); wanted = accepted (record { 0 = 0 }) (1 ∷ []) (record { terminators = (Terminator.Open ∷ []); lines = (record { block = 0; statement = live 1 } ∷ record { block = 0; statement = set 1 (ofPlace PlaceRvalue.Copy (record { local = 0; elems = ([]) })) } ∷ []); locals = (0 ∷ 0 ∷ []) }) (2 ∷ 0 ∷ []); values = (Int (pos 4) ∷ Int (pos 4) ∷ []); fit = false }
 
 abbrev pub rows : List Row
-rows = plain-row ∷ mutable-row ∷ bound-some-row ∷ by-reference-row ∷ refutable-row ∷ two-enums-row ∷ receiver-and-pair-row ∷ bound-twice-row ∷ []
+rows = plain-row ∷ mutable-row ∷ bound-some-row ∷ by-reference-row ∷ refutable-row ∷ two-enums-row ∷ receiver-and-pair-row ∷ bound-twice-row ∷ bound-first-row ∷ bound-last-row ∷ bound-by-mode-row ∷ bound-behind-row ∷ bound-annotated-row ∷ bound-at-row ∷ bound-below-row ∷ bound-without-self-row ∷ []
 
 -- each row's image comes to the answer that is wanted
 pub as-wanted : map (λ (row : Row). answer (row .image) (row .self) (row .params)) rows ≡ map (λ (row : Row). row .wanted) rows
-unfolding wordAt littleEndian tablesOf typeAt variantAt patAt bindingAt listAt operandAt operandBytes member upFrom listed shapeBy tyOf variantOf bindingOf operandOf word? operand? trees tree? target nodeBy node treeOf tree elemOf wordOf projectionOf fieldOf derefTy adtFieldTy fieldTy elementTy subsliceTy adtDowncastTy downcastTy tyProjection variantProjection partProjection projectionTy multiProjectionTy termRow halves placeWords localTy constantWords leftWords placeRvalueKind binaryKind liveRow deadRow placeRvalueRow constantRow binaryRow newBlock setTerminator pushStatement newLocal pushScope pushEntry tryBlock tryStatement tryLocal tryScope tryEntry constantOf stringConstant integerConstant literalBy lowerLiteralToOperand lowerConstToOperand literalOrConstBy lowerLiteralOrConstToOperand isSlice pushStorageLiveForLocal temp bindingLocal discrTempPlace discrLocal terminatorOf elemsAt pathOf constantAt leftOf lineOf mirOf numberOf reasonOf refusalAt visited project localPlace elseState elseBlock derefed entered compare patternMatchConst literal litBy constantPath rangeEnd rangeEnd? bindingRvalue patternMatchBinding localPath placeTy shapeOf patternMatchAdt patternMatchTupleLike ellipsisAt tupleOn tuplePattern refOn refPattern resolved recordFields variantFields discriminantTest variantOn adtOn patternMatchingVariant variantPattern lengthConstant lengthCompared lengthTest restBound sliceItems sliceOn alternatives alternativesEnd orPattern rangePattern pathPattern bindPattern restBy restOf patternMatchInner lowerings lowering? patternMatch matchSelfParam paramLocal byValue plainBind plainBinding boundTo declareSelf declareParam declareParams declareBinding declareBindings declare shutElse shut unlessBound unlessOwn lowerSelf lowerParam lowerParams selfCount lowerAll lowerParamsAndBindings start unbound answer
+unfolding wordAt littleEndian tablesOf typeAt variantAt patAt bindingAt listAt operandAt operandBytes member upFrom listed shapeBy tyOf variantOf bindingOf operandOf word? operand? trees tree? target nodeBy node treeOf tree elemOf wordOf projectionOf fieldOf derefTy adtFieldTy fieldTy elementTy subsliceTy adtDowncastTy downcastTy tyProjection variantProjection partProjection projectionTy multiProjectionTy termRow halves placeWords localTy constantWords leftWords placeRvalueKind binaryKind liveRow deadRow placeRvalueRow constantRow binaryRow newBlock setTerminator pushStatement newLocal pushScope pushEntry tryBlock tryStatement tryLocal tryScope tryEntry constantOf stringConstant integerConstant literalBy lowerLiteralToOperand lowerConstToOperand literalOrConstBy lowerLiteralOrConstToOperand isSlice pushStorageLiveForLocal temp bindingLocal discrTempPlace discrLocal terminatorOf elemsAt pathOf constantAt leftOf lineOf mirOf numberOf reasonOf refusalAt visited project localPlace elseState elseBlock derefed entered compare patternMatchConst literal litBy constantPath rangeEnd rangeEnd? bindingRvalue patternMatchBinding localPath placeTy shapeOf patternMatchAdt patternMatchTupleLike ellipsisAt tupleOn tuplePattern refOn refPattern resolved recordFields variantFields discriminantTest variantOn adtOn patternMatchingVariant variantPattern lengthConstant lengthCompared lengthTest restBound sliceItems sliceOn alternatives alternativesEnd orPattern rangePattern pathPattern bindPattern restBy restOf patternMatchInner lowerings lowering? patternMatch paramLocal byValue plainBind plainBinding boundTo declareSelf declareParam declareParams declareBinding declareBindings declare shutElse shut unlessBound unlessOwn lowerParam lowerParams selfCount lowerAll lowerParamsAndBindings bindsReceiver noneBindsReceiver receiverApart start unbound answer
 as-wanted = refl
 
 -- whether the parameters fit the values beside them, as the theorem on runs asks
 pub fit-as-said : map cornerFits rows ≡ map (λ (row : Row). row .fit) rows
-unfolding wordAt littleEndian tablesOf typeAt variantAt patAt bindingAt listAt operandAt operandBytes member upFrom listed shapeBy tyOf variantOf bindingOf operandOf word? operand? trees tree? target nodeBy node treeOf tree allTrue distinct leastValue greatestValue inRange integerValue items partsOf intFits kindNumber fieldTypes valueFits behind typeIsThePlaces tupleFields variantsOf argumentsFit discriminantsDiffer integerFits literalFits pathFits rowFits eachFits typesFit boundIn bindingsFit hasVariant pathTaken nothingRefused present localsDiffer fits crossed created matchAll matchRow isVariant pathMatches matches asTheReference scalarOf bytesOf sameValue Rattle.meaning.specs.Typing.variantFields ownLocal plain patternFits paramFits paramsFit allFit paramsBound cornerFits
+unfolding wordAt littleEndian tablesOf typeAt variantAt patAt bindingAt listAt operandAt operandBytes member upFrom listed shapeBy tyOf variantOf bindingOf operandOf word? operand? trees tree? target nodeBy node treeOf tree allTrue distinct leastValue greatestValue inRange integerValue items partsOf intFits kindNumber fieldTypes valueFits referent behind typeIsThePlaces tupleFields variantsOf argumentsFit discriminantsDiffer integerFits literalFits pathFits rowFits eachFits typesFit boundIn bindingsFit hasVariant pathTaken nothingRefused present localsDiffer fits crossed created matchAll matchRow isVariant pathMatches matches asTheReference scalarOf bytesOf sameValue Rattle.meaning.specs.Typing.variantFields ownLocal plain patternFits paramFits paramsFit allFit paramsBound cornerFits
 fit-as-said = refl

@@ -4,7 +4,6 @@ use native.Mathlib.Omega.{arith}
 use mathlib.Core.Path.{_≡_, refl, sym, subst}
 use mathlib.Core.Bool.{true, cond}
 use mathlib.Core.List.{List, [], _∷_}
-use lib.Dec.{eqb}
 use lib.ListN.{length, getD}
 use Rattle.image.specs.Valid.{valid}
 use Rattle.image.specs.Tree.{tree}
@@ -13,52 +12,43 @@ use Rattle.mir.specs.declared.BasicBlockId.{BasicBlockId}
 use Rattle.lower.specs.declared.merging.OptBlock.{OptBlock}
 use Rattle.pattern_matching.specs.Walking.{Ctx, Out, ok, withState, localPlace}
 use Rattle.lowered_params.specs.declared.SelfParam.{SelfParam}
-use Rattle.lowered_params.specs.Params.{Param, ParamsOut, lowerSelf, lowerParam, lowerParams, lowerParamsAndBindings}
+use Rattle.lowered_params.specs.Params.{Param, ParamsOut, lowerParam, lowerParams, lowerParamsAndBindings}
 use Rattle.lowered_params.specs.Calls.{paramsNamed}
 use Rattle.counting.specs.Counting.{reachedFrom, newBlocks}
 use Rattle.growth.proofs.Walks.{ok-is, walked}
 use Rattle.param_runs.specs.Returned.{ownLocal}
-use Rattle.param_runs.specs.Totals.{paramsReached, paramsBlocks, paramsStatements, selfStatements, firstLocal, ParamsCounted}
+use Rattle.param_runs.specs.Totals.{paramsReached, paramsBlocks, paramsStatements, firstLocal, ParamsCounted}
 use Rattle.param_runs.proofs.Shutting.{shutOut}
-use Rattle.param_runs.proofs.Owning.{self-case, param-case}
+use Rattle.param_runs.proofs.Owning.{param-case}
 use Rattle.param_runs.proofs.Declaring.{all-made}
 use Rattle.param_runs.proofs.Stepping.{steps}
-use Rattle.param_runs.proofs.Tallying.{Tally, tally-seq, tally-locals, tally-none, tally-self, tally-pattern}
+use Rattle.param_runs.proofs.Tallying.{Tally, tally-seq, tally-locals, tally-none, tally-pattern}
 use Rattle.param_runs.proofs.Typing.{TypedFrom, typed-later, typed-made, NamedParam, named-first, named-rest, local-typed}
-
--- self
-self-tallied : (image bindings : List ℕ) (self : SelfParam) (l : ℕ) (ctx : Ctx) (current : BasicBlockId) (r : Out) → lowerSelf image bindings self l ctx current ≡ ok r →
-    Tally ctx (r .ctx) 0 (selfStatements bindings self l) []
-unfolding lowerSelf selfStatements
-self-tallied image bindings SelfParam.None l ctx current r e = subst (λ (r : Out). Tally ctx (r .ctx) 0 0 []) (ok-is e) (tally-none ctx)
-self-tallied image bindings (SelfParam.Some b ty) l ctx current r e =
-    self-case image bindings l ctx current (λ r. Tally ctx (r .ctx) 0 (cond (eqb l (getD bindings (b .0) 65535)) 0 2) []) r b ty
-    (λ own. rw own (tally-none ctx)) (λ r₁ other e₁. rw other (tally-self image bindings ctx current r₁ (b .0) (record { 0 = l }) e₁)) e
 
 module _ (image bindings : List ℕ) (image-valid : valid image ≡ true) where
   -- a parameter, whose local l has its type
   param-tallied : (q : Param) (l : ℕ) (ctx : Ctx) (current : BasicBlockId) (r : Out) → NamedParam image q → l < length (ctx .state .locals) → getD (ctx .state .locals) l 0 ≡ q .ty →
       lowerParam image bindings (q .pattern) l ctx current ≡ ok r →
-      Tally ctx (r .ctx) (cond (ownLocal bindings (tree image (q .pattern)) l) 0 (newBlocks image (tree image (q .pattern)) (PlaceTy.Ty (q .ty)) OptBlock.None)) 0
+      Tally ctx (r .ctx) (cond (ownLocal bindings (tree image (q .pattern)) l) 0 (newBlocks image (tree image (q .pattern)) (PlaceTy.Ty (q .ty)) OptBlock.None))
       (cond (ownLocal bindings (tree image (q .pattern)) l) [] (reachedFrom image (tree image (q .pattern)) (PlaceTy.Ty (q .ty))))
   unfolding localPlace
   param-tallied q l ctx current r named there typed e =
       param-case image bindings l ctx current P r (q .pattern) (λ own. rw own (tally-none ctx))
       (λ r₁ other e₁.
-      rw other (subst (λ (t : PlaceTy). Tally ctx (shutOut r₁ .ctx) (newBlocks image (tree image (q .pattern)) t OptBlock.None) 0 (reachedFrom image (tree image (q .pattern)) t))
+      rw other (subst (λ (t : PlaceTy). Tally ctx (shutOut r₁ .ctx) (newBlocks image (tree image (q .pattern)) t OptBlock.None) (reachedFrom image (tree image (q .pattern)) t))
       (local-typed image (ctx .state) l (q .ty) image-valid (named .ty) typed)
       (tally-pattern image bindings ctx current r₁ (tree image (q .pattern)) (localPlace (record { 0 = l })) there refl e₁))) e
     where
       P : Out → Type 0
       P r =
-          Tally ctx (r .ctx) (cond (ownLocal bindings (tree image (q .pattern)) l) 0 (newBlocks image (tree image (q .pattern)) (PlaceTy.Ty (q .ty)) OptBlock.None)) 0
+          Tally ctx (r .ctx) (cond (ownLocal bindings (tree image (q .pattern)) l) 0 (newBlocks image (tree image (q .pattern)) (PlaceTy.Ty (q .ty)) OptBlock.None))
           (cond (ownLocal bindings (tree image (q .pattern)) l) [] (reachedFrom image (tree image (q .pattern)) (PlaceTy.Ty (q .ty))))
 
   -- each parameter in order
   params-tallied : (params : List Param) (l : ℕ) (ctx : Ctx) (current : BasicBlockId) (r : Out) → paramsNamed image params ≡ true → TypedFrom (ctx .state .locals) l params →
-      lowerParams image bindings params l ctx current ≡ ok r → Tally ctx (r .ctx) (paramsBlocks image bindings params l) 0 (paramsReached image bindings params l)
+      lowerParams image bindings params l ctx current ≡ ok r → Tally ctx (r .ctx) (paramsBlocks image bindings params l) (paramsReached image bindings params l)
   unfolding lowerParams paramsBlocks paramsReached
-  params-tallied [] l ctx current r named typed e = subst (λ (r : Out). Tally ctx (r .ctx) 0 0 []) (ok-is e) (tally-none ctx)
+  params-tallied [] l ctx current r named typed e = subst (λ (r : Out). Tally ctx (r .ctx) 0 []) (ok-is e) (tally-none ctx)
   params-tallied (q ∷ qs) l ctx current r named (there, is, typed) e =
       walked (lowerParam image bindings (q .pattern) l ctx current) _ e (λ r₁ e₁ e₂.
       let t = param-tallied q l ctx current r₁ (named-first image q qs named) there is e₁ in
@@ -73,9 +63,8 @@ params-counted image self params bindings ctx current r v named e =
     let s = steps image self params bindings ctx current r e in
     let m = all-made image self params (record { state = ctx .state; bindings = bindings }) .at (s .made) (s .declared) in
     let t = tally-locals ctx (s .made .state) _ (m .makes) in
-    let u = self-tallied image (s .made .bindings) self (length (ctx .state .locals)) (withState ctx (s .made .state)) current (s .behind) (s .self-lowered) in
-    let typed = typed-later (s .made .state .locals) (s .behind .ctx .state .locals) (firstLocal self ctx) params (u .locals) (u .kept) (typed-made self params (m .others) (m .makes)) in
-    let w = params-tallied image (s .made .bindings) v params (firstLocal self ctx) (s .behind .ctx) (s .behind .then) (s .end) named typed (s .params-lowered) in
-    let all = tally-seq t (tally-seq u w) in
+    let typed = typed-made self params (m .others) (m .makes) in
+    let w = params-tallied image (s .made .bindings) v params (firstLocal self ctx) (withState ctx (s .made .state)) current (s .end) named typed (s .params-lowered) in
+    let all = tally-seq t w in
     subst (λ (r : ParamsOut). ParamsCounted image self params ctx r) (sym (s .is))
     record { blocks = omega (arith, all .blocks); statements = omega (arith, all .statements); visits = all .visits }

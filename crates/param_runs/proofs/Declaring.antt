@@ -5,20 +5,19 @@ use native.Mathlib.Decide.{decLt}
 use native.Mathlib.Omega.{arith}
 use mathlib.Core.Path.{_≡_, refl, sym, ap, _∙_, subst}
 use mathlib.Core.Logic.{_≢_}
-use mathlib.Core.Bool.{Bool, true, false, cond, _&&_}
+use mathlib.Core.Bool.{Bool, true, false, cond, not, _&&_, true≢false}
 use mathlib.Core.Option.{Option, some}
 use mathlib.Core.List.{List, [], _∷_, _++_, append-assoc, append-nil}
-use borrow.Author.Tests.{eqb-true, ltb-true}
+use borrow.Author.Tests.{eqb-true, eq-eqb, ltb-true}
 use lib.Dec.{eqb, ltb}
 use lib.ListN.{length, getD, set, length-append}
 use lib.Seq.{getD-set-same}
 use Rattle.refusals.specs.declared.MirLowerError.{MirLowerError}
 use Rattle.refusals.specs.Refusals.{Result, ok, refused, andThen}
 use Rattle.image.specs.Tables.{bindingCount}
-use Rattle.image.specs.Lists.{member}
 use Rattle.image.specs.Types.{bindingOf}
 use Rattle.image.specs.Tree.{tree}
-use Rattle.image.proofs.Bools.{and-right}
+use Rattle.image.proofs.Bools.{and-left, and-right}
 use Rattle.place.specs.declared.LocalId.{LocalId}
 use Rattle.mir.specs.Locals.{localLimit}
 use Rattle.mir.specs.Scopes.{entryLimit}
@@ -26,12 +25,9 @@ use Rattle.state.specs.State.{State}
 use Rattle.state.specs.Steps.{within, nextLocal, newLocal, pushEntry, tryLocal, tryEntry}
 use Rattle.lowered_params.specs.declared.SelfParam.{SelfParam}
 use Rattle.lowered_params.specs.Params.{Param, Declared, paramLocal, plainBinding, boundTo, declareSelf, declareParam, declareParams, declareBinding, declareBindings, declare}
+use Rattle.lowered_params.specs.Calls.{bindsReceiver, noneBindsReceiver}
 use Rattle.counting.proofs.Holding.{Gives, gives, stops, gives-then}
-use Rattle.meaning.specs.Fit.{boundIn}
-use Rattle.correctness.proofs.BindingNames.{names, member-left, member-right}
-use Rattle.param_runs.specs.Through.{paramsBound}
 use Rattle.param_runs.proofs.Words.{WordsBelow, words-more, bound-below, bound-keeps}
-use Rattle.param_runs.proofs.Plain.{plain-named}
 
 -- from one state to another new locals of these types were made, and nothing else of a body; a body has at most 512 locals
 pub record Makes (st : State) (types : List ℕ) (st₁ : State) : Type 0 where
@@ -175,9 +171,22 @@ self-own (SelfParam.Some b ty) d =
     gives (SelfOwn (SelfParam.Some b ty) d) _ (λ i. getD-set-same (d .bindings) (b .0) (length (d .state .locals)) 65535 i))
 
 module _ (image : List ℕ) where
-  -- none of the parameters' bindings
-  abbrev pub NotBound : List Param → ℕ → Type 0
-  NotBound qs x = member x (paramsBound image qs) ≡ true → ⊥
+  -- no parameter is a plain `x` of this binding
+  abbrev pub Apart : List Param → ℕ → Type 0
+  Apart qs x = noneBindsReceiver image x qs ≡ true
+
+  -- so it is with the first one
+  first-apart : (q : Param) (qs : List Param) (x : ℕ) → Apart (q ∷ qs) x → plainBinding (tree image (q .pattern)) ≡ some x → ⊥
+  unfolding noneBindsReceiver bindsReceiver
+  first-apart q qs x k p =
+      let here = and-left (not (bindsReceiver x (plainBinding (tree image (q .pattern))))) (noneBindsReceiver image x qs) k in
+      let same : bindsReceiver x (plainBinding (tree image (q .pattern))) ≡ true = ap (bindsReceiver x) p ∙ eq-eqb x x refl in
+      true≢false (sym (sym (ap not same) ∙ here))
+
+  -- and with the others
+  others-apart : (q : Param) (qs : List Param) (x : ℕ) → Apart (q ∷ qs) x → Apart qs x
+  unfolding noneBindsReceiver
+  others-apart q qs x k = and-right (not (bindsReceiver x (plainBinding (tree image (q .pattern))))) (noneBindsReceiver image x qs) k
 
   -- a parameter
   declares-param : (q : Param) (d : Declared) → Gives (Declares d (q .ty ∷ []) (λ x. plainBinding (tree image (q .pattern)) ≡ some x → ⊥)) (declareParam image q d)
@@ -187,17 +196,12 @@ module _ (image : List ℕ) where
       gives (Declares d (q .ty ∷ []) (λ x. plainBinding (tree image (q .pattern)) ≡ some x → ⊥)) _ (declares-one d (q .ty) (plainBinding (tree image (q .pattern))) st m))
 
   -- the parameters
-  declares-params : (qs : List Param) (d : Declared) → Gives (Declares d (paramTypes qs) (NotBound qs)) (declareParams image qs d)
-  unfolding declareParams paramTypes paramsBound
-  declares-params [] d = gives (Declares d [] (NotBound [])) d (declares-none d (NotBound []))
+  declares-params : (qs : List Param) (d : Declared) → Gives (Declares d (paramTypes qs) (Apart qs)) (declareParams image qs d)
+  unfolding declareParams paramTypes
+  declares-params [] d = gives (Declares d [] (Apart [])) d (declares-none d (Apart []))
   declares-params (q ∷ qs) d =
-      let here = names (boundIn image (tree image (q .pattern))) in
       gives-then (declareParam image q d) _ (declares-param q d) (λ d₁ m.
-      record {
-        at = λ d₂ e.
-            declares-seq (λ x k p. k (member-left x here (paramsBound image qs) (plain-named image (tree image (q .pattern)) x p))) (λ x k same p. k (member-right x here (paramsBound image qs) p)) m
-            (declares-params qs d₁ .at d₂ e);
-      })
+      record { at = λ d₂ e. declares-seq (first-apart q qs) (λ x k same. others-apart q qs x k) m (declares-params qs d₁ .at d₂ e) })
 
   -- the other bindings, those that have a local already not among them
   pub record Others (d d₁ : Declared) : Type 0 where
@@ -244,14 +248,14 @@ module _ (image : List ℕ) where
             };
       })
 
-  -- self's local is its binding's, where there is such a binding and no parameter has it
+  -- self's local is its binding's, where there is such a binding and no parameter is a plain `x` of it
   abbrev pub OwnKept : SelfParam → List Param → Declared → Declared → Type 0
   OwnKept SelfParam.None params d d₁ = Unit {0}
-  OwnKept (SelfParam.Some b ty) params d d₁ = b .0 < length (d .bindings) → NotBound params (b .0) → getD (d₁ .bindings) (b .0) 65535 ≡ length (d .state .locals)
+  OwnKept (SelfParam.Some b ty) params d d₁ = b .0 < length (d .bindings) → Apart params (b .0) → getD (d₁ .bindings) (b .0) 65535 ≡ length (d .state .locals)
 
   -- it stays so
   own-kept : (self : SelfParam) (params : List Param) {d d₁ d₂ d₃ : Declared} {types : List ℕ} → Declares d (selfTypes self) (NotSelf self) d₁ → SelfOwn self d d₁ →
-      Declares d₁ (paramTypes params) (NotBound params) d₂ → Declares d₂ types (λ x. getD (d₂ .bindings) x 65535 ≢ 65535) d₃ → OwnKept self params d d₃
+      Declares d₁ (paramTypes params) (Apart params) d₂ → Declares d₂ types (λ x. getD (d₂ .bindings) x 65535 ≢ 65535) d₃ → OwnKept self params d d₃
   own-kept SelfParam.None params f own g h = tt
   own-kept (SelfParam.Some b ty) params f own g h = λ i n.
       let second = g .keeps (b .0) n ∙ own i in

@@ -4,6 +4,7 @@ mod Words
 mod Plain
 mod Declaring
 mod Stepping
+pub mod Receivers
 pub mod OpenBlocks
 mod Tallying
 mod Typing

@@ -12,15 +12,15 @@ use Rattle.views.specs.Views.{mirOf}
 use Rattle.views.specs.Growing.{terminatorAt, GoesOn}
 use Rattle.pattern_matching.specs.Walking.{Ctx, Out, ok, withState, localPlace}
 use Rattle.lowered_params.specs.declared.SelfParam.{SelfParam}
-use Rattle.lowered_params.specs.Params.{Param, ParamsOut, selfCount, lowerSelf, lowerParam, lowerParams, lowerParamsAndBindings}
+use Rattle.lowered_params.specs.Params.{Param, ParamsOut, selfCount, lowerParam, lowerParams, lowerParamsAndBindings}
 use Rattle.growth.specs.Opened.{Starts, Leaves}
 use Rattle.growth.proofs.Opening.{adds-same, adds-words}
 use Rattle.growth.proofs.Leaving.{not-none, leaves-lines, leaves-seq}
 use Rattle.growth.proofs.Walks.{ok-is, walked}
-use Rattle.growth.proofs.OpenBlocks.{match-leaves, self-param-leaves, leaves-goes-on, leaves-only}
+use Rattle.growth.proofs.OpenBlocks.{match-leaves, leaves-goes-on, leaves-only}
 use Rattle.param_runs.specs.Returned.{returned}
 use Rattle.param_runs.proofs.Shutting.{leaves-shut}
-use Rattle.param_runs.proofs.Owning.{unchanged, self-case, param-case}
+use Rattle.param_runs.proofs.Owning.{unchanged, param-case}
 use Rattle.param_runs.proofs.Declaring.{all-made}
 use Rattle.param_runs.proofs.Stepping.{steps}
 
@@ -37,15 +37,6 @@ open-seq : (ctx : Ctx) (current : BasicBlockId) (r r₁ : Out) → Open ctx curr
 open-seq ctx current r r₁ p q = leaves-seq (record { ctx = r .ctx; then = r .then; else = OptBlock.None }) (record { ctx = r₁ .ctx; then = r₁ .then; else = OptBlock.None }) p q
 
 module _ (image bindings : List ℕ) where
-  -- self
-  pub self-opens : (self : SelfParam) (l : ℕ) (ctx : Ctx) (current : BasicBlockId) (r : Out) → Starts ctx current OptBlock.None →
-      lowerSelf image bindings self l ctx current ≡ ok r → Open ctx current r
-  unfolding lowerSelf
-  self-opens SelfParam.None l ctx current r s e = subst (Open ctx current) (ok-is e) (open-same ctx current s)
-  self-opens (SelfParam.Some b ty) l ctx current r s e =
-      self-case image bindings l ctx current (Open ctx current) r b ty (λ own. open-same ctx current s)
-      (λ r₁ other e₁. leaves-shut r₁ (self-param-leaves image bindings (b .0) ctx current (record { 0 = l }) r₁ s e₁)) e
-
   -- a parameter
   pub param-opens : (p l : ℕ) (ctx : Ctx) (current : BasicBlockId) (r : Out) → Starts ctx current OptBlock.None → lowerParam image bindings p l ctx current ≡ ok r → Open ctx current r
   param-opens p l ctx current r s e =
@@ -74,9 +65,8 @@ module _ (image : List ℕ) (self : SelfParam) (params : List Param) (bindings :
       let s = steps image self params bindings ctx current r lowered in
       let m = all-made image self params (record { state = ctx .state; bindings = bindings }) .at (s .made) (s .declared) .makes in
       let here = leaves-lines starts (adds-words (ctx .state) (s .made .state) (current .0) _ (m .blocks) (m .statements) (m .locals)) in
-      let p = self-opens image (s .made .bindings) self (length (ctx .state .locals)) (withState ctx (s .made .state)) current (s .behind) (here .ready) (s .self-lowered) in
-      let q = params-open image (s .made .bindings) params (length (ctx .state .locals) + selfCount self) (s .behind .ctx) (s .behind .then) (s .end) (p .ready) (s .params-lowered) in
-      subst (Closing ctx current) (sym (s .is)) (open-seq ctx current (unchanged (withState ctx (s .made .state)) current) (s .end) here (open-seq (withState ctx (s .made .state)) current (s .behind) (s .end) p q))
+      let q = params-open image (s .made .bindings) params (length (ctx .state .locals) + selfCount self) (withState ctx (s .made .state)) current (s .end) (here .ready) (s .params-lowered) in
+      subst (Closing ctx current) (sym (s .is)) (open-seq ctx current (unchanged (withState ctx (s .made .state)) current) (s .end) here q)
 
   -- Of the new blocks exactly the returned one is open: one that is open is returned ..
   pub only-the-returned-is-open : (b : ℕ) → length (ctx .state .blocks) ≤ b → b < length (r .ctx .state .blocks) → terminatorAt (mirOf (r .ctx .state)) b ≡ Terminator.Open → b ≡ r .then .0

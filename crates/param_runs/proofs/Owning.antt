@@ -1,4 +1,4 @@
--- What becomes of self and of a parameter: where its binding's local is its own nothing is done, and any other one is lowered. Assumes nothing.
+-- What becomes of a parameter: where its binding's local is its own nothing is done, and any other one is lowered. Assumes nothing.
 use Prim.Native.Nat.{ℕ}
 use mathlib.Core.Path.{_≡_, refl, sym, subst}
 use mathlib.Core.Bool.{Bool, true, false, cond}
@@ -6,18 +6,15 @@ use mathlib.Core.List.{List}
 use lib.Dec.{eqb}
 use lib.ListN.{getD}
 use Rattle.refusals.specs.declared.MirLowerError.{MirLowerError}
-use Rattle.refusals.specs.Refusals.{noPattern}
 use Rattle.refusals.specs.Refusals.{ok as done, refused as stopped}
-use Rattle.image.specs.declared.BindingId.{BindingId}
 use Rattle.image.specs.Tree.{Pat, tree}
 use Rattle.place.specs.declared.LocalId.{LocalId}
 use Rattle.mir.specs.declared.BasicBlockId.{BasicBlockId}
 use Rattle.lower.specs.declared.merging.OptBlock.{OptBlock}
 use Rattle.lower.specs.Temps.{bindingLocal}
 use Rattle.pattern_matching.specs.Walking.{Ctx, Out, Walk, ok, step, localPlace}
-use Rattle.pattern_matching.specs.Patterns.{patternMatch, matchSelfParam}
-use Rattle.lowered_params.specs.declared.SelfParam.{SelfParam}
-use Rattle.lowered_params.specs.Params.{shut, unlessBound, unlessOwn, lowerSelf, lowerParam}
+use Rattle.pattern_matching.specs.Patterns.{patternMatch}
+use Rattle.lowered_params.specs.Params.{shut, unlessBound, unlessOwn, lowerParam}
 use Rattle.growth.proofs.Walks.{not-ok, ok-is, walked}
 use Rattle.param_runs.specs.Returned.{ownLocal}
 use Rattle.param_runs.proofs.Shutting.{shutOut}
@@ -68,16 +65,7 @@ unfolding shut
 shut-case w r e k = walked w _ e (λ r₁ e₁ e₂. k r₁ e₁ (sym (ok-is e₂)))
 
 module _ (image bindings : List ℕ) (l : ℕ) (ctx : Ctx) (current : BasicBlockId) (P : Out → Type 0) (r : Out) where
-  -- what holds of self: where nothing is done, and where it is lowered
-  pub self-case : (b : BindingId) (ty : ℕ) → (eqb l (getD bindings (b .0) 65535) ≡ true → P (unchanged ctx current)) →
-      ((r₁ : Out) → eqb l (getD bindings (b .0) 65535) ≡ false → matchSelfParam image bindings (b .0) ctx current (record { 0 = l }) ≡ ok r₁ → P (shutOut r₁)) →
-      lowerSelf image bindings (SelfParam.Some b ty) l ctx current ≡ ok r → P r
-  unfolding lowerSelf
-  self-case b ty here lower e =
-      bound-case bindings noPattern (b .0) l _ _ r e (λ own is. subst P (ok-is is) (here own)) (λ other is.
-      shut-case (matchSelfParam image bindings (b .0) ctx current (record { 0 = l })) r is (λ r₁ e₁ same. subst P (sym same) (lower r₁ other e₁)))
-
-  -- of a parameter
+  -- what holds of a parameter: where nothing is done, and where it is lowered
   pub param-case : (p : ℕ) → (ownLocal bindings (tree image p) l ≡ true → P (unchanged ctx current)) →
       ((r₁ : Out) → ownLocal bindings (tree image p) l ≡ false → patternMatch image bindings (tree image p) ctx current OptBlock.None (localPlace (record { 0 = l })) ≡ ok r₁ → P (shutOut r₁)) →
       lowerParam image bindings p l ctx current ≡ ok r → P r

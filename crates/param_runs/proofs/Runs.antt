@@ -1,11 +1,12 @@
 -- The run through self and the parameters. Assumes nothing.
 use Prim.Native.Nat.{ℕ, _+_, _≤_, _<_}
 use native.Mathlib.Omega.{arith}
-use mathlib.Core.Path.{_≡_, refl, sym, _∙_, subst}
+use mathlib.Core.Path.{_≡_, refl, sym, ap, subst}
 use mathlib.Core.Logic.{inl}
-use mathlib.Core.Bool.{true, not, false≢true, true≢false}
+use mathlib.Core.Bool.{Bool, true, false, not, _&&_, false≢true}
+use mathlib.Core.Option.{Option, none, some}
 use mathlib.Core.List.{List, [], _∷_, _++_}
-use borrow.Author.Tests.{eq-eqb, ltb-true}
+use borrow.Author.Tests.{eqb-true, ltb-true}
 use lib.Dec.{ltb}
 use lib.ListN.{length, getD, length-append}
 use Rattle.refusals.specs.Refusals.{Result}
@@ -13,6 +14,7 @@ use Rattle.refusals.specs.Refusals.{ok as done}
 use Rattle.image.specs.declared.BindingId.{BindingId}
 use Rattle.image.specs.Tables.{typeCount, bindingCount}
 use Rattle.image.specs.Lists.{member, distinct}
+use Rattle.image.specs.Tree.{tree}
 use Rattle.image.proofs.Bools.{and-left, and-right}
 use Rattle.mir.specs.declared.BasicBlockId.{BasicBlockId}
 use Rattle.lower.specs.declared.merging.OptBlock.{OptBlock}
@@ -20,21 +22,21 @@ use Rattle.views.specs.Views.{Line, Mir, mirOf}
 use Rattle.views.specs.Growing.{GoesOn}
 use Rattle.pattern_matching.specs.Walking.{Ctx, Out, ok, withState}
 use Rattle.lowered_params.specs.declared.SelfParam.{SelfParam}
-use Rattle.lowered_params.specs.Params.{Param, Declared, ParamsOut, declare, selfCount, lowerSelf, lowerParams, lowerParamsAndBindings}
-use Rattle.lowered_params.specs.Calls.{selfNamed}
+use Rattle.lowered_params.specs.Params.{Param, Declared, ParamsOut, declare, plainBinding, selfCount, lowerParams, lowerParamsAndBindings}
+use Rattle.lowered_params.specs.Calls.{selfNamed, bindsReceiver, noneBindsReceiver}
 use Rattle.growth.specs.Opened.{Starts}
 use Rattle.growth.proofs.Opening.{adds-words}
 use Rattle.growth.proofs.Leaving.{leaves-lines}
-use Rattle.growth.proofs.Walks.{ok-is}
 use Rattle.growth.proofs.OpenBlocks.{leaves-goes-on}
 use Rattle.meaning.specs.Values.{Value}
 use Rattle.meaning.specs.Running.{Env}
+use Rattle.meaning.specs.Fit.{boundIn}
 use Rattle.correctness.proofs.Trails.{distinct-of}
 use Rattle.correctness.proofs.Walking.{rest, rest-same}
-use Rattle.correctness.proofs.BindingNames.{not-and}
+use Rattle.correctness.proofs.BindingNames.{not-and, names, member-left, member-right}
 use Rattle.param_runs.specs.Through.{paramsFit, allFit, paramsBind, boundBy, paramsBound, bindingsDiffer, HeldFrom, Through, madeCount, Handed, ComesThrough}
-use Rattle.param_runs.proofs.Owning.{unchanged, self-case}
-use Rattle.param_runs.proofs.Declaring.{selfTypes, paramTypes, NotBound, AllMade, all-made}
+use Rattle.param_runs.proofs.Plain.{plain-named}
+use Rattle.param_runs.proofs.Declaring.{selfTypes, paramTypes, Apart, AllMade, all-made}
 use Rattle.param_runs.proofs.Stepping.{Steps, steps}
 use Rattle.param_runs.proofs.OpenBlocks.{params-open}
 use Rattle.param_runs.proofs.Typing.{typed-made}
@@ -42,10 +44,31 @@ use Rattle.param_runs.proofs.Words.{words-hold}
 use Rattle.param_runs.proofs.Holding.{small-from}
 use Rattle.param_runs.proofs.Through.{Passed, passed-own, params-pass}
 
--- self's binding is there, and no parameter's
-self-apart : (image : List ℕ) (b : BindingId) (ty : ℕ) (params : List Param) → bindingsDiffer image (SelfParam.Some b ty) params ≡ true → NotBound image params (b .0)
+-- a parameter that is a plain `x` of a binding names it
+binds-is : (b : ℕ) (o : Option ℕ) → bindsReceiver b o ≡ true → o ≡ some b
+unfolding bindsReceiver
+binds-is b none e = absurd (false≢true e)
+binds-is b (some x) e = ap some (eqb-true x b e)
+
+-- a binding that stands in no parameter: none is a plain `x` of it
+unnamed-apart : (image : List ℕ) (params : List Param) (b : ℕ) → (member b (paramsBound image params) ≡ true → ⊥) → Apart image params b
+unfolding noneBindsReceiver paramsBound
+unnamed-apart image [] b n = refl
+unnamed-apart image (q ∷ qs) b n =
+    by (bindsReceiver b (plainBinding (tree image (q .pattern)))) refl
+    (unnamed-apart image qs b (λ m. n (member-right b (names (boundIn image (tree image (q .pattern)))) (paramsBound image qs) m)))
+  where
+    by : (t : Bool) → bindsReceiver b (plainBinding (tree image (q .pattern))) ≡ t → noneBindsReceiver image b qs ≡ true → not t && noneBindsReceiver image b qs ≡ true
+    by true e others =
+        absurd (n (member-left b (names (boundIn image (tree image (q .pattern)))) (paramsBound image qs)
+        (plain-named image (tree image (q .pattern)) b (binds-is b (plainBinding (tree image (q .pattern))) e))))
+    by false e others = others
+
+-- self's stands in none
+self-apart : (image : List ℕ) (b : BindingId) (ty : ℕ) (params : List Param) → bindingsDiffer image (SelfParam.Some b ty) params ≡ true → Apart image params (b .0)
 unfolding distinct
-self-apart image b ty params e = not-and (member (b .0) (paramsBound image params)) (and-left (not (member (b .0) (paramsBound image params))) (distinct (paramsBound image params)) e)
+self-apart image b ty params e =
+    unnamed-apart image params (b .0) (not-and (member (b .0) (paramsBound image params)) (and-left (not (member (b .0) (paramsBound image params))) (distinct (paramsBound image params)) e))
 
 -- those of the parameters differ
 params-differ : (image : List ℕ) (self : SelfParam) (params : List Param) → bindingsDiffer image self params ≡ true → distinct (paramsBound image params) ≡ true
@@ -57,13 +80,6 @@ params-differ image (SelfParam.Some b ty) params e = and-right (not (member (b .
 self-there : (image : List ℕ) (b : BindingId) (ty : ℕ) → selfNamed image (SelfParam.Some b ty) ≡ true → b .0 < bindingCount image
 unfolding selfNamed
 self-there image b ty e = ltb-true (b .0) (bindingCount image) (and-left (ltb (b .0) (bindingCount image)) (ltb ty (typeCount image)) e)
-
--- self needs nothing where its binding's local is its own
-self-unchanged : (image bindings : List ℕ) (b : BindingId) (ty l : ℕ) (ctx : Ctx) (current : BasicBlockId) (r : Out) → getD bindings (b .0) 65535 ≡ l →
-    lowerSelf image bindings (SelfParam.Some b ty) l ctx current ≡ ok r → r ≡ unchanged ctx current
-self-unchanged image bindings b ty l ctx current r own e =
-    self-case image bindings l ctx current (λ r. r ≡ unchanged ctx current) r b ty (λ is. refl)
-    (λ r₁ other e₁. absurd (true≢false (sym (eq-eqb l (getD bindings (b .0) 65535) (sym own)) ∙ other))) e
 
 -- a type for each parameter
 types-count : (qs : List Param) → length (paramTypes qs) ≡ length qs
@@ -82,12 +98,12 @@ module _ (image : List ℕ) (params : List Param) (bindings : List ℕ) (ctx : C
   first = length (ctx .state .locals)
 
   -- the parameters, behind self
-  behind-self : (self : SelfParam) (vs : List Value) (r : Out) → Handed image self params bindings ctx current → AllMade image self params (record { state = ctx .state; bindings = bindings }) made →
-      r ≡ unchanged started current → lowerParams image (made .bindings) params (first + selfCount self) (r .ctx) (r .then) ≡ ok last →
+  behind-self : (self : SelfParam) (vs : List Value) → Handed image self params bindings ctx current → AllMade image self params (record { state = ctx .state; bindings = bindings }) made →
+      lowerParams image (made .bindings) params (first + selfCount self) started current ≡ ok last →
       paramsFit image (made .bindings) (ctx .discr) params (first + selfCount self) vs ≡ true → bindingsDiffer image self params ≡ true → HeldFrom env (first + selfCount self) vs →
       Starts started current OptBlock.None →
       Passed image (made .bindings) M started (current .0) env (first + selfCount self) vs (paramsBind image params (first + selfCount self) vs) (last .ctx) (last .then .0)
-  behind-self self vs r handed m is e fit differ held starts =
+  behind-self self vs handed m e fit differ held starts =
       let typed = typed-made self params (m .others) (m .makes) in
       let few : 0 < length params → length (made .state .locals) ≤ 512 = λ h.
       let a = length-append (selfTypes self) (paramTypes params ++ m .others) in
@@ -96,29 +112,26 @@ module _ (image : List ℕ) (params : List Param) (bindings : List ℕ) (ctx : C
       m .makes .few (omega (arith, a, b, c)) in
       params-pass image (made .bindings) M (handed .image-valid) (handed .image-bytes) params (first + selfCount self) vs started current env last (handed .params-named) starts typed
       (small-from (made .state .locals) (first + selfCount self) params few typed) (m .words (words-hold bindings (bindingCount image) (ctx .state) (handed .bindings-hold) .below)) fit
-      (params-differ image self params differ) held
-      (subst (λ (r : Out). lowerParams image (made .bindings) params (first + selfCount self) (r .ctx) (r .then) ≡ ok last) is e) onward
+      (params-differ image self params differ) held e onward
 
-  -- self, and then the parameters
-  passes : (self : SelfParam) (vs : List Value) (r : Out) → Handed image self params bindings ctx current → AllMade image self params (record { state = ctx .state; bindings = bindings }) made →
-      lowerSelf image (made .bindings) self first started current ≡ ok r → lowerParams image (made .bindings) params (first + selfCount self) (r .ctx) (r .then) ≡ ok last →
+  -- self, whose binding has its own local, and then the parameters
+  passes : (self : SelfParam) (vs : List Value) → Handed image self params bindings ctx current → AllMade image self params (record { state = ctx .state; bindings = bindings }) made →
+      lowerParams image (made .bindings) params (first + selfCount self) started current ≡ ok last →
       allFit image (made .bindings) (ctx .discr) self params first vs ≡ true → bindingsDiffer image self params ≡ true → HeldFrom env first vs → Starts started current OptBlock.None →
       Passed image (made .bindings) M started (current .0) env first vs (boundBy image self params first vs) (last .ctx) (last .then .0)
-  unfolding lowerSelf allFit boundBy selfCount
-  passes SelfParam.None vs r handed m e e₁ fit differ held starts =
+  unfolding allFit boundBy selfCount
+  passes SelfParam.None vs handed m e fit differ held starts =
       let none : first ≡ first + 0 = omega arith in
       subst (λ (l : ℕ). Passed image (made .bindings) M started (current .0) env l vs (paramsBind image params l vs) (last .ctx) (last .then .0)) (sym none)
-      (behind-self SelfParam.None vs r handed m (sym (ok-is e)) e₁ (subst (λ (l : ℕ). paramsFit image (made .bindings) (ctx .discr) params l vs ≡ true) none fit) differ
+      (behind-self SelfParam.None vs handed m e (subst (λ (l : ℕ). paramsFit image (made .bindings) (ctx .discr) params l vs ≡ true) none fit) differ
       (subst (λ (l : ℕ). HeldFrom env l vs) none held) starts)
-  passes (SelfParam.Some b ty) [] r handed m e e₁ fit differ held starts = absurd (false≢true fit)
-  passes (SelfParam.Some b ty) (v ∷ vs) r handed m e e₁ fit differ held starts =
+  passes (SelfParam.Some b ty) [] handed m e fit differ held starts = absurd (false≢true fit)
+  passes (SelfParam.Some b ty) (v ∷ vs) handed m e fit differ held starts =
       let words = words-hold bindings (bindingCount image) (ctx .state) (handed .bindings-hold) in
       let there = self-there image b ty (handed .self-named) in
       let own = m .own (omega (arith, words .long, there)) (self-apart image b ty params differ) in
-      let same = self-unchanged image (made .bindings) b ty first started current r own e in
-      let o = params-open image (made .bindings) params (first + 1) started current last starts
-      (subst (λ (r : Out). lowerParams image (made .bindings) params (first + 1) (r .ctx) (r .then) ≡ ok last) same e₁) in
-      passed-own image (made .bindings) M (b .0) (starts .inside) own (held .0) (behind-self (SelfParam.Some b ty) vs r handed m same e₁ fit differ (held .1) starts) (o .worked .blocks)
+      let o = params-open image (made .bindings) params (first + 1) started current last starts e in
+      passed-own image (made .bindings) M (b .0) (starts .inside) own (held .0) (behind-self (SelfParam.Some b ty) vs handed m e fit differ (held .1) starts) (o .worked .blocks)
       (leaves-goes-on starts o) (inl (o .ready .opened))
 
 -- a run through values from where the parameters start, as it is stated
@@ -163,5 +176,5 @@ module _ (image : List ℕ) (self : SelfParam) (params : List Param) (bindings :
 
       runs : Runs (record { ctx = s .end .ctx; then = s .end .then; bindings = s .made .bindings })
       runs onward fit =
-          let p = passes image params bindings ctx current M (s .made) (s .end) env onward self vs (s .behind) handed m (s .self-lowered) (s .params-lowered) fit differ held starts in
+          let p = passes image params bindings ctx current M (s .made) (s .end) env onward self vs handed m (s .params-lowered) fit differ held starts in
           finish image self params bindings ctx current M vs env (s .made) (s .end) (s .declared) (m .makes .statements) p

@@ -1,4 +1,4 @@
--- The steps of an accepted call: the locals are made, and then self and the parameters are lowered. Assumes nothing.
+-- The steps of an accepted call: the locals are made, and then the parameters are lowered. Assumes nothing.
 use Prim.Native.Nat.{ℕ, _+_}
 use mathlib.Core.Path.{_≡_, refl, sym}
 use mathlib.Core.List.{List}
@@ -8,17 +8,15 @@ use Rattle.refusals.specs.Refusals.{ok as done, refused as stopped}
 use Rattle.mir.specs.declared.BasicBlockId.{BasicBlockId}
 use Rattle.pattern_matching.specs.Walking.{Ctx, Out, Walk, ok, step, withState}
 use Rattle.lowered_params.specs.declared.SelfParam.{SelfParam}
-use Rattle.lowered_params.specs.Params.{Param, Declared, ParamsOut, declare, selfCount, lowerSelf, lowerParams, lowerAll, lowerParamsAndBindings}
+use Rattle.lowered_params.specs.Params.{Param, Declared, ParamsOut, declare, selfCount, lowerParams, lowerAll, lowerParamsAndBindings}
 use Rattle.growth.proofs.Walks.{not-ok, ok-is, walked}
 
 -- what each step gave
 pub record Steps (image : List ℕ) (self : SelfParam) (params : List Param) (bindings : List ℕ) (ctx : Ctx) (current : BasicBlockId) (r : ParamsOut) : Type 0 where
   pub made : Declared
   pub declared : declare image self params (record { state = ctx .state; bindings = bindings }) ≡ done made
-  pub behind : Out
-  pub self-lowered : lowerSelf image (made .bindings) self (length (ctx .state .locals)) (withState ctx (made .state)) current ≡ ok behind
   pub end : Out
-  pub params-lowered : lowerParams image (made .bindings) params (length (ctx .state .locals) + selfCount self) (behind .ctx) (behind .then) ≡ ok end
+  pub params-lowered : lowerParams image (made .bindings) params (length (ctx .state .locals) + selfCount self) (withState ctx (made .state)) current ≡ ok end
   pub is : r ≡ record { ctx = end .ctx; then = end .then; bindings = made .bindings }
 
 -- a step, and what followed it
@@ -32,6 +30,5 @@ pub steps : (image : List ℕ) (self : SelfParam) (params : List Param) (binding
 unfolding lowerParamsAndBindings lowerAll
 steps image self params bindings ctx current r e =
     stepped noPattern (declare image self params (record { state = ctx .state; bindings = bindings })) _ e (λ d e₁ e₂.
-    walked (lowerSelf image (d .bindings) self (length (ctx .state .locals)) (withState ctx (d .state)) current) _ e₂ (λ r₁ e₃ e₄.
-    walked (lowerParams image (d .bindings) params (length (ctx .state .locals) + selfCount self) (r₁ .ctx) (r₁ .then)) _ e₄ (λ r₂ e₅ e₆.
-    record { made = d; declared = e₁; behind = r₁; self-lowered = e₃; end = r₂; params-lowered = e₅; is = sym (ok-is e₆) })))
+    walked (lowerParams image (d .bindings) params (length (ctx .state .locals) + selfCount self) (withState ctx (d .state)) current) _ e₂ (λ r₁ e₃ e₄.
+    record { made = d; declared = e₁; end = r₁; params-lowered = e₃; is = sym (ok-is e₄) }))

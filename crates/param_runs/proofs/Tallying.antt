@@ -6,36 +6,31 @@ use mathlib.Core.Path.{_≡_, refl, sym, ap, _∙_}
 use mathlib.Core.Bool.{Bool, false, _||_, or-assoc, or-false}
 use mathlib.Core.List.{List, [], _++_}
 use lib.ListN.{length, getD, length-append, List·getD-append}
-use Rattle.refusals.specs.Refusals.{noPattern}
-use Rattle.image.specs.declared.kinds.BindingMode.{BindingMode}
 use Rattle.image.specs.Tree.{Pat}
-use Rattle.place.specs.declared.LocalId.{LocalId}
 use Rattle.place.specs.declared.Place.{Place}
 use Rattle.mir.specs.declared.BasicBlockId.{BasicBlockId}
 use Rattle.mir.specs.declared.blocks.Terminator.{Terminator}
 use Rattle.lower.specs.declared.temps.DiscrTemp.{DiscrTemp}
 use Rattle.lower.specs.declared.merging.OptBlock.{OptBlock}
 use Rattle.state.specs.State.{State}
-use Rattle.pattern_matching.specs.Walking.{Ctx, Out, ok, withState, localPlace}
+use Rattle.pattern_matching.specs.Walking.{Ctx, Out, ok, withState}
 use Rattle.pattern_matching.specs.Variants.{placeTy}
-use Rattle.pattern_matching.specs.Patterns.{patternMatch, matchSelfParam}
+use Rattle.pattern_matching.specs.Patterns.{patternMatch}
 use Rattle.lowered_params.specs.Params.{shutElse}
 use Rattle.counting.specs.Reaching.{Reached}
 use Rattle.counting.specs.Counting.{total, reachedFrom, visitsOf, newBlocks, statementsOf, someEnum, discrMade}
-use Rattle.counting.proofs.Going.{block, statement, visit}
 use Rattle.counting.proofs.Building.{built-terminator}
 use Rattle.counting.proofs.Stepping.{has, discr-once}
 use Rattle.counting.proofs.Passing.{total-append, some-append}
-use Rattle.counting.proofs.Binding.{holds-binding}
 use Rattle.counting.proofs.Whole.{counted, stepped}
 use Rattle.param_runs.proofs.Shutting.{shutOut}
 use Rattle.param_runs.proofs.Declaring.{Makes}
 
--- from c to c′ so many blocks are new, so many statements and those of the patterns reached, and their visits; the locals stay, and a discriminant local is there
+-- from c to c′ so many blocks are new, the statements of the patterns reached, and their visits; the locals stay, and a discriminant local is there
 -- where one was or an enum is tested
-pub record Tally (c c′ : Ctx) (b s : ℕ) (rs : List Reached) : Type 0 where
+pub record Tally (c c′ : Ctx) (b : ℕ) (rs : List Reached) : Type 0 where
   pub blocks : length (c′ .state .blocks) ≡ length (c .state .blocks) + b
-  pub statements : length (c′ .state .statements) ≡ length (c .state .statements) + (s + (total statementsOf rs + discrMade (someEnum rs) (c .discr)))
+  pub statements : length (c′ .state .statements) ≡ length (c .state .statements) + (total statementsOf rs + discrMade (someEnum rs) (c .discr))
   pub visits : (n : ℕ) → n < length (c .visits) → getD (c′ .visits) n 0 ≡ getD (c .visits) n 0 + visitsOf n rs
   pub listed : length (c′ .visits) ≡ length (c .visits)
   pub discr : has (c′ .discr) ≡ (has (c .discr) || someEnum rs)
@@ -48,7 +43,7 @@ unfolding visitsOf
 visits-append n rs rs′ = total-append _ rs rs′
 
 -- one step after another
-pub tally-seq : {c c₁ c₂ : Ctx} {b s b′ s′ : ℕ} {rs rs′ : List Reached} → Tally c c₁ b s rs → Tally c₁ c₂ b′ s′ rs′ → Tally c c₂ (b + b′) (s + s′) (rs ++ rs′)
+pub tally-seq : {c c₁ c₂ : Ctx} {b b′ : ℕ} {rs rs′ : List Reached} → Tally c c₁ b rs → Tally c₁ c₂ b′ rs′ → Tally c c₂ (b + b′) (rs ++ rs′)
 tally-seq {c} {c₁} {rs} {rs′} f g =
     record {
       blocks = omega (arith, f .blocks, g .blocks);
@@ -72,7 +67,7 @@ plain-made DiscrTemp.None = refl
 plain-made (DiscrTemp.Some l) = refl
 
 -- a state with other locals behind those that there were
-pub tally-locals : (c : Ctx) (st : State) (types : List ℕ) → Makes (c .state) types st → Tally c (withState c st) 0 0 []
+pub tally-locals : (c : Ctx) (st : State) (types : List ℕ) → Makes (c .state) types st → Tally c (withState c st) 0 []
 unfolding total someEnum visitsOf
 tally-locals c st types m =
     record {
@@ -86,7 +81,7 @@ tally-locals c st types m =
     }
 
 -- nothing done
-pub tally-none : (c : Ctx) → Tally c c 0 0 []
+pub tally-none : (c : Ctx) → Tally c c 0 []
 unfolding total someEnum visitsOf
 tally-none c =
     record {
@@ -100,7 +95,7 @@ tally-none c =
     }
 
 -- an else that is shut is no block more
-tally-shut : {c c′ : Ctx} {b s : ℕ} {rs : List Reached} (els : OptBlock) → Tally c c′ b s rs → Tally c (shutElse c′ els) b s rs
+tally-shut : {c c′ : Ctx} {b : ℕ} {rs : List Reached} (els : OptBlock) → Tally c c′ b rs → Tally c (shutElse c′ els) b rs
 unfolding shutElse
 tally-shut OptBlock.None f = f
 tally-shut {c′} (OptBlock.Some e) f =
@@ -116,25 +111,9 @@ tally-shut {c′} (OptBlock.Some e) f =
     }
 
 module _ (image bindings : List ℕ) (ctx : Ctx) (current : BasicBlockId) (r : Out) where
-  -- self, where it is lowered: two statements
-  pub tally-self : (b : ℕ) (l : LocalId) → matchSelfParam image bindings b ctx current l ≡ ok r → Tally ctx (shutOut r .ctx) 0 2 []
-  unfolding matchSelfParam total someEnum visitsOf
-  tally-self b l e =
-      let s = holds-binding bindings noPattern noPattern b BindingMode.Value ctx current OptBlock.None (localPlace l) .at r e in
-      tally-shut (r .else)
-      record {
-        blocks = omega (arith, s .went .sizes block tt);
-        statements = omega (arith, s .went .sizes statement tt, plain-made (ctx .discr));
-        visits = λ n i. omega (arith, s .went .sizes (visit n) i);
-        listed = s .went .listed;
-        discr = s .discr;
-        locals = s .went .locals;
-        kept = s .went .kept;
-      }
-
   -- a pattern that is lowered: what document 01 counts of it
   pub tally-pattern : (pat : Pat) (place : Place) → place .local .0 < length (ctx .state .locals) → length (place .elems) ≡ 16 → patternMatch image bindings pat ctx current OptBlock.None place ≡ ok r →
-      Tally ctx (shutOut r .ctx) (newBlocks image pat (placeTy image (ctx .state) place) OptBlock.None) 0 (reachedFrom image pat (placeTy image (ctx .state) place))
+      Tally ctx (shutOut r .ctx) (newBlocks image pat (placeTy image (ctx .state) place) OptBlock.None) (reachedFrom image pat (placeTy image (ctx .state) place))
   unfolding Rattle.counting.specs.Counting.newStatements
   tally-pattern pat place rooted whole e =
       let c = counted image bindings pat ctx current OptBlock.None place r rooted whole e in

@@ -1,9 +1,9 @@
 -- The start of the corners on parameters, block 0 open and one scope open, with no local yet, and what parameters come to from there.
 -- Assumes nothing: these are definitions.
 use Prim.Native.Nat.{ℕ}
-use mathlib.Core.Bool.{Bool, _&&_}
+use mathlib.Core.Bool.{Bool, cond, _&&_}
 use mathlib.Core.List.{List, [], _∷_, map}
-use Rattle.refusals.specs.Refusals.{Refusal, refusalAt}
+use Rattle.refusals.specs.Refusals.{Refusal, breaksARule, refusalAt}
 use Rattle.row_tables.specs.Rows.{zeros}
 use Rattle.image.specs.Tables.{patternCount, bindingCount}
 use Rattle.image.specs.Lists.{upFrom}
@@ -13,6 +13,7 @@ use Rattle.views.specs.Views.{Mir, mirOf}
 use Rattle.pattern_matching.specs.Walking.{Ctx, Walk, ok, refused}
 use Rattle.lowered_params.specs.declared.SelfParam.{SelfParam}
 use Rattle.lowered_params.specs.Params.{Param, ParamsOut, lowerParamsAndBindings}
+use Rattle.lowered_params.specs.Calls.{receiverApart}
 use Rattle.meaning.specs.Values.{Value}
 use Rattle.param_runs.specs.Through.{allFit, bindingsDiffer}
 
@@ -35,9 +36,10 @@ abbrev pub answerOf : Walk ParamsOut → Answer
 answerOf (ok r) = accepted (r .then) (r .bindings) (mirOf (r .ctx .state)) (r .ctx .visits)
 answerOf (refused e p) = refusal (refusalAt e p)
 
--- a list of parameters, lowered from there
+-- a list of parameters, lowered from there, or refused where one is self's binding again
 unfoldable pub answer : List ℕ → SelfParam → List Param → Answer
-answer image self params = answerOf (lowerParamsAndBindings image self params (unbound image) (start image) (record { 0 = 0 }))
+answer image self params =
+    cond (receiverApart image self params) (answerOf (lowerParamsAndBindings image self params (unbound image) (start image) (record { 0 = 0 }))) (refusal breaksARule)
 
 -- a corner: an image, self, the parameters, and the answer that is wanted; values for self and the parameters, and whether these fit
 pub record Row : Type 0 where

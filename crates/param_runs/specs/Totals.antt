@@ -3,7 +3,6 @@ use Prim.Native.Nat.{ℕ, _+_, _<_}
 use mathlib.Core.Path.{_≡_}
 use mathlib.Core.Bool.{cond}
 use mathlib.Core.List.{List, [], _∷_, _++_}
-use lib.Dec.{eqb}
 use lib.ListN.{length, getD}
 use Rattle.image.specs.Tree.{tree}
 use Rattle.place.specs.declared.place_ty.PlaceTy.{PlaceTy}
@@ -33,11 +32,6 @@ module _ (image bindings : List ℕ) where
   unfoldable pub paramsStatements : List Param → ℕ → DiscrTemp → ℕ
   paramsStatements qs l discr = total statementsOf (paramsReached qs l) + discrMade (someEnum (paramsReached qs l)) discr
 
--- self, where it is lowered, is copied: no block and two statements
-unfoldable pub selfStatements : List ℕ → SelfParam → ℕ → ℕ
-selfStatements bindings SelfParam.None l = 0
-selfStatements bindings (SelfParam.Some b ty) l = cond (eqb l (getD bindings (b .0) 65535)) 0 2
-
 -- the local of the first parameter: behind self's, if there is one, which is the next one when the call comes
 abbrev pub firstLocal : SelfParam → Ctx → ℕ
 firstLocal self ctx = length (ctx .state .locals) + selfCount self
@@ -46,7 +40,6 @@ firstLocal self ctx = length (ctx .state .locals) + selfCount self
 pub record ParamsCounted (image : List ℕ) (self : SelfParam) (params : List Param) (ctx : Ctx) (r : ParamsOut) : Type 0 where
   -- the new blocks and statements are the totals of the lowered parameters' counts
   pub blocks : length (r .ctx .state .blocks) ≡ length (ctx .state .blocks) + paramsBlocks image (r .bindings) params (firstLocal self ctx)
-  pub statements : length (r .ctx .state .statements) ≡
-      length (ctx .state .statements) + (selfStatements (r .bindings) self (length (ctx .state .locals)) + paramsStatements image (r .bindings) params (firstLocal self ctx) (ctx .discr))
+  pub statements : length (r .ctx .state .statements) ≡ length (ctx .state .statements) + paramsStatements image (r .bindings) params (firstLocal self ctx) (ctx .discr)
   -- and so are the visits to each pattern
   pub visits : (n : ℕ) → n < length (ctx .visits) → getD (r .ctx .visits) n 0 ≡ getD (ctx .visits) n 0 + visitsOf n (paramsReached image (r .bindings) params (firstLocal self ctx))

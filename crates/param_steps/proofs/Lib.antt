@@ -1,4 +1,3 @@
 mod Telling
 mod Keeping
 pub mod Unreached
-pub mod Receiving

@@ -20,7 +20,7 @@ use Rattle.pattern_matching.specs.Walking.{Out, Walk, step}
 use Rattle.pattern_parts.specs.Parts.{isBind}
 use Rattle.pattern_nodes.proofs.There.{bind-there}
 use Rattle.lowered_params.specs.Params.{unlessBound, unlessOwn}
-use Rattle.param_locals.proofs.Plain.{bind-number}
+use Rattle.param_lists.proofs.Plain.{bind-number}
 use Rattle.param_steps.specs.declared.owning.Owned.{Owned}
 use Rattle.param_steps.specs.Owning.{TellsBinding, TellsParam}
 

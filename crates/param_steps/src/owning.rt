@@ -22,7 +22,7 @@ pub enum Owned {
 }
 
 // Whether the local of the binding b is l.
-pub fn binding_owned(bindings: &[u16], b: BindingId, l: LocalId) -> Owned
+fn binding_owned(bindings: &[u16], b: BindingId, l: LocalId) -> Owned
     requires { ⌜ b .0 < length (now bindings) ⌝ }
     ensures { λ r. ⌜ TellsBinding (now (bindings .entry)) (b .0) (l .0) r ⌝ }
 {

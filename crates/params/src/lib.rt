@@ -1,6 +1,6 @@
 // `lower_params_and_bindings`: every image, list, body and number is taken, or refused by document 01's number. Numbers 1 and 2 write nothing; any other refusal leaves what
 // lies below the counts and the bindings' locals as found, and zeros above.
-pub mod lowering; // lowering.rt: self and the parameters, on values that were looked at
+pub mod lowering; // lowering.rt: the parameters, on values that were looked at
 
 use image::Tables;
 use lower::temps::DiscrTemp;
@@ -76,7 +76,7 @@ fn params_step(
     }
 }
 
-// The locals of self, of the parameters and of the other bindings are made, and self and the parameters are lowered from the block `current` on. `params` has two words for
+// The locals of self, of the parameters and of the other bindings are made, and the parameters are lowered from the block `current` on. `params` has two words for
 // each parameter, its pattern and its type; `visits` counts how often each pattern was visited.
 pub fn lower_params_and_bindings(
     image: &[u8],

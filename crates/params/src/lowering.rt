@@ -1,4 +1,4 @@
-// Self and the parameters: their locals are made, and then each is lowered in order.
+// The locals of self and of the parameters are made, and then each parameter is lowered in order.
 use image::PatId;
 use image::Tables;
 use lower::merging::OptBlock;
@@ -9,7 +9,6 @@ use mir::Counts;
 use param_locals::declaring::declare;
 use param_steps::owning::Owned;
 use param_steps::owning::param_owned;
-use param_steps::shutting::lower_self;
 use param_steps::shutting::self_count;
 use param_steps::shutting::shut;
 use pattern_calls::steps::check_and_bind;
@@ -133,7 +132,7 @@ fn lower_params(
     Lowered::Done(c, d, here, OptBlock::None)
 }
 
-// The locals are made; then self is lowered, and the parameters behind it.
+// The locals are made, and then the parameters are lowered: self's binding has self's own local.
 pub fn walk_params(
     image: &[u8],
     tables: Tables,
@@ -163,33 +162,20 @@ pub fn walk_params(
         words,
     ) {
         Stepped::Refused(e) => Lowered::Refused(e, PatId(65535)),
-        Stepped::Now(c1) => match lower_self(
+        Stepped::Now(c1) => lower_params(
+            image,
+            tables,
             bindings,
             blocks,
             statements,
+            locals,
             entries,
+            visits,
             c1,
             discr,
-            receiver,
-            LocalId(counts.locals),
+            words,
+            counts.locals + self_count(receiver),
             current,
-        ) {
-            Lowered::Refused(e, q) => Lowered::Refused(e, q),
-            Lowered::Done(c2, d2, then, other) => lower_params(
-                image,
-                tables,
-                bindings,
-                blocks,
-                statements,
-                locals,
-                entries,
-                visits,
-                c2,
-                d2,
-                words,
-                counts.locals + self_count(receiver),
-                then,
-            ),
-        },
+        ),
     }
 }

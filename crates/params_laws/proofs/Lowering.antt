@@ -25,7 +25,7 @@ use Rattle.walks.proofs.Sequences.{lowers-skips, lowers-refuses, lowers-walks, 
 use Rattle.walking.specs.Walk.{Walkable}
 use Rattle.lowered_params.specs.Params.{shut, lowerParam, lowerParams}
 use Rattle.lowered_params.specs.Calls.{paramsFrom, paramCount, paramsOf}
-use Rattle.param_locals.proofs.Listing.{params-none, params-more, Listed, list-taken, listed-behind}
+use Rattle.param_lists.proofs.Listing.{params-none, params-more, Listed, list-taken, listed-behind}
 use Rattle.param_steps.specs.declared.owning.Owned.{Owned}
 use Rattle.param_steps.specs.Owning.{TellsParam}
 use Rattle.param_steps.specs.Shutting.{shutAnswer, shutBlocks}
@@ -69,7 +69,7 @@ any-onward : (c : Counts) (current : BasicBlockId) (els : OptBlock) (r : Lowered
 any-onward c current els (Lowered.Done c₁ d then els₁) O = record { own = O .own; own-else = any-own c els els₁ (O .own-else); begins = O .begins }
 any-onward c current els (Lowered.Refused e p) O = tt
 
-pub any-else : {defined : Ctx → Walk Out} {c : Counts} {discr : DiscrTemp} {current : BasicBlockId} {els : OptBlock} {t₀ : Lent} {v₀ : List ℕ} {r : Lowered} {t : Lent} {v : List ℕ} →
+any-else : {defined : Ctx → Walk Out} {c : Counts} {discr : DiscrTemp} {current : BasicBlockId} {els : OptBlock} {t₀ : Lent} {v₀ : List ℕ} {r : Lowered} {t : Lent} {v : List ℕ} →
     Walks defined c discr current OptBlock.None t₀ v₀ r t v → Walks defined c discr current els t₀ v₀ r t v
 any-else {c = c} {current = current} {els = els} {r = r} W = record { answers = W .answers; leaves = W .leaves; onward = any-onward c current els r (W .onward) }
 

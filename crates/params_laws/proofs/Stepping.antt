@@ -38,6 +38,7 @@ use Rattle.lowered_params.specs.declared.ParamsCall.{ParamsCall}
 use Rattle.lowered_params.specs.Params.{lowerParamsAndBindings}
 use Rattle.lowered_params.specs.Calls.{ParamsCalled, walked, paramsOf, selfNamed, paramsHold, GivesParams}
 use Rattle.param_locals.specs.Looking.{ParamsTaken}
+use Rattle.param_lists.proofs.Listing.{taken-formed}
 use Rattle.params_laws.specs.Walking.{Startable, WalksParams}
 
 -- the same by another name
@@ -114,7 +115,7 @@ module _ {image : List ℕ} {tables : Tables} {words : List ℕ} {self : SelfPar
         record {
           image-valid = T .both .valid-image;
           whole = T .both .whole;
-          list = T .list;
+          list = taken-formed image words self (T .list);
           receiver = self-held image self bindings (b .blocks) visits c discr current (T .call);
           locals-of-bindings = bindings-held image self bindings (b .blocks) visits c discr current (T .call);
           visits-sized = ap length no-visit ∙ length-zeros 512;

@@ -29,9 +29,9 @@ use Rattle.walks.specs.Answers.{lent, Primed}
 use Rattle.match_calls.proofs.Starting.{word-named}
 use Rattle.lowered_params.specs.declared.SelfParam.{SelfParam}
 use Rattle.lowered_params.specs.Params.{Param, Declared, paramLocal, plainBinding, boundTo, declareSelf, declareParam, declareParams, declareBinding, declareBindings, declare, selfCount}
-use Rattle.lowered_params.specs.Calls.{paramsFrom, paramCount, paramsOf, paramsNamed, listHolds}
+use Rattle.lowered_params.specs.Calls.{paramsFrom, paramCount, paramsOf, paramsNamed, listFormed}
 use Rattle.param_locals.specs.Declaring.{declaredOf, Declares}
-use Rattle.param_locals.proofs.Listing.{list-taken}
+use Rattle.param_lists.proofs.Listing.{list-taken}
 use Rattle.params_laws.specs.Walking.{LocalsPlaced}
 
 -- two steps that come to something: the first comes to `middle`
@@ -198,7 +198,7 @@ unfolding isTypeWord
 type-named image word h = word-named image word (rw (lt-ltb word (typeCount image) h))
 
 -- after all locals were made, each parameter's is there, with its type
-pub declared-placed : (image words : List ℕ) (self : SelfParam) {c c₁ : Counts} {b s m₀ l₀ e₀ m₁ l₁ e₁ : List ℕ} → listHolds image words ≡ true → Primed (lent b s l₀ e₀) c →
+pub declared-placed : (image words : List ℕ) (self : SelfParam) {c c₁ : Counts} {b s m₀ l₀ e₀ m₁ l₁ e₁ : List ℕ} → listFormed image words ≡ true → Primed (lent b s l₀ e₀) c →
     Declares (declare image self (paramsOf words)) c m₀ l₀ e₀ (Stepped.Now c₁) m₁ l₁ e₁ → LocalsPlaced image (lent b s l₁ e₁) c₁ (c .locals + selfCount self) (paramCount words)
 unfolding localPlace decode
 declared-placed image words self {c = c} {c₁ = c₁} {b = b} {s = s} {m₀ = m₀} {l₀ = l₀} {e₀ = e₀} {m₁ = m₁} {l₁ = l₁} {e₁ = e₁} list P D i h =

@@ -17,14 +17,14 @@ use Rattle.walks.specs.declared.Lowered.{Lowered}
 use Rattle.walks.specs.Answers.{Lent, bodyOf, Primed, Placed, ctxOf, loweredCounts, Holds}
 use Rattle.lowered_params.specs.declared.SelfParam.{SelfParam}
 use Rattle.lowered_params.specs.Params.{ParamsOut}
-use Rattle.lowered_params.specs.Calls.{paramCount, listHolds, selfNamed}
+use Rattle.lowered_params.specs.Calls.{paramCount, listFormed, selfNamed}
 
 -- what the lowering of self and the parameters asks for: a valid image, a list and a self that are taken, a local's word for each binding, the visits' table, and a
 -- body and a block where it may go on
 pub record Startable (image : List ℕ) (tables : Tables) (words : List ℕ) (self : SelfParam) (bindings : List ℕ) (t : Lent) (visits : List ℕ) (c : Counts) (current : BasicBlockId) : Type 0 where
   pub image-valid : valid image ≡ true
   pub whole : Whole image tables
-  pub list : listHolds image words ≡ true
+  pub list : listFormed image words ≡ true
   pub receiver : selfNamed image self ≡ true
   pub locals-of-bindings : length bindings ≡ bindingCount image
   pub visits-sized : length visits ≡ 512
@@ -39,7 +39,7 @@ LocalsPlaced image t c l n = (i : ℕ) → i < n → Placed image t c (localPlac
 pub record ParamsWalkable (image : List ℕ) (tables : Tables) (words bindings : List ℕ) (t : Lent) (visits : List ℕ) (c : Counts) (current : BasicBlockId) (l : ℕ) : Type 0 where
   pub image-valid : valid image ≡ true
   pub whole : Whole image tables
-  pub list : listHolds image words ≡ true
+  pub list : listFormed image words ≡ true
   pub locals-of-bindings : length bindings ≡ bindingCount image
   pub visits-sized : length visits ≡ 512
   pub primed : Primed t c

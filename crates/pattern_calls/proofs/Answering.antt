@@ -27,7 +27,8 @@ use Rattle.walks.specs.Answers.{Lent, lent, bodyOf, Walks}
 use Rattle.pattern_parts.specs.Parts.{Fills}
 use Rattle.handed.proofs.Handing.{Handed}
 use Rattle.match_calls.specs.declared.MatchCall.{MatchCall}
-use Rattle.match_calls.specs.Calls.{namedIn, walked, startCtx, Gives, Visits}
+use Rattle.match_calls.specs.declared.SelfCall.{SelfCall}
+use Rattle.match_calls.specs.Calls.{namedIn, walked, startCtx, Visits, GivesSelf}
 use Rattle.match_calls.proofs.Starting.{primed-of, visits-cleared}
 use Rattle.match_calls.proofs.Stepping.{accepted, refused-back, filled, not-filled}
 use Rattle.pattern_calls.proofs.Asking.{start-asked, blank-visits}
@@ -56,12 +57,12 @@ module _ (image bindings : List ℕ) (binding : ℕ) (current : BasicBlockId) (l
 
   pub self-matched : {c′ : Counts} {d : DiscrTemp} {then : BasicBlockId} {els′ : OptBlock} {s₂ e₂ : List ℕ} →
       Fills self c DiscrTemp.None current OptBlock.None s e (Lowered.Done c′ d then els′) s₂ e₂ →
-      Gives b c (walked (matchSelfParam image bindings binding (startCtx b c DiscrTemp.None) current l)) (MatchCall.Matched c′ d then els′) (body bl s₂ lo sc e₂)
+      GivesSelf b c (walked (matchSelfParam image bindings binding (startCtx b c DiscrTemp.None) current l)) (SelfCall.Matched c′ then els′) (body bl s₂ lo sc e₂)
   unfolding matchSelfParam
   self-matched F = filled self C (F bl lo (primed-of (lent bl s lo e) sc c (C .ready)))
 
   pub self-not-matched : {err : MirLowerError} {q : PatId} {s₂ e₂ : List ℕ} {b₃ : Body} → Fills self c DiscrTemp.None current OptBlock.None s e (Lowered.Refused err q) s₂ e₂ →
       b₃ ≡ encode (decode (body bl s₂ lo sc e₂) c) →
-      Gives b c (walked (matchSelfParam image bindings binding (startCtx b c DiscrTemp.None) current l)) (MatchCall.Refused err q) b₃
+      GivesSelf b c (walked (matchSelfParam image bindings binding (startCtx b c DiscrTemp.None) current l)) (SelfCall.Refused err q) b₃
   unfolding matchSelfParam
   self-not-matched F is = not-filled self C (F bl lo (primed-of (lent bl s lo e) sc c (C .ready))) is

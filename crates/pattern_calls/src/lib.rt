@@ -11,6 +11,7 @@ use lower::temps::DiscrTemp;
 use lower_calls::opening::Opened;
 use lower_calls::opening::open;
 use match_calls::MatchCall;
+use match_calls::SelfCall;
 use mir::BasicBlockId;
 use mir::Counts;
 use place::LocalId;
@@ -19,7 +20,7 @@ use steps::assignment_step;
 use steps::match_step;
 use steps::self_step;
 ghost use Rattle.state.specs.State.{body};
-ghost use Rattle.match_calls.specs.Calls.{patternMatchCall, patternMatchAssignmentCall, matchSelfParamCall, Gives, Visits};
+ghost use Rattle.match_calls.specs.Calls.{patternMatchCall, patternMatchAssignmentCall, matchSelfParamCall, Visits, GivesSelf};
 
 // The pattern p, tested and then bound from the block `current` on, against what lies at a place. `visits` counts how often each pattern was visited.
 pub fn pattern_match(
@@ -148,15 +149,15 @@ pub fn match_self_param(
     b: BindingId,
     current: BasicBlockId,
     l: LocalId,
-) -> MatchCall
-    ensures { λ r. ⌜ Gives (body (now (blocks .entry)) (now (statements .entry)) (now (locals .entry)) (now (scopes .entry)) (now (entries .entry))) counts (matchSelfParamCall (now (image .entry)) (now (bindings .entry)) (body (now (blocks .entry)) (now (statements .entry)) (now (locals .entry)) (now (scopes .entry)) (now (entries .entry))) counts (b .0) current l) r (body (now (blocks .exit)) (now (statements .exit)) (now (locals .exit)) (now (scopes .exit)) (now (entries .exit))) ⌝ }
+) -> SelfCall
+    ensures { λ r. ⌜ GivesSelf (body (now (blocks .entry)) (now (statements .entry)) (now (locals .entry)) (now (scopes .entry)) (now (entries .entry))) counts (matchSelfParamCall (now (image .entry)) (now (bindings .entry)) (body (now (blocks .entry)) (now (statements .entry)) (now (locals .entry)) (now (scopes .entry)) (now (entries .entry))) counts (b .0) current l) r (body (now (blocks .exit)) (now (statements .exit)) (now (locals .exit)) (now (scopes .exit)) (now (entries .exit))) ⌝ }
 {
     match open(image, blocks, statements, locals, scopes, entries, counts) {
-        Opened::BadImage => MatchCall::BadImage,
-        Opened::BadCall => MatchCall::BadCall,
+        Opened::BadImage => SelfCall::BadImage,
+        Opened::BadCall => SelfCall::BadCall,
         Opened::Image(tables) => {
             if !self_holds(tables, bindings, blocks, counts, b, current, l) {
-                return MatchCall::BadCall;
+                return SelfCall::BadCall;
             }
             self_step(
                 image,

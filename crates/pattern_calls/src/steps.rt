@@ -9,6 +9,7 @@ use lower_calls::opening::block_row;
 use lower_calls::opening::clear_above;
 use lower_calls::opening::put_back;
 use match_calls::MatchCall;
+use match_calls::SelfCall;
 use mir::BasicBlockId;
 use mir::Counts;
 use pattern_matching::MatchingMode;
@@ -31,7 +32,7 @@ ghost use Rattle.pattern_matching.specs.Patterns.{patternMatch, patternMatchAss
 ghost use Rattle.walks.specs.Answers.{lent, Walks};
 ghost use Rattle.walking.specs.Walk.{Walkable};
 ghost use Rattle.handed.specs.Handed.{matchHolds, selfHolds};
-ghost use Rattle.match_calls.specs.Calls.{namedIn, startCtx, walked, Gives, Visits};
+ghost use Rattle.match_calls.specs.Calls.{namedIn, startCtx, walked, Visits, GivesSelf};
 
 // The pattern is walked in Check, and then in Bind with the else that Check left.
 pub fn check_and_bind(
@@ -205,9 +206,9 @@ pub fn self_step(
     b: BindingId,
     current: BasicBlockId,
     l: LocalId,
-) -> MatchCall
+) -> SelfCall
     requires { ⌜ Taken (now image) tables (body (now blocks) (now statements) (now locals) (now scopes) (now entries)) counts × (selfHolds (namedIn (now image)) (now bindings) (now blocks) counts (b .0) current (l .0) ≡ true) ⌝ }
-    ensures { λ r. ⌜ Gives (body (now (blocks .entry)) (now (statements .entry)) (now (locals .entry)) (now (scopes .entry)) (now (entries .entry))) counts (walked (matchSelfParam (now (image .entry)) (now (bindings .entry)) (b .0) (startCtx (body (now (blocks .entry)) (now (statements .entry)) (now (locals .entry)) (now (scopes .entry)) (now (entries .entry))) counts DiscrTemp.None) current l)) r (body (now (blocks .exit)) (now (statements .exit)) (now (locals .exit)) (now (scopes .exit)) (now (entries .exit))) ⌝ }
+    ensures { λ r. ⌜ GivesSelf (body (now (blocks .entry)) (now (statements .entry)) (now (locals .entry)) (now (scopes .entry)) (now (entries .entry))) counts (walked (matchSelfParam (now (image .entry)) (now (bindings .entry)) (b .0) (startCtx (body (now (blocks .entry)) (now (statements .entry)) (now (locals .entry)) (now (scopes .entry)) (now (entries .entry))) counts DiscrTemp.None) current l)) r (body (now (blocks .exit)) (now (statements .exit)) (now (locals .exit)) (now (scopes .exit)) (now (entries .exit))) ⌝ }
 {
     clear_above(blocks, statements, locals, scopes, entries, counts);
     let whole = Place {
@@ -229,10 +230,10 @@ pub fn self_step(
         OptBlock::None,
         whole,
     ) {
-        Lowered::Done(c, d, then, other) => MatchCall::Matched(c, d, then, other),
+        Lowered::Done(c, d, then, other) => SelfCall::Matched(c, then, other),
         Lowered::Refused(e, q) => {
             clear_above(blocks, statements, locals, scopes, entries, counts);
-            MatchCall::Refused(e, q)
+            SelfCall::Refused(e, q)
         }
     }
 }

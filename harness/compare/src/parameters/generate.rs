@@ -84,10 +84,14 @@ pub fn fitting(rng: &mut Rng, slips: usize) -> Call {
     some(rng, count, slips).call()
 }
 
-/// Binds whose binding is that of another Bind or of self.
+/// Binds whose binding is that of another Bind or of self, which mostly is there.
 pub fn bound_again(rng: &mut Rng) -> Call {
     let count = rng.between(1, 5);
     let mut made = some(rng, count, 0);
+    if made.own.is_none() && rng.percent(60) {
+        let type_ = rng.row(made.m.types.len());
+        made.own = Some((made.m.add_binding(type_, 1), type_));
+    }
     let binds: Vec<usize> = (0..made.m.patterns.len()).filter(|&p| made.m.patterns[p][0] == BIND).collect();
     if made.m.bindings.is_empty() {
         return made.call();
@@ -102,7 +106,8 @@ pub fn bound_again(rng: &mut Rng) -> Call {
         } else {
             let type_ = made.m.bindings[usize::from(binding)][0];
             let annotation = rng.pick(&[0, 0, 1, 2]);
-            let node = bind(binding, type_, None, rng.pick(&[BY_VALUE, BY_REF]), annotation);
+            let sub = rng.percent(20).then(|| Node::wild(type_));
+            let node = bind(binding, type_, sub, rng.pick(&[BY_VALUE, BY_REF]), annotation);
             let p = node.put(&mut made.m);
             made.list.insert(rng.between(0, made.list.len()), (p, type_));
         }

@@ -5,7 +5,8 @@ mod limits;
 mod plan;
 mod shrink;
 
-use image::Tables;
+use image::kinds::BIND;
+use image::{ABSENT, Tables};
 use published::parameters::{Parameters, lower_parameters};
 use published::{Answer, Outcome};
 
@@ -49,6 +50,16 @@ impl Call {
         (whole && list.len() <= MOST && list.iter().all(named)).then_some(list)
     }
 
+    /// "a parameter is itself a Bind of that same binding, with no subpattern and annotation 0 or 1"
+    fn binds_self_again(&self, m: &Tables, list: &[(u16, u16)]) -> bool {
+        self.own.is_some_and(|(binding, _)| {
+            list.iter().any(|&(p, _)| {
+                let [kind, _, _, bound, sub, _, annotation] = m.patterns[usize::from(p)];
+                kind == BIND && bound == binding && sub == ABSENT && annotation < 2
+            })
+        })
+    }
+
     fn self_names(&self, m: &Tables) -> bool {
         self.own.is_none_or(|(binding, type_)| {
             usize::from(binding) < m.bindings.len() && usize::from(type_) < m.types.len()
@@ -69,13 +80,15 @@ impl Given for Call {
 
     fn expected(&self, other: &Other) -> Expected {
         let refused = |number: u16, what: &str| {
-            let sort = format!("refused {number} for {what} (document 01 alone)");
-            judge::text(sort, format!("refused {number} 65535 0\n"))
+            judge::text(format!("refused {number} for {what} alone)"), format!("refused {number} 65535 0\n"))
         };
-        let Some(tables) = image::read(&self.image) else { return refused(1, "the image") };
-        let Some(list) = self.list(&tables) else { return refused(1, "the list") };
+        let Some(tables) = image::read(&self.image) else { return refused(1, "the image (document 01") };
+        let Some(list) = self.list(&tables) else { return refused(1, "the list (document 01") };
+        if self.binds_self_again(&tables, &list) {
+            return refused(1, "self bound again (document 02");
+        }
         if !self.self_names(&tables) {
-            return refused(2, "self");
+            return refused(2, "self (document 01");
         }
         let parameters = Parameters { scopes: self.scopes.into(), self_binding: self.own, list };
         let Outcome { mut answer, trace } = lower_parameters(&tables, &parameters, other.setting);

@@ -5,7 +5,7 @@ use Rattle.param_locals.proofs.declaring.declare_params.Lts as lts
 use Rattle.param_locals.proofs.declaring.declare_param.Reads as declare-param-reads
 use native.Mathlib.Omega.{arith}
 use borrow.Author.Needs.{needs}
-use Rattle.param_locals.proofs.Listing.{first-pattern, first-words}
+use Rattle.param_lists.proofs.Listing.{first-pattern, first-words}
 use Rattle.param_locals.proofs.Making.{ParamsGoing, params-begin, params-end, param-stops, params-again}
 
 abbrev Inv-loop : tie.InvT-loop

@@ -4,7 +4,7 @@ use Rattle.param_locals.proofs.lists.open_params.Tie as tie
 use Rattle.param_locals.proofs.lists.open_params.Reads as reads
 use Rattle.param_locals.proofs.lists.open_params.Lts as lts
 use Rattle.check_body.proofs.check_body.Reads as check-body-reads
-use Rattle.param_locals.proofs.lists.list_holds.Reads as list-holds-reads
+use Rattle.param_lists.proofs.list_holds.Reads as list-holds-reads
 use Rattle.param_locals.proofs.lists.params_hold.Reads as params-hold-reads
 use Rattle.read_image.proofs.read_image.Reads as read-image-reads
 use mathlib.Core.Path.{sym, _∙_}

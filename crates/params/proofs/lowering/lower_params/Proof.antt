@@ -5,7 +5,7 @@ use Rattle.params.proofs.lowering.lower_params.Reads as reads
 use Rattle.params.proofs.lowering.lower_params.Lts as lts
 use native.Mathlib.Omega.{arith}
 use Rattle.walks.specs.Answers.{lent}
-use Rattle.param_locals.proofs.Listing.{first-pattern, first-words}
+use Rattle.param_lists.proofs.Listing.{first-pattern, first-words}
 use Rattle.params_laws.proofs.Lowering.{ParamsGoing, params-begin, params-end, param-walkable, local-small, param-stops, params-again}
 
 abbrev Inv-loop : tie.InvT-loop

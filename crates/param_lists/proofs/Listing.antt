@@ -1,17 +1,18 @@
 -- A list of parameters, from one of them on. Assumes nothing.
-use Prim.Native.Nat.{ℕ, zero, suc, _+_, _*_, _-_, _≤_, _<_}
+use Prim.Native.Nat.{ℕ, zero, suc, _+_, _*_, _-_, _<_}
 use mathlib.Core.Path.{_≡_, refl, sym, ap, ap₂, _∙_}
 use mathlib.Core.Bool.{true, _&&_}
 use mathlib.Core.List.{List, [], _∷_}
 use native.Mathlib.Omega.{arith}
-use borrow.Author.Tests.{ltb-true, leb-true, eqb-true}
+use borrow.Author.Tests.{ltb-true, eqb-true}
 use lib.Dec.{eqb, ltb, leb}
 use lib.ListN.{length, getD, take, drop}
 use lib.Seq.{split-at, getD-at, length-take-le}
 use Rattle.image.specs.Tables.{typeCount, patternCount}
 use Rattle.image.proofs.Bools.{and-left, and-right}
+use Rattle.lowered_params.specs.declared.SelfParam.{SelfParam}
 use Rattle.lowered_params.specs.Params.{Param}
-use Rattle.lowered_params.specs.Calls.{paramsFrom, paramCount, paramsOf, paramsNamed, listHolds}
+use Rattle.lowered_params.specs.Calls.{paramsFrom, paramCount, paramsOf, paramsNamed, listFormed, receiverApart, listHolds}
 
 -- within a list it does not matter what there would be outside
 pub word-within : (words : List ℕ) (i d d′ : ℕ) → i < length words → getD words i d ≡ getD words i d′
@@ -43,9 +44,9 @@ pub record Listed (image words : List ℕ) (k left : ℕ) : Type 0 where
   pub fits : k + 2 * left ≡ length words
   pub named : paramsNamed image (paramsFrom words k left) ≡ true
 
--- a list that is taken
-pub list-taken : (image words : List ℕ) → listHolds image words ≡ true → Listed image words 0 (paramCount words)
-unfolding listHolds
+-- a well-formed list
+pub list-taken : (image words : List ℕ) → listFormed image words ≡ true → Listed image words 0 (paramCount words)
+unfolding listFormed
 list-taken image words e =
     let few = leb (paramCount words) 64 in
     let even = eqb (2 * paramCount words) (length words) in
@@ -53,13 +54,10 @@ list-taken image words e =
     let both = eqb-true (2 * paramCount words) (length words) (and-right few even (and-left (few && even) named e)) in
     record { fits = omega arith; named = and-right (few && even) named e }
 
--- it has at most 64 parameters
-pub list-short : (image words : List ℕ) → listHolds image words ≡ true → paramCount words ≤ 64
+-- a list that is taken is well formed
+pub taken-formed : (image words : List ℕ) (self : SelfParam) → listHolds image self words ≡ true → listFormed image words ≡ true
 unfolding listHolds
-list-short image words e =
-    let few = leb (paramCount words) 64 in
-    let even = eqb (2 * paramCount words) (length words) in
-    leb-true (paramCount words) 64 (and-left few even (and-left (few && even) (paramsNamed image (paramsOf words)) e))
+taken-formed image words self e = and-left (listFormed image words) (receiverApart image self (paramsOf words)) e
 
 module _ {image words : List ℕ} {k left : ℕ} (L : Listed image words k left) (some : left ≡ 0 → ⊥) where
   -- the tests of the first one, and of the others
@@ -73,13 +71,6 @@ module _ {image words : List ℕ} {k left : ℕ} (L : Listed image words k left)
       let a = ltb (getD words k 0) (patternCount image) in
       let b = ltb (getD words (k + 1) 0) (typeCount image) in
       ltb-true _ _ (and-left a b (and-left (a && b) (paramsNamed image (paramsFrom words (k + 2) (left - 1))) first-named))
-
-  -- its type
-  pub first-type : getD words (k + 1) 0 < typeCount image
-  first-type =
-      let a = ltb (getD words k 0) (patternCount image) in
-      let b = ltb (getD words (k + 1) 0) (typeCount image) in
-      ltb-true _ _ (and-right a b (and-left (a && b) (paramsNamed image (paramsFrom words (k + 2) (left - 1))) first-named))
 
   -- its words stand in the list
   pub first-words : k + 1 < length words

@@ -1,9 +1,9 @@
-use Rattle.param_locals.proofs.lists.params_named.Statement.{statement}
-use Rattle.param_locals.proofs.lists.params_named.Tie as tie
-use Rattle.param_locals.proofs.lists.params_named.Reads as reads
-use Rattle.param_locals.proofs.lists.params_named.Lts as lts
+use Rattle.param_lists.proofs.params_named.Statement.{statement}
+use Rattle.param_lists.proofs.params_named.Tie as tie
+use Rattle.param_lists.proofs.params_named.Reads as reads
+use Rattle.param_lists.proofs.params_named.Lts as lts
 use native.Mathlib.Omega.{arith}
-use Rattle.param_locals.proofs.Looking.{Left, names-begin, names-end, in-list, no-pattern, no-type, names-again}
+use Rattle.param_lists.proofs.Looking.{Left, names-begin, names-end, in-list, no-pattern, no-type, names-again}
 
 abbrev Inv-loop : tie.InvT-loop
 Inv-loop image tables words k₀ left₀ k left = Left image words k left

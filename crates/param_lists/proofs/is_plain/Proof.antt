@@ -1,9 +1,9 @@
-use Rattle.param_locals.proofs.declaring.is_plain.Statement.{statement}
-use Rattle.param_locals.proofs.declaring.is_plain.Tie as tie
-use Rattle.param_locals.proofs.declaring.is_plain.Reads as reads
-use Rattle.param_locals.proofs.declaring.is_plain.Lts as lts
+use Rattle.param_lists.proofs.is_plain.Statement.{statement}
+use Rattle.param_lists.proofs.is_plain.Tie as tie
+use Rattle.param_lists.proofs.is_plain.Reads as reads
+use Rattle.param_lists.proofs.is_plain.Lts as lts
 use borrow.Author.Tests.{eq-eqb, ne-eqb}
-use Rattle.param_locals.specs.Looking.{isPlain}
+use Rattle.param_lists.specs.Plain.{isPlain}
 
 returns : tie.Need-returns
 unfolding isPlain

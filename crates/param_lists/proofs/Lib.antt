@@ -1,0 +1,4 @@
+pub mod Listing
+mod Looking
+pub mod Plain
+mod Apart
