@@ -14,9 +14,7 @@ use Rattle.place.specs.declared.place_ty.PlaceTy.{PlaceTy}
 use Rattle.mir.specs.declared.BasicBlockId.{BasicBlockId}
 use Rattle.mir.specs.declared.blocks.Terminator.{Terminator}
 use Rattle.lower.specs.declared.merging.OptBlock.{OptBlock}
-use Rattle.pattern_matching.specs.declared.MatchingMode.{MatchingMode}
-use Rattle.pattern_matching.specs.Walking.{Ctx, Out, ok}
-use Rattle.pattern_matching.specs.Patterns.{patternMatchInner}
+use Rattle.pattern_matching.specs.Walking.{ok}
 use Rattle.pattern_matching.specs.Variants.{placeTy}
 use Rattle.views.specs.Views.{Mir, mirOf}
 use Rattle.views.specs.Growing.{terminatorAt, GoesOn}
@@ -31,8 +29,9 @@ use Rattle.meaning.specs.Fits.{fits}
 use Rattle.meaning.specs.Differences.{asTheReference, asTheRustReads}
 use Rattle.correctness.specs.Demand2.{pathOf, Fitting, Stops, Comes}
 use Rattle.called.specs.Call.{Call, HandedOut, Accepted, Refused, before, after, patternOf, startOf, resultOf}
+use Rattle.called.specs.Passes.{TwoPasses}
 use Rattle.called.proofs.Runs.{if-it-matches, if-not, stops, if-the-rust-matches, if-the-rust-does-not}
-use Rattle.called.proofs.Bodies.{gives, only-those-open, those-open, else-kept, counted, reached-visits, other-visits}
+use Rattle.called.proofs.Bodies.{gives, only-those-open, those-open, two-passes, counted, reached-visits, other-visits}
 use Rattle.called.proofs.Refusals.{fit-refused}
 use Rattle.audit.specs.Started.{Row, answerBy}
 use Rattle.audit.specs.Call.{lowering}
@@ -87,10 +86,9 @@ module _ (call : Call) (out : HandedOut) (accepted : Accepted call out) where
       × ((b : BasicBlockId) → out .else ≡ OptBlock.Some b → call .counts .blocks ≤ b .0 → terminatorAt (mirOf (after out)) (b .0) ≡ Terminator.Open)
   those-returned-lack-a-terminator = those-open call out accepted
 
-  -- "The second pass has kept the first's else": a walk in Bind hands on the else that it was given
-  pub the-second-pass-keeps-its-else : (ctx : Ctx) (then : BasicBlockId) (first : OptBlock) (second : Out) →
-      patternMatchInner (call .image) (call .bindings) (patternOf call) MatchingMode.Bind ctx then first (call .place) ≡ ok second → second .else ≡ first
-  the-second-pass-keeps-its-else = else-kept call
+  -- "The second pass has kept the first's else": what the call hands out is what the second pass gives, from what the first pass of this call gave
+  pub the-second-pass-has-kept-the-first's-else : TwoPasses call out
+  the-second-pass-has-kept-the-first's-else = two-passes call out accepted
 
   -- "which is the one supplied or, with none supplied, a new block if the pattern can fail and none if not. .. The new blocks and the new statements are exactly
   -- as many as document 01 counts; for n patterns reached, with at most d Or patterns above any, that is at most 3n(d + 2) blocks and 4n(d + 2) statements."

@@ -2,6 +2,7 @@ pub mod Proved
 pub mod Further
 pub mod Audit
 pub mod Accepting
+pub mod Refusing
 pub mod Judged
 pub mod Clauses
 pub mod Pinned

@@ -12,8 +12,8 @@ use Rattle.state.specs.State.{decode}
 use Rattle.state.proofs.Answering.{block-count}
 use Rattle.lower.specs.declared.merging.OptBlock.{OptBlock}
 use Rattle.pattern_matching.specs.declared.MatchingMode.{MatchingMode}
-use Rattle.pattern_matching.specs.Walking.{Ctx, Out, ok}
-use Rattle.pattern_matching.specs.Patterns.{patternMatchInner, patternMatch}
+use Rattle.pattern_matching.specs.Walking.{Out, Walk, ok, refused, next}
+use Rattle.pattern_matching.specs.Patterns.{patternMatch}
 use Rattle.pattern_matching.specs.Variants.{placeTy}
 use Rattle.views.specs.Views.{mirOf}
 use Rattle.views.specs.Growing.{terminatorAt}
@@ -24,6 +24,7 @@ use Rattle.counting.proofs.Tallies.{le-or-lt}
 use Rattle.counting.proofs.Ors.{reached-low}
 use Rattle.match_calls.specs.declared.MatchCall.{MatchCall}
 use Rattle.called.specs.Call.{Call, HandedOut, Accepted, before, after, patternOf, startOf, resultOf}
+use Rattle.called.specs.Passes.{pass, TwoPasses}
 use Rattle.called.proofs.Walked.{walkOf, taken, Handing, handing}
 use Rattle.called.proofs.Given.{Given, given}
 use Rattle.called.proofs.Visited.{words-same, visits-512, visits-small}
@@ -50,13 +51,25 @@ no-visit zero n = refl
 no-visit (suc size) zero = refl
 no-visit (suc size) (suc n) = no-visit size n
 
--- "The second pass has kept the first's else"
-pub else-kept : (call : Call) (ctx : Ctx) (then : BasicBlockId) (first : OptBlock) (second : Out) →
-    patternMatchInner (call .image) (call .bindings) (patternOf call) MatchingMode.Bind ctx then first (call .place) ≡ ok second → second .else ≡ first
-else-kept call ctx then first second walked =
-    Rattle.growth.proofs.OpenBlocks.inner-keeps (call .image) (call .bindings) (patternOf call) MatchingMode.Bind ctx then first (call .place) second tt walked
+-- a walk and what follows it were accepted: both were
+both-ok : {A B : Type 0} (w : Walk A) (k : A → Walk B) (b : B) → next w k ≡ ok b → (a : A) × (w ≡ ok a) × (k a ≡ ok b)
+both-ok (ok a) k b e = (a, refl, e)
+both-ok (refused e p) k b q = absurd (let z : _≡_ {A = ℕ} 0 1 = cc in omega arith)
 
 module _ (call : Call) (out : HandedOut) (accepted : Accepted call out) where
+  -- "The second pass has kept the first's else"
+  pub two-passes : TwoPasses call out
+  unfolding patternMatch
+  two-passes =
+      let (first, checked, bound) = both-ok (pass call MatchingMode.Check (startOf call) (call .start) (call .else)) (λ r. pass call MatchingMode.Bind (r .ctx) (r .then) (r .else)) (resultOf out)
+      (gives call out accepted) in
+      record {
+        first = first;
+        checked = checked;
+        bound = bound;
+        else-kept = Rattle.growth.proofs.OpenBlocks.inner-keeps (call .image) (call .bindings) (patternOf call) MatchingMode.Bind (first .ctx) (first .then) (first .else) (call .place) (resultOf out) tt bound;
+      }
+
   -- "of the new blocks exactly those returned lack a terminator"
   pub only-those-open : (b : ℕ) → call .counts .blocks ≤ b → b < out .counts .blocks → terminatorAt (mirOf (after out)) b ≡ Terminator.Open →
       (b ≡ out .then .0) ⊎ (out .else ≡ OptBlock.Some (record { 0 = b }))

@@ -5,4 +5,5 @@ pub mod Bodies
 pub mod Runs
 pub mod Ended
 pub mod Refusals
+pub mod Restored
 pub mod Acceptances

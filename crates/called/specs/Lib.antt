@@ -1,2 +1,5 @@
 pub mod Call
 pub mod Acceptance
+pub mod Passes
+pub mod AsFound
+pub mod Contracts

@@ -11,6 +11,7 @@ use Rattle.image.specs.Tables.{typeCount}
 use Rattle.image.specs.Valid.{valid}
 use Rattle.image.specs.Tree.{Pat}
 use Rattle.refusals.specs.declared.MirLowerError.{MirLowerError}
+use Rattle.refusals.specs.Refusals.{numberOf}
 use Rattle.place.specs.declared.Place.{Place}
 use Rattle.place.specs.declared.place_ty.PlaceTy.{PlaceTy}
 use Rattle.mir.specs.declared.BasicBlockId.{BasicBlockId}
@@ -27,7 +28,6 @@ use Rattle.counting.proofs.Stepping.{has}
 use Rattle.counting.proofs.Whole.{stepped}
 use Rattle.counting.proofs.Tallies.{le-or-lt}
 use Rattle.meaning.specs.Fits.{fits}
-use Rattle.fitted.specs.OnlyLimits.{OnlyLimits}
 use Rattle.fitted.proofs.Building.{kept-same}
 use Rattle.fitted.proofs.Refusing.{fit-refused}
 use Rattle.room.specs.Elements.{elements}
@@ -157,20 +157,21 @@ module _ (image bindings : List ℕ) (root : Pat) (ctx : Ctx) (current : BasicBl
 pub fit-accepted : (image bindings : List ℕ) (pat : Pat) (ctx : Ctx) (current : BasicBlockId) (els : OptBlock) (place : Place) (t : ℕ) → valid image ≡ true → t < typeCount image →
     placeTy image (ctx .state) place ≡ PlaceTy.Ty t → place .local .0 < length (ctx .state .locals) → length (place .elems) ≡ 16 →
     fits image bindings (place .local .0) (ctx .discr) t pat ≡ true → Room image pat ctx els place → ScopeOpen ctx → (r : Out) × (patternMatch image bindings pat ctx current els place ≡ ok r)
+unfolding numberOf
 fit-accepted image bindings pat ctx current els place t v there placed rooted whole fit room scope = by (patternMatch image bindings pat ctx current els place) refl
   where
-    none : (e : MirLowerError) → OnlyLimits e → Tells (Room image pat ctx els place) ctx e → ⊥
-    none MirLowerError.IncompletePattern l told = l
-    none (MirLowerError.TypeError reason) l told = l
-    none MirLowerError.UnresolvedField l told = l
-    none MirLowerError.NotSupported l told = l
-    none MirLowerError.Ellipsis l told = l
-    none MirLowerError.UnsizedTemporary l told = l
-    none MirLowerError.InaccessibleLocal l told = l
-    none MirLowerError.Expr l told = l
+    none : (e : MirLowerError) → (numberOf e ≡ 11) ⊎ (numberOf e ≡ 14) → Tells (Room image pat ctx els place) ctx e → ⊥
+    none MirLowerError.IncompletePattern l told = ⊎-elim (λ x. omega (arith, x)) (λ x. omega (arith, x)) l
+    none (MirLowerError.TypeError reason) l told = ⊎-elim (λ x. omega (arith, x)) (λ x. omega (arith, x)) l
+    none MirLowerError.UnresolvedField l told = ⊎-elim (λ x. omega (arith, x)) (λ x. omega (arith, x)) l
+    none MirLowerError.NotSupported l told = ⊎-elim (λ x. omega (arith, x)) (λ x. omega (arith, x)) l
+    none MirLowerError.Ellipsis l told = ⊎-elim (λ x. omega (arith, x)) (λ x. omega (arith, x)) l
+    none MirLowerError.UnsizedTemporary l told = ⊎-elim (λ x. omega (arith, x)) (λ x. omega (arith, x)) l
+    none MirLowerError.InaccessibleLocal l told = ⊎-elim (λ x. omega (arith, x)) (λ x. omega (arith, x)) l
+    none MirLowerError.Expr l told = ⊎-elim (λ x. omega (arith, x)) (λ x. omega (arith, x)) l
     none MirLowerError.Limit l told = told room
-    none MirLowerError.PlaceType l told = l
-    none MirLowerError.UnresolvedName l told = l
+    none MirLowerError.PlaceType l told = ⊎-elim (λ x. omega (arith, x)) (λ x. omega (arith, x)) l
+    none MirLowerError.UnresolvedName l told = ⊎-elim (λ x. omega (arith, x)) (λ x. omega (arith, x)) l
     none MirLowerError.NoScope l told = omega (arith, told, scope)
 
     short : place .len ≤ 16
