@@ -1,10 +1,10 @@
 use borrow.Author.Needs.{needs}
-use Rattle.lower_calls.proofs.opening.is_block_or_none.Statement.{statement}
-use Rattle.lower_calls.proofs.opening.is_block_or_none.Tie as tie
-use Rattle.lower_calls.proofs.opening.is_block_or_none.Reads as reads
-use Rattle.lower_calls.proofs.opening.is_block_or_none.Lts as lts
+use Rattle.handed.proofs.is_block_or_none.Statement.{statement}
+use Rattle.handed.proofs.is_block_or_none.Tie as tie
+use Rattle.handed.proofs.is_block_or_none.Reads as reads
+use Rattle.handed.proofs.is_block_or_none.Lts as lts
 use mathlib.Core.Path.{refl}
-use Rattle.lower_calls.specs.Calls.{isBlockOrNone}
+use Rattle.handed.specs.Handed.{isBlockOrNone}
 
 returns : tie.Need-returns
 unfolding isBlockOrNone
