@@ -26,7 +26,7 @@ REFUSED = (
     "pattern_switching/switch_turned_round",
     "pattern_ranges/then_before_else",
     "listing_body/switch_exchanged",
-    "pattern_leaves/an_arrays_length_tested",
+    "pattern_rows/an_arrays_length_tested",
     "pattern_rows/suffix_item_from_the_front",
     "pattern_alternatives/an_alternative_after_a_sure_one",
     "pattern_idle/a_range_not_tested",

@@ -30,8 +30,8 @@ use Rattle.pattern_tests.proofs.Cutting.{length-test-by}
 use Rattle.walks.specs.declared.Lowered.{Lowered}
 use Rattle.walks.specs.Answers.{Lent, Begins, Lowers}
 use Rattle.walks.proofs.Sequences.{lowers-skips, lowers-refuses, lowers-by}
-use Rattle.pattern_leaves.specs.declared.modes.Sequence.{Sequence}
-use Rattle.pattern_leaves.specs.Modes.{sequenceBy}
+use Rattle.pattern_rows.specs.declared.Sequence.{Sequence}
+use Rattle.pattern_rows.specs.Rows.{sequenceBy}
 
 -- `enum_test`; t lies in the tables at entry
 module _ (image : List ℕ) (t : Lent) (c : Counts) (discr : DiscrTemp) (mode : MatchingMode) (p : PatId) (v : ℕ) (current : BasicBlockId) (els : OptBlock) (place : Place) where

@@ -2,7 +2,6 @@
 use Prim.Native.Nat.{ℕ}
 use mathlib.Core.List.{List}
 use Rattle.image.specs.declared.PatId.{PatId}
-use Rattle.image.specs.declared.kinds.TypeKind.{TypeKind}
 use Rattle.refusals.specs.declared.MirLowerError.{MirLowerError}
 use Rattle.mir.specs.declared.BasicBlockId.{BasicBlockId}
 use Rattle.mir.specs.declared.Counts.{Counts}
@@ -13,26 +12,12 @@ use Rattle.pattern_matching.specs.declared.MatchingMode.{MatchingMode}
 use Rattle.pattern_matching.specs.Walking.{Ctx, Out, Walk}
 use Rattle.walks.specs.declared.Lowered.{Lowered}
 use Rattle.walks.specs.Answers.{lent, bodyOf, ctxOf, walkOf, loweredCounts, JoinedBy}
-use Rattle.pattern_leaves.specs.declared.modes.Sequence.{Sequence}
 
 -- a path that names something else, as the code answers it
 unfoldable pub otherPath : Counts → DiscrTemp → MatchingMode → PatId → BasicBlockId → OptBlock → Lowered
 otherPath c discr MatchingMode.Check p current els = Lowered.Refused MirLowerError.NotSupported p
 otherPath c discr MatchingMode.Bind p current els = Lowered.Done c discr current els
 otherPath c discr MatchingMode.Assign p current els = Lowered.Done c discr current els
-
--- an array, a slice, or another type
-unfoldable pub sequenceBy : TypeKind → Sequence
-sequenceBy TypeKind.Integer = Sequence.Other
-sequenceBy TypeKind.Bool = Sequence.Other
-sequenceBy TypeKind.Char = Sequence.Other
-sequenceBy TypeKind.Str = Sequence.Other
-sequenceBy TypeKind.Tuple = Sequence.Other
-sequenceBy TypeKind.Adt = Sequence.Other
-sequenceBy TypeKind.Reference = Sequence.Other
-sequenceBy TypeKind.Array = Sequence.Array
-sequenceBy TypeKind.Slice = Sequence.Slice
-sequenceBy TypeKind.Unknown = Sequence.Other
 
 -- what the end of alternatives promises, whatever lies in the tables that it does not touch
 pub record Ends (defined : Ctx → Walk Out) (c : Counts) (discr : DiscrTemp) (left join : BasicBlockId) (els : OptBlock) (blocks₀ : List ℕ) (r : Lowered) (blocks : List ℕ) : Type 0 where

@@ -3,7 +3,6 @@ use image::BindingId;
 use image::PatId;
 use image::Tables;
 use image::kinds::BindingMode;
-use image::kinds::TypeKind;
 use image::kinds::type_kind;
 use image::rows::type_at;
 use lower::merging::OptBlock;
@@ -17,6 +16,8 @@ use mir::blocks::set_terminator;
 use pattern_matching::MatchingMode;
 use pattern_matching::is_check;
 use pattern_parts::bindings::pattern_match_binding;
+use pattern_rows::Sequence;
+use pattern_rows::sequence_of;
 use pattern_switching::else_block;
 use pattern_tests::discriminants::discriminant_test;
 use pattern_tests::lengths::length_test;
@@ -35,7 +36,7 @@ ghost use Rattle.image.specs.Valid.{valid};
 ghost use Rattle.pattern_parts.specs.Parts.{Fills};
 ghost use Rattle.walks.specs.Answers.{lent, Primed, Begins, Lowers};
 ghost use Rattle.pattern_nodes.specs.Modes.{enumTest, sliceTest, bound, alternativesLeft};
-ghost use Rattle.pattern_leaves.specs.Modes.{sequenceBy, Ends};
+ghost use Rattle.pattern_leaves.specs.Modes.{Ends};
 
 // In Check what lies at the place is tested to have the variant v.
 pub fn enum_test(
@@ -76,30 +77,6 @@ pub fn enum_test(
         els,
         place,
     )
-}
-
-// What a Slice pattern's type is.
-pub enum Sequence {
-    Array,
-    Slice,
-    Other,
-}
-
-fn sequence_of(kind: TypeKind) -> Sequence
-    ensures { λ r. ⌜ r ≡ sequenceBy kind ⌝ }
-{
-    match kind {
-        TypeKind::Integer => Sequence::Other,
-        TypeKind::Bool => Sequence::Other,
-        TypeKind::Char => Sequence::Other,
-        TypeKind::Str => Sequence::Other,
-        TypeKind::Tuple => Sequence::Other,
-        TypeKind::Adt => Sequence::Other,
-        TypeKind::Reference => Sequence::Other,
-        TypeKind::Array => Sequence::Array,
-        TypeKind::Slice => Sequence::Slice,
-        TypeKind::Unknown => Sequence::Other,
-    }
 }
 
 // A Slice pattern of the type ty, which has n items besides the pattern `rest`, if there is one: in Check a slice's length is tested, an array's never; any other type is refused.

@@ -4,6 +4,7 @@ use mathlib.Core.Bool.{cond}
 use mathlib.Core.List.{List}
 use lib.Dec.{eqb, ltb}
 use Rattle.image.specs.declared.kinds.PatKind.{PatKind}
+use Rattle.image.specs.declared.kinds.TypeKind.{TypeKind}
 use Rattle.image.specs.declared.rows.PatRow.{PatRow}
 use Rattle.image.specs.Tables.{listCount}
 use Rattle.image.specs.Rows.{listAt}
@@ -11,6 +12,7 @@ use Rattle.place.specs.declared.elems.ProjectionElem.{ProjectionElem}
 use Rattle.pattern_rows.specs.declared.AdtPatternShape.{AdtPatternShape}
 use Rattle.pattern_rows.specs.declared.ArgumentRow.{ArgumentRow}
 use Rattle.pattern_rows.specs.declared.CompoundKind.{CompoundKind}
+use Rattle.pattern_rows.specs.declared.Sequence.{Sequence}
 
 -- the kind of a pattern that has subpatterns or names a variant; of another it is not asked
 unfoldable pub compoundKind : PatKind → CompoundKind
@@ -81,3 +83,16 @@ beforeEllipsis ellipsis count = cond (eqb ellipsis 65535) count ellipsis
 -- the smaller of two numbers
 unfoldable pub smaller : ℕ → ℕ → ℕ
 smaller m n = cond (ltb m n) m n
+
+-- an array, a slice, or another type
+unfoldable pub sequenceBy : TypeKind → Sequence
+sequenceBy TypeKind.Integer = Sequence.Other
+sequenceBy TypeKind.Bool = Sequence.Other
+sequenceBy TypeKind.Char = Sequence.Other
+sequenceBy TypeKind.Str = Sequence.Other
+sequenceBy TypeKind.Tuple = Sequence.Other
+sequenceBy TypeKind.Adt = Sequence.Other
+sequenceBy TypeKind.Reference = Sequence.Other
+sequenceBy TypeKind.Array = Sequence.Array
+sequenceBy TypeKind.Slice = Sequence.Slice
+sequenceBy TypeKind.Unknown = Sequence.Other

@@ -1,7 +1,8 @@
-// Arguments in a row, and the shapes of patterns with subpatterns, by the rows of the image.
+// Arguments in a row, and the shapes of patterns with subpatterns, by the rows of the image; whether a type is an array or a slice.
 use image::PatId;
 use image::Tables;
 use image::kinds::PatKind;
+use image::kinds::TypeKind;
 use image::kinds::pat_kind;
 use image::rows::PatRow;
 use image::rows::list_at;
@@ -11,7 +12,7 @@ ghost use mathlib.Core.Bool.{true};
 ghost use Prim.Native.Nat.{_<_};
 ghost use Rattle.image.specs.Tables.{Whole};
 ghost use Rattle.image.specs.Valid.{valid};
-ghost use Rattle.pattern_rows.specs.Rows.{compoundKind, argumentElem, argumentPat, ArgumentAt, ArgumentLies, variantWord, variantShape, beforeEllipsis, smaller};
+ghost use Rattle.pattern_rows.specs.Rows.{compoundKind, argumentElem, argumentPat, ArgumentAt, ArgumentLies, variantWord, variantShape, beforeEllipsis, smaller, sequenceBy};
 
 // The kinds of patterns that have subpatterns or name a variant.
 pub enum CompoundKind {
@@ -44,6 +45,13 @@ pub enum ArgumentRow {
     Items,
     // The last items, counted from the end.
     LastItems,
+}
+
+// What a Slice pattern's type is.
+pub enum Sequence {
+    Array,
+    Slice,
+    Other,
 }
 
 // The kind of a pattern that has subpatterns or names a variant; of another it is not asked.
@@ -151,4 +159,21 @@ pub fn least(m: u16, n: u16) -> u16
         return m;
     }
     n
+}
+
+pub fn sequence_of(kind: TypeKind) -> Sequence
+    ensures { λ r. ⌜ r ≡ sequenceBy kind ⌝ }
+{
+    match kind {
+        TypeKind::Integer => Sequence::Other,
+        TypeKind::Bool => Sequence::Other,
+        TypeKind::Char => Sequence::Other,
+        TypeKind::Str => Sequence::Other,
+        TypeKind::Tuple => Sequence::Other,
+        TypeKind::Adt => Sequence::Other,
+        TypeKind::Reference => Sequence::Other,
+        TypeKind::Array => Sequence::Array,
+        TypeKind::Slice => Sequence::Slice,
+        TypeKind::Unknown => Sequence::Other,
+    }
 }

@@ -1,10 +1,10 @@
 use borrow.Author.Needs.{needs}
-use Rattle.pattern_leaves.proofs.modes.sequence_of.Statement.{statement}
-use Rattle.pattern_leaves.proofs.modes.sequence_of.Tie as tie
-use Rattle.pattern_leaves.proofs.modes.sequence_of.Reads as reads
-use Rattle.pattern_leaves.proofs.modes.sequence_of.Lts as lts
+use Rattle.pattern_rows.proofs.sequence_of.Statement.{statement}
+use Rattle.pattern_rows.proofs.sequence_of.Tie as tie
+use Rattle.pattern_rows.proofs.sequence_of.Reads as reads
+use Rattle.pattern_rows.proofs.sequence_of.Lts as lts
 use mathlib.Core.Path.{refl}
-use Rattle.pattern_leaves.specs.Modes.{sequenceBy}
+use Rattle.pattern_rows.specs.Rows.{sequenceBy}
 
 returns : tie.Need-returns
 unfolding sequenceBy
