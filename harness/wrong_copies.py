@@ -23,13 +23,13 @@ LISTINGS, PARAMETERS = ("run", "--counts"), ("parameters",)
 # Edits that the prover must refuse, of crates that the program stands on, whose effect a listing
 # shows: crates/CRATE/must-fail/LABEL.edit.
 REFUSED = (
-    "pattern_tests/switch_turned_round",
-    "pattern_tests/then_before_else",
-    "listing_text/switch_exchanged",
+    "pattern_switching/switch_turned_round",
+    "pattern_ranges/then_before_else",
+    "listing_body/switch_exchanged",
     "pattern_leaves/an_arrays_length_tested",
     "pattern_rows/suffix_item_from_the_front",
-    "pattern_walk/an_alternative_after_a_sure_one",
-    "pattern_walk/a_range_not_tested",
+    "pattern_alternatives/an_alternative_after_a_sure_one",
+    "pattern_idle/a_range_not_tested",
     "image_text/reason_of_a_type_error_lost",
     "listing_start/bindings_from_local_two",
     "listing_start/type_zero_not_tried",
@@ -64,7 +64,7 @@ CHANGES = (
     ("a binding passed beyond Check", "pattern_walk/src/entering.rt",
      "    if !is_check(mode) {",
      "    if is_check(mode) {"),
-    ("then and else of a test's switch exchanged", "pattern_tests/src/switching.rt",
+    ("then and else of a test's switch exchanged", "pattern_switching/src/lib.rt",
      "Terminator::Switch(l, 1, 0, then, other)",
      "Terminator::Switch(l, 1, 0, other, then)"),
     ("no live mark of a binding's local", "pattern_parts/src/bindings.rt",

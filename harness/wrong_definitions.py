@@ -27,7 +27,7 @@ REPOSITORY = Path(__file__).resolve().parent.parent
 THEOREMS = ("counting", "growth", "meaning", "correctness", "fitted", "param_runs", "called", "audit")
 # The crate of the page's rows alone, over the definitions that they are computed from.
 ROWS_STAND_ON = "refusals row_tables image place mir state literals lower views pattern_matching counting meaning"
-ERROR = re.compile(r"crates/(\w+)/(?:specs|proofs)/([\w/]+)\.antt:\d+:\d+: error: `([^`]+)`(.*)")
+ERROR = re.compile(r"crates/(\w+)/(specs|proofs)/([\w/]+)\.antt:\d+:\d+: error: `([^`]+)`(.*)")
 
 
 def dependencies():
@@ -76,8 +76,10 @@ def refusal(copy, crates):
         proved, printed = check(copy, crate)
         if not proved:
             found = ERROR.findall(printed) or sys.exit(f"refused without a place:\n{printed}")
-            at = dict.fromkeys(of_function(file) or name for _, file, name, why in found if "was not admitted" not in why)
-            with_it = dict.fromkeys(name for _, file, name, _ in found if name not in at and not of_function(file))
+            if found[0][1] == "specs":
+                sys.exit(f"no definition, but an error in {found[0][3]}")
+            at = dict.fromkeys(of_function(file) or name for _, _, file, name, why in found if "was not admitted" not in why)
+            with_it = dict.fromkeys(name for _, _, file, name, _ in found if name not in at and not of_function(file))
             return found[0][0], list(at), list(with_it)
     return None
 
@@ -87,6 +89,8 @@ def told(found):
     if found is None:
         return "nothing"
     crate, at, with_it = found
+    if crate == "rows":
+        return "the rows " + ", ".join(f"`{name[4:-4]}`" for name in at[:4])
     names = [f"`{name}`" for name in at[:4]] + [f"and so `{name}`" for name in with_it[-1:]]
     return f"`{crate}`: {', '.join(names)}"
 

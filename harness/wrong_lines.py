@@ -41,7 +41,7 @@ CHANGES = (
      "behindRoot [] path = some path", "behindRoot [] path = some []", "behind-the-place-handed-in-lies-its-value"),
     # How a body runs.
     ("a run never reaches the else", "meaning", "Executing", "isElse (OptBlock.Some e) b = eqb b (e .0)", "isElse (OptBlock.Some e) b = false", "the-function-runs-any-other-value-to-else"),
-    ("without an else a run stops at the first leap", "meaning", "Executing", "isElse OptBlock.None b = false", "isElse OptBlock.None b = true", "the-function-runs-a-value-that-matches-to-then"),
+    ("without an else a run stops at the first leap", "meaning", "Executing", "isElse OptBlock.None b = false", "isElse OptBlock.None b = eqb b b", "the-function-runs-a-value-that-matches-to-then"),
     ("a switch goes the other way", "meaning", "Running",
      "switched held low high then else = cond (eqb (switchNumber (scalarOf (valueOf held))) (low + 18446744073709551616 * high)) then else",
      "switched held low high then else = cond (eqb (switchNumber (scalarOf (valueOf held))) (low + 18446744073709551616 * high)) else then", RUNS),

@@ -68,3 +68,12 @@ matchHolds named bindings blocks visits c discr p current els place =
 unfoldable pub selfHolds : Named → List ℕ → List ℕ → Counts → ℕ → BasicBlockId → ℕ → Bool
 selfHolds named bindings blocks c b current l =
     allTrue (bindingsHold (named .bindings) c bindings ∷ ltb b (named .bindings) ∷ startHolds blocks c current ∷ isLocal c l ∷ [])
+
+-- a block that there is, where there is one
+unfoldable pub isBlockOrNone : Counts → OptBlock → Bool
+isBlockOrNone c OptBlock.None = true
+isBlockOrNone c (OptBlock.Some b) = isBlock c (b .0)
+
+-- all that a call of `merge_blocks` is handed names something
+unfoldable pub mergeHolds : Counts → OptBlock → OptBlock → Bool
+mergeHolds c x y = isBlockOrNone c x && isBlockOrNone c y

@@ -14,7 +14,7 @@ use place::elems::elem_of;
 ghost use mathlib.Core.Path.{_≡_};
 ghost use Prim.Native.Nat.{_≤_};
 ghost use lib.ListN.{length};
-ghost use Rattle.handed.specs.Handed.{startHolds, elseHolds, placeHolds, bindingHolds, bindingsHold, discrHolds, patternHanded, matchHolds, selfHolds};
+ghost use Rattle.handed.specs.Handed.{startHolds, elseHolds, placeHolds, bindingHolds, bindingsHold, discrHolds, patternHanded, matchHolds, selfHolds, isBlockOrNone, mergeHolds};
 
 pub fn start_holds(blocks: &[u16], counts: Counts, current: BasicBlockId) -> bool
     requires { ⌜ (length (now blocks) ≡ 6144) × (counts .blocks ≤ 512) ⌝ }
@@ -161,4 +161,24 @@ pub fn self_holds(
         return false;
     }
     l.0 < counts.locals
+}
+
+// A block that there is, where there is one.
+fn is_block_or_none(counts: Counts, b: OptBlock) -> bool
+    ensures { λ r. ⌜ r ≡ isBlockOrNone counts b ⌝ }
+{
+    match b {
+        OptBlock::None => true,
+        OptBlock::Some(block) => block.0 < counts.blocks,
+    }
+}
+
+// All that a call of `merge_blocks` is handed.
+pub fn merge_holds(counts: Counts, x: OptBlock, y: OptBlock) -> bool
+    ensures { λ r. ⌜ r ≡ mergeHolds counts x y ⌝ }
+{
+    if !is_block_or_none(counts, x) {
+        return false;
+    }
+    is_block_or_none(counts, y)
 }

@@ -1,7 +1,7 @@
 // The text of what a call of `pattern_match` answers. What the listing program prints for an image is defined in specs/.
 use image::PatId;
+use listing_body::put_listing;
 use listing_text::pen::Pen;
-use listing_text::put_listing;
 use listing_text::put_refusal;
 use match_calls::MatchCall;
 use refusals::MirLowerError;

@@ -2,5 +2,5 @@ mod Samples
 pub mod Pieces
 pub mod Loops
 mod Digits
-mod Readings
-mod Texts
+pub mod Readings
+pub mod Texts

@@ -13,6 +13,8 @@ use Rattle.state.specs.State.{Body, body, decode, encode, padded, countsOf}
 use Rattle.state.specs.Contracts.{BlankWords, Ready}
 use Rattle.state.proofs.Words.{length-words, words-encoded}
 use Rattle.state.proofs.Answering.{block-count, statement-count, local-count, scope-count, entry-count}
+use Rattle.body_words.specs.declared.UsedWords.{UsedWords}
+use Rattle.body_words.specs.Words.{usedWords}
 use Rattle.lower_calls.specs.Sizes.{Sized}
 
 -- n rows, and zeros above
@@ -57,11 +59,31 @@ cleared-holds b c S = λ i. record {
   entries = cleared-words 1024 (b .entries) (c .entries) (S .entries) (S .entry-count) i;
 }
 
--- `clear_above`
-pub all-cleared : {bl s l sc e bl₁ s₁ l₁ sc₁ e₁ : List ℕ} {c : Counts} → Sized (body bl s l sc e) c → bl₁ ≡ cleared bl (12 * c .blocks) → s₁ ≡ cleared s (49 * c .statements) →
-    l₁ ≡ cleared l (c .locals) → sc₁ ≡ cleared sc (c .scopes) → e₁ ≡ cleared e (c .entries) → body bl₁ s₁ l₁ sc₁ e₁ ≡ encode (decode (body bl s l sc e) c)
-all-cleared {bl = bl} {s = s} {l = l} {sc = sc} {e = e} {c = c} S bls ss ls scs es =
-    (λ i. body (bls i) (ss i) (ls i) (scs i) (es i)) ∙ cleared-holds (body bl s l sc e) c S
+-- `clear_above`, by the words in use: they lie within the tables
+pub used-within : {bl s l sc e : List ℕ} {c : Counts} {u : UsedWords} → u ≡ usedWords c → Sized (body bl s l sc e) c →
+    (u .blocks ≤ length bl) × (u .statements ≤ length s) × (u .locals ≤ length l) × (u .scopes ≤ length sc) × (u .entries ≤ length e)
+unfolding usedWords
+used-within is S =
+    rw is (
+      omega (arith, S .blocks, S .block-count),
+      omega (arith, S .statements, S .statement-count),
+      omega (arith, S .locals, S .local-count),
+      omega (arith, S .scopes, S .scope-count),
+      omega (arith, S .entries, S .entry-count),
+    )
+
+-- and each table is cleared above them
+pub all-cleared : {bl s l sc e bl₁ s₁ l₁ sc₁ e₁ : List ℕ} {c : Counts} {u : UsedWords} → u ≡ usedWords c → Sized (body bl s l sc e) c → bl₁ ≡ cleared bl (u .blocks) → s₁ ≡ cleared s (u .statements) →
+    l₁ ≡ cleared l (u .locals) → sc₁ ≡ cleared sc (u .scopes) → e₁ ≡ cleared e (u .entries) → body bl₁ s₁ l₁ sc₁ e₁ ≡ encode (decode (body bl s l sc e) c)
+unfolding usedWords
+all-cleared {bl = bl} {s = s} {l = l} {sc = sc} {e = e} {c = c} is S bls ss ls scs es =
+    (λ i. body
+    ((bls ∙ ap (λ (u : UsedWords). cleared bl (u .blocks)) is) i)
+    ((ss ∙ ap (λ (u : UsedWords). cleared s (u .statements)) is) i)
+    ((ls ∙ ap (λ (u : UsedWords). cleared l (u .locals)) is) i)
+    ((scs ∙ ap (λ (u : UsedWords). cleared sc (u .scopes)) is) i)
+    ((es ∙ ap (λ (u : UsedWords). cleared e (u .entries)) is) i))
+    ∙ cleared-holds (body bl s l sc e) c S
 
 ready-cleared : (b : Body) (c : Counts) → Sized b c → Ready (clearedBody b c) c
 ready-cleared b c S =

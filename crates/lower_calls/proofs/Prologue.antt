@@ -10,7 +10,7 @@ use Rattle.image.specs.declared.Tables.{Tables}
 use Rattle.image.specs.Tables.{tablesOf, Whole}
 use Rattle.image.specs.Lists.{allTrue}
 use Rattle.image.specs.Valid.{rules, valid}
-use Rattle.image.proofs.Bools.{and-false-right, all-true-at}
+use Rattle.image.proofs.Bools.{and-left, and-right, and-false-right, all-true-at}
 use Rattle.refusals.specs.Refusals.{Refusal, breaksARule, namesNothing, Result}
 use Rattle.read_image.specs.declared.Read.{Read}
 use Rattle.read_image.specs.Parts.{framed, frameOf}
@@ -22,8 +22,9 @@ use Rattle.check_body.specs.Bodies.{bodyHolds}
 use Rattle.check_body.proofs.Checked.{sizes, within}
 use Rattle.lower.specs.declared.merging.OptBlock.{OptBlock}
 use Rattle.lower.specs.Promises.{Within}
+use Rattle.handed.specs.Handed.{isBlockOrNone, mergeHolds}
 use Rattle.lower_calls.specs.declared.opening.Opened.{Opened}
-use Rattle.lower_calls.specs.Calls.{Called, badImage, badCall, stepped, bodyTaken, call, openedOf, isBlockOrNone}
+use Rattle.lower_calls.specs.Calls.{Called, badImage, badCall, stepped, bodyTaken, call, openedOf}
 use Rattle.lower_calls.specs.Answers.{Gives}
 use Rattle.lower_calls.specs.Sizes.{Sized, Taken}
 
@@ -132,10 +133,15 @@ module _ (image : List ℕ) (b : Body) (c : Counts) where
       }
 
 -- a block that is there, where there is one
-pub block-within : (c : Counts) (x : OptBlock) → isBlockOrNone c x ≡ true → Within c x
+block-within : (c : Counts) (x : OptBlock) → isBlockOrNone c x ≡ true → Within c x
 unfolding isBlockOrNone
 block-within c OptBlock.None e = tt
 block-within c (OptBlock.Some k) e = ltb-true _ _ e
+
+-- what a call of `merge_blocks` is handed is there
+pub blocks-within : (c : Counts) (x y : OptBlock) → mergeHolds c x y ≡ true → Within c x × Within c y
+unfolding mergeHolds
+blocks-within c x y e = (block-within c x (and-left (isBlockOrNone c x) (isBlockOrNone c y) e), block-within c y (and-right (isBlockOrNone c x) (isBlockOrNone c y) e))
 
 -- the call's own numbers are `names`, and its step gives `step`
 module _ {A R : Type 0} {stateOf : A → State} {answer : Called A → R} {numbers : R → Option Refusal} {b : Body} {c : Counts} (image : List ℕ) (names : Bool) (step : Result A) where

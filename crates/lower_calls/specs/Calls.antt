@@ -18,6 +18,7 @@ use Rattle.lower.specs.declared.merging.OptBlock.{OptBlock}
 use Rattle.lower.specs.Temps.{temp}
 use Rattle.lower.specs.Merging.{mergeBlocks}
 use Rattle.drop_scopes.specs.Dropping.{At, dropUntilScope, popAndDrop, popAssumeDropped}
+use Rattle.handed.specs.Handed.{mergeHolds}
 use Rattle.lower_calls.specs.declared.opening.Opened.{Opened}
 
 -- what a call gives: the image breaks a rule, the body or a number of the call names nothing, or what the step gives
@@ -38,17 +39,12 @@ call image b c names step = cond (valid image) (cond (bodyTaken image b c && nam
 unfoldable pub openedOf : List ℕ → Body → Counts → Opened
 openedOf image b c = cond (valid image) (cond (bodyTaken image b c) (Opened.Image (tablesOf image)) Opened.BadCall) Opened.BadImage
 
--- a block that there is, where there is one
-unfoldable pub isBlockOrNone : Counts → OptBlock → Bool
-isBlockOrNone c OptBlock.None = true
-isBlockOrNone c (OptBlock.Some b) = isBlock c (b .0)
-
 -- the calls, by what they do
 unfoldable pub tempCall : List ℕ → Body → Counts → ℕ → BasicBlockId → Called State
 tempCall image b c word block = call image b c (isTypeWord (typeCount image) word && isBlock c (block .0)) (temp image (decode b c) word block)
 
 unfoldable pub mergeBlocksCall : List ℕ → Body → Counts → OptBlock → OptBlock → Called State
-mergeBlocksCall image b c x y = call image b c (isBlockOrNone c x && isBlockOrNone c y) (mergeBlocks (decode b c) x y)
+mergeBlocksCall image b c x y = call image b c (mergeHolds c x y) (mergeBlocks (decode b c) x y)
 
 unfoldable pub pushDropScopeCall : List ℕ → Body → Counts → Called State
 pushDropScopeCall image b c = call image b c true (tryScope (decode b c))

@@ -4,11 +4,11 @@ pub mod opening; // opening.rt: before a call's own step, and behind a refusal
 mod steps; // steps.rt: the calls' own steps, on a body that was looked at
 
 use check_body::rows::is_type_word;
+use handed::merge_holds;
 use lower::merging::OptBlock;
 use mir::BasicBlockId;
 use mir::Counts;
 use opening::Opened;
-use opening::is_block_or_none;
 use opening::open;
 use place::LocalId;
 use refusals::MirLowerError;
@@ -108,10 +108,7 @@ pub fn merge_blocks(
         Opened::BadImage => MergeCall::BadImage,
         Opened::BadCall => MergeCall::BadCall,
         Opened::Image(tables) => {
-            if !is_block_or_none(counts, x) {
-                return MergeCall::BadCall;
-            }
-            if !is_block_or_none(counts, y) {
+            if !merge_holds(counts, x, y) {
                 return MergeCall::BadCall;
             }
             merge_blocks_step(

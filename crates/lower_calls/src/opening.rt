@@ -1,8 +1,8 @@
 // What comes before a call's own step, and behind a refusal: image and body are looked at, zeros are written above the counts, and what was there is put
 // back.
+use body_words::used_words;
 use check_body::check_body;
 use image::Tables;
-use lower::merging::OptBlock;
 use mir::BasicBlockId;
 use mir::Counts;
 use read_image::Read;
@@ -14,7 +14,7 @@ ghost use Prim.Native.Nat.{_*_, _<_};
 ghost use lib.ListN.{length};
 ghost use Rattle.row_tables.specs.Rows.{rowAt, stored};
 ghost use Rattle.state.specs.State.{body, decode, encode};
-ghost use Rattle.lower_calls.specs.Calls.{openedOf, isBlockOrNone};
+ghost use Rattle.lower_calls.specs.Calls.{openedOf};
 ghost use Rattle.lower_calls.specs.Sizes.{Sized};
 
 pub enum Opened {
@@ -67,11 +67,12 @@ pub fn clear_above(
     requires { ⌜ Sized (body (now blocks) (now statements) (now locals) (now scopes) (now entries)) counts ⌝ }
     ensures { λ _. ⌜ body (now (blocks .exit)) (now (statements .exit)) (now (locals .exit)) (now (scopes .exit)) (now (entries .exit)) ≡ encode (decode (body (now (blocks .entry)) (now (statements .entry)) (now (locals .entry)) (now (scopes .entry)) (now (entries .entry))) counts) ⌝ }
 {
-    clear_from(blocks, 12 * (counts.blocks as usize));
-    clear_from(statements, 49 * (counts.statements as usize));
-    clear_from(locals, counts.locals as usize);
-    clear_from(scopes, counts.scopes as usize);
-    clear_from(entries, counts.entries as usize);
+    let used = used_words(counts);
+    clear_from(blocks, used.blocks);
+    clear_from(statements, used.statements);
+    clear_from(locals, used.locals);
+    clear_from(scopes, used.scopes);
+    clear_from(entries, used.entries);
 }
 
 // The row of a block.
@@ -102,14 +103,4 @@ pub fn put_back(blocks: &mut [u16], b: BasicBlockId, row: [u16; 12])
     ensures { λ _. ⌜ now (blocks .exit) ≡ stored (now (blocks .entry)) (12 * b .0) row ⌝ }
 {
     store_row(blocks, 12 * (b.0 as usize), &row);
-}
-
-// A block that there is, where there is one.
-pub fn is_block_or_none(counts: Counts, b: OptBlock) -> bool
-    ensures { λ r. ⌜ r ≡ isBlockOrNone counts b ⌝ }
-{
-    match b {
-        OptBlock::None => true,
-        OptBlock::Some(block) => block.0 < counts.blocks,
-    }
 }

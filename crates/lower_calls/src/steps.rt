@@ -24,7 +24,8 @@ ghost use Rattle.check_body.specs.Bodies.{isTypeWord};
 ghost use Rattle.lower.specs.Temps.{temp};
 ghost use Rattle.lower.specs.Merging.{mergeBlocks};
 ghost use Rattle.drop_scopes.specs.Dropping.{dropUntilScope, popAndDrop, popAssumeDropped};
-ghost use Rattle.lower_calls.specs.Calls.{stepped, isBlockOrNone};
+ghost use Rattle.handed.specs.Handed.{mergeHolds};
+ghost use Rattle.lower_calls.specs.Calls.{stepped};
 ghost use Rattle.lower_calls.specs.Answers.{tempAnswer, mergeAnswer, scopeAnswer, dropAnswer, tempRefusal, mergeRefusal, scopeRefusal, dropRefusal, Gives};
 ghost use Rattle.lower_calls.specs.Sizes.{Taken};
 
@@ -76,7 +77,7 @@ pub fn merge_blocks_step(
     y: OptBlock,
 ) -> MergeCall
     requires { ⌜ Taken (now image) tables (body (now blocks) (now statements) (now locals) (now scopes) (now entries)) counts ⌝ }
-    requires { ⌜ (isBlockOrNone counts x ≡ true) × (isBlockOrNone counts y ≡ true) ⌝ }
+    requires { ⌜ mergeHolds counts x y ≡ true ⌝ }
     ensures { λ r. ⌜ Gives (λ st. st) (mergeAnswer (decode (body (now (blocks .entry)) (now (statements .entry)) (now (locals .entry)) (now (scopes .entry)) (now (entries .entry))) counts) x y) mergeRefusal (body (now (blocks .entry)) (now (statements .entry)) (now (locals .entry)) (now (scopes .entry)) (now (entries .entry))) counts (stepped (mergeBlocks (decode (body (now (blocks .entry)) (now (statements .entry)) (now (locals .entry)) (now (scopes .entry)) (now (entries .entry))) counts) x y)) r (body (now (blocks .exit)) (now (statements .exit)) (now (locals .exit)) (now (scopes .exit)) (now (entries .exit))) ⌝ }
 {
     clear_above(blocks, statements, locals, scopes, entries, counts);

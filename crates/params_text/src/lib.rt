@@ -1,10 +1,10 @@
 // The text of what a call of `lower_params_and_bindings` answers.
 use image_text::number_of;
 use image_text::reason_of;
+use listing_body::put_listing;
 use listing_text::numbers::put_numbered;
 use listing_text::pen::Pen;
 use listing_text::pen::put;
-use listing_text::put_listing;
 use listing_text::put_refusal;
 use lower::merging::OptBlock;
 use lowered_params::ParamsCall;

@@ -17,7 +17,7 @@ use Rattle.pattern_matching.specs.Walking.{Ctx, Out, Walk, refused, out, inChec
 use Rattle.pattern_matching.specs.Tests.{patternMatchBinding}
 use Rattle.pattern_nodes.specs.Modes.{bound}
 use Rattle.pattern_parts.specs.Parts.{Fills}
-use Rattle.pattern_tests.proofs.Cutting.{in-check, not-in-check}
+use Rattle.pattern_switching.proofs.Cutting.{in-check, not-in-check}
 use Rattle.walks.specs.declared.Lowered.{Lowered}
 use Rattle.walks.specs.Answers.{Lent, Begins, Lowers}
 use Rattle.walks.proofs.Sequences.{lowers-skips, lowers-refuses, lowers-by}

@@ -24,9 +24,9 @@ use Rattle.pattern_matching.specs.Modes.{isCheck}
 use Rattle.pattern_matching.specs.Walking.{Ctx, Out, Walk, step, out, withState, elseState, elseBlock}
 use Rattle.pattern_matching.specs.Patterns.{alternativesEnd}
 use Rattle.pattern_nodes.specs.Modes.{alternativesLeft}
-use Rattle.pattern_tests.specs.Testing.{elseMade}
-use Rattle.pattern_tests.proofs.Cutting.{in-check, not-in-check}
-use Rattle.pattern_tests.proofs.Branching.{else-answers, else-number, else-onward}
+use Rattle.pattern_switching.specs.Switching.{elseMade}
+use Rattle.pattern_switching.proofs.Cutting.{in-check, not-in-check}
+use Rattle.pattern_switching.proofs.Branching.{else-answers, else-number, else-onward}
 use Rattle.walks.specs.declared.Lowered.{Lowered}
 use Rattle.walks.specs.Answers.{lent, bodyOf, Begins, ctxOf}
 use Rattle.walks.proofs.Following.{step-then, step-stops, stays, answers-by, onward-refl}

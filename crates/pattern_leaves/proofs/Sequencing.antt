@@ -25,7 +25,8 @@ use Rattle.pattern_matching.specs.Patterns.{restBy, restOf}
 use Rattle.pattern_matching.specs.Variants.{discriminantTest}
 use Rattle.pattern_nodes.specs.Modes.{enumTest, sliceTest}
 use Rattle.pattern_tests.specs.Testing.{hasRest, lengthTestBy}
-use Rattle.pattern_tests.proofs.Cutting.{in-check, not-in-check, length-test-by}
+use Rattle.pattern_switching.proofs.Cutting.{in-check, not-in-check}
+use Rattle.pattern_tests.proofs.Cutting.{length-test-by}
 use Rattle.walks.specs.declared.Lowered.{Lowered}
 use Rattle.walks.specs.Answers.{Lent, Begins, Lowers}
 use Rattle.walks.proofs.Sequences.{lowers-skips, lowers-refuses, lowers-by}

@@ -39,10 +39,12 @@ use Rattle.pattern_matching.specs.Tests.{patternMatchConst, literal, litBy, con
 use Rattle.walks.specs.declared.Lowered.{Lowered}
 use Rattle.walks.specs.Answers.{Lent, lent, Primed, Begins, Lowers}
 use Rattle.walks.proofs.Sequences.{lowers-skips, lowers-refuses, lowers-by}
-use Rattle.pattern_tests.specs.Testing.{isLiteral, elseMade, compareStep, thenSwitch, constantCompared, Steps, Switches}
-use Rattle.pattern_tests.proofs.Branching.{loweredBy, then-full, then-else-full, then-else-made, then-else-ends, grown-to}
+use Rattle.pattern_switching.specs.Switching.{elseMade, compareStep, thenSwitch, Steps, Switches}
+use Rattle.pattern_tests.specs.Testing.{isLiteral, constantCompared}
+use Rattle.pattern_switching.proofs.Branching.{loweredBy, then-full, then-else-full, then-else-made, then-else-ends, grown-to}
 use Rattle.pattern_tests.proofs.Assigning.{making, assign-no-local, assign-full, assign-then}
-use Rattle.pattern_tests.proofs.Cutting.{in-check, not-in-check, const-cut}
+use Rattle.pattern_switching.proofs.Cutting.{in-check, not-in-check}
+use Rattle.pattern_tests.proofs.Cutting.{const-cut}
 
 -- `pattern_match_const`; t lies in the tables at entry
 module _ (image : List ℕ) (t : Lent) (c : Counts) (discr : DiscrTemp) (p : PatId) (constant : Constant) (current : BasicBlockId) (els : OptBlock) (place : Place) where

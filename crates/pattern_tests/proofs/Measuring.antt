@@ -36,8 +36,9 @@ use Rattle.pattern_matching.specs.Slices.{lengthConstant}
 use Rattle.walks.specs.declared.Lowered.{Lowered}
 use Rattle.walks.specs.Answers.{Lent, lent, Primed, Begins, Lowers}
 use Rattle.walks.proofs.Following.{answers-by}
-use Rattle.pattern_tests.specs.Testing.{elseMade, compareStep, lengthEnd, lengthSwitch, lengthTestBy, Steps}
-use Rattle.pattern_tests.proofs.Branching.{loweredBy, else-full, else-then-full, else-then-made, else-then-ends, grown-to}
+use Rattle.pattern_switching.specs.Switching.{elseMade, compareStep, Steps}
+use Rattle.pattern_tests.specs.Testing.{lengthEnd, lengthSwitch, lengthTestBy}
+use Rattle.pattern_switching.proofs.Branching.{loweredBy, else-full, else-then-full, else-then-made, else-then-ends, grown-to}
 use Rattle.pattern_tests.proofs.Assigning.{making, assign-no-local, assign-full, assign-then}
 
 -- `length_end`, with a rest or without

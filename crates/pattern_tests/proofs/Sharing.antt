@@ -38,7 +38,7 @@ use Rattle.pattern_matching.specs.Variants.{discriminantTest}
 use Rattle.walks.specs.declared.Lowered.{Lowered}
 use Rattle.walks.specs.Answers.{Lent, lent, Primed, Begins, Lowers}
 use Rattle.walks.proofs.Sequences.{lowers-by}
-use Rattle.pattern_tests.specs.Testing.{thenSwitch, Switches}
+use Rattle.pattern_switching.specs.Switching.{thenSwitch, Switches}
 use Rattle.pattern_tests.proofs.Assigning.{sharing, assign-no-local, assign-full, assign-then}
 
 -- a number is its first n bytes and, so much higher, the others

@@ -1,7 +1,4 @@
 // Literals and constants.
-use super::switching::compare;
-use super::switching::else_block;
-use super::switching::then_switch;
 use image::PatId;
 use image::Tables;
 use image::kinds::OperandKind;
@@ -27,6 +24,9 @@ use mir::rvalues::push_constant_assignment;
 use mir::scopes::Counted;
 use pattern_matching::MatchingMode;
 use pattern_matching::is_check;
+use pattern_switching::compare;
+use pattern_switching::else_block;
+use pattern_switching::then_switch;
 use place::LocalId;
 use place::Place;
 use refusals::MirLowerError;

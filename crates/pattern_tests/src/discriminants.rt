@@ -1,5 +1,4 @@
 // The variant of an enum: all tests of enums share one local, which holds the discriminant of what lies at the place.
-use super::switching::then_switch;
 use image::PatId;
 use image::Tables;
 use image::rows::OperandRow;
@@ -15,6 +14,7 @@ use mir::Counts;
 use mir::rvalues::PlaceRvalue;
 use mir::rvalues::push_assignment;
 use mir::scopes::Counted;
+use pattern_switching::then_switch;
 use place::Place;
 use refusals::MirLowerError;
 use walks::Lowered;

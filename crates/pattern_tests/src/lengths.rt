@@ -1,6 +1,4 @@
 // The length of a slice.
-use super::switching::compare;
-use super::switching::else_block;
 use image::PatId;
 use image::Tables;
 use lower::merging::OptBlock;
@@ -20,6 +18,8 @@ use mir::rvalues::Left;
 use mir::rvalues::PlaceRvalue;
 use mir::rvalues::push_assignment;
 use mir::scopes::Counted;
+use pattern_switching::compare;
+use pattern_switching::else_block;
 use place::LocalId;
 use place::Place;
 use refusals::MirLowerError;
@@ -30,7 +30,8 @@ ghost use Prim.Native.Nat.{_<_};
 ghost use Rattle.image.specs.Tables.{Whole};
 ghost use Rattle.pattern_matching.specs.Slices.{lengthConstant};
 ghost use Rattle.walks.specs.Answers.{lent, Primed, Begins, Lowers};
-ghost use Rattle.pattern_tests.specs.Testing.{lengthEnd, lengthSwitch, lengthTestBy, Steps};
+ghost use Rattle.pattern_switching.specs.Switching.{Steps};
+ghost use Rattle.pattern_tests.specs.Testing.{lengthEnd, lengthSwitch, lengthTestBy};
 
 // How many items a slice must have, as an operand.
 fn length_constant(n: u16) -> Constant

@@ -1,7 +1,5 @@
-// The tests that a walk over a pattern makes in Check: literals and constants, ranges, the length of a slice, and the variant of an enum. Each stops at the
+// The tests that a walk over a pattern makes in Check: literals and constants, the length of a slice, and the variant of an enum. Each stops at the
 // first refusal and leaves the tables as they then are.
 pub mod consts; // consts.rt: literals and constants
 pub mod discriminants; // discriminants.rt: the variant of an enum
 pub mod lengths; // lengths.rt: the length of a slice
-pub mod ranges; // ranges.rt: the ends of a range
-pub mod switching; // switching.rt: the blocks of a test, and its end

@@ -1,5 +1,4 @@
 // Variants, and the fields of variants and tuples.
-use super::idle::nothing_to_do;
 use super::pattern_match_inner;
 use super::pattern_matching_variant_fields;
 use image::PatId;
@@ -9,6 +8,7 @@ use lower::merging::OptBlock;
 use lower::temps::DiscrTemp;
 use mir::BasicBlockId;
 use mir::Counts;
+use pattern_idle::nothing_to_do;
 use pattern_leaves::modes::enum_test;
 use pattern_matching::MatchingMode;
 use pattern_parts::adts::AdtAt;

@@ -2,7 +2,6 @@
 // behind it the rank of the function. The tables are lent, the counts go in and come out by value, and the first refusal stops the walk.
 pub mod adt; // adt.rt: variants and arguments
 pub mod entering; // entering.rt: visits and derefs, and Binds in Check
-pub mod idle; // idle.rt: patterns at which there is nothing to do
 pub mod sub; // sub.rt: Bind, Or and Slice patterns
 
 use adt::pattern_match_adt;

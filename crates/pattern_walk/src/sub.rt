@@ -1,6 +1,5 @@
 // Patterns that are more than their fields: Bind, Or, whose alternatives are tried from left to right, and Slice.
 use super::adt::pattern_match_adt;
-use super::idle::nothing_to_do;
 use super::pattern_match_inner;
 use image::BindingId;
 use image::PatId;
@@ -15,6 +14,8 @@ use mir::Counts;
 use mir::blocks::NewBlock;
 use mir::blocks::new_basic_block;
 use mir::blocks::set_goto;
+use pattern_alternatives::with_else;
+use pattern_idle::nothing_to_do;
 use pattern_leaves::modes::alternatives_end;
 use pattern_leaves::modes::bind;
 use pattern_leaves::modes::slice_test;
@@ -162,7 +163,7 @@ pub fn alt(
                 visit(visits, q);
                 return Lowered::Done(c1, d1, then, other);
             }
-            match pattern_match_inner(
+            let again = pattern_match_inner(
                 image,
                 tables,
                 bindings,
@@ -178,10 +179,8 @@ pub fn alt(
                 then,
                 OptBlock::None,
                 place,
-            ) {
-                Lowered::Refused(e, at) => Lowered::Refused(e, at),
-                Lowered::Done(c2, d2, last, _) => Lowered::Done(c2, d2, last, other),
-            }
+            );
+            with_else(again, other)
         }
     }
 }

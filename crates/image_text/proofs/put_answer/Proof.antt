@@ -4,7 +4,7 @@ use Rattle.image_text.proofs.put_answer.Tie as tie
 use Rattle.image_text.proofs.put_answer.Reads as reads
 use Rattle.image_text.proofs.put_answer.Lts as lts
 use Rattle.image_text.proofs.put_refused.Reads as put-refused-reads
-use Rattle.listing_text.proofs.put_listing.Reads as put-listing-reads
+use Rattle.listing_body.proofs.put_listing.Reads as put-listing-reads
 use Rattle.listing_text.proofs.put_refusal.Reads as put-refusal-reads
 use Rattle.image_text.proofs.Printed.{wrote-as}
 use Rattle.image_text.proofs.Answered.{listing-asked, lists, refuses, refuses-call, refuses-image}

@@ -5,7 +5,7 @@ use Rattle.params_text.proofs.put_params_answer.Reads as reads
 use Rattle.params_text.proofs.put_params_answer.Lts as lts
 use Rattle.image_text.proofs.number_of.Reads as number-of-reads
 use Rattle.image_text.proofs.reason_of.Reads as reason-of-reads
-use Rattle.listing_text.proofs.put_listing.Reads as put-listing-reads
+use Rattle.listing_body.proofs.put_listing.Reads as put-listing-reads
 use Rattle.listing_text.proofs.put_refusal.Reads as put-refusal-reads
 use Rattle.params_text.proofs.put_lines.Reads as put-lines-reads
 use mathlib.Core.Path.{sym}

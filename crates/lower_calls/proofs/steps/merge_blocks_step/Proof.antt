@@ -6,7 +6,7 @@ use Rattle.lower_calls.proofs.steps.merge_blocks_step.Lts as lts
 use Rattle.lower.proofs.merging.merge_blocks.Reads as merge-blocks-reads
 use Rattle.lower_calls.proofs.opening.clear_above.Reads as clear-above-reads
 use Rattle.lower_calls.proofs.Clearing.{clears}
-use Rattle.lower_calls.proofs.Prologue.{taken-sized, block-within}
+use Rattle.lower_calls.proofs.Prologue.{taken-sized, blocks-within}
 use Rattle.lower_calls.proofs.Answering.{merged, merge-refused}
 
 clear-above-requires : tie.Need-clear-above-requires
@@ -15,7 +15,8 @@ clear-above-requires c κs = taken-sized _ _ _ (c .before .before .before .befor
 merge-blocks-requires : tie.Need-merge-blocks-requires
 merge-blocks-requires c κs =
     let C = clears (taken-sized _ _ _ (c .before .before .before .before .before .before .before .before .before .before .before .before .before .before .before .before .before .before .before .before .before .before .before .pre .0)) (c .before .before .before .before .before .before .before .before .before .before .before .clear-above .ensures) in
-    (C .ready .blocks, C .ready .block-count, block-within _ _ (c .before .before .before .before .before .before .before .before .before .before .before .before .before .before .before .before .before .before .before .before .before .before .before .pre .1 .0), block-within _ _ (c .before .before .before .before .before .before .before .before .before .before .before .before .before .before .before .before .before .before .before .before .before .before .before .pre .1 .1))
+    let W = blocks-within _ _ _ (c .before .before .before .before .before .before .before .before .before .before .before .before .before .before .before .before .before .before .before .before .before .before .before .pre .1) in
+    (C .ready .blocks, C .ready .block-count, W .0, W .1)
 
 returns : tie.Need-returns
 returns c =

@@ -7,7 +7,7 @@ use Rattle.image.proofs.kinds.pat_kind.Reads as pat-kind-reads
 use Rattle.image.proofs.kinds.path_kind.Reads as path-kind-reads
 use Rattle.pattern_leaves.proofs.kinds.path_leaf.Reads as path-leaf-reads
 use Rattle.pattern_tests.proofs.consts.pattern_match_lit.Reads as pattern-match-lit-reads
-use Rattle.pattern_tests.proofs.ranges.pattern_match_range.Reads as pattern-match-range-reads
+use Rattle.pattern_ranges.proofs.pattern_match_range.Reads as pattern-match-range-reads
 use mathlib.Core.Path.{refl, sym, _∙_}
 use Rattle.pattern_nodes.specs.Leaves.{leafPattern}
 use Rattle.pattern_leaves.proofs.Leafing.{range-holds, path-holds, literal-holds, leaf-lowers, leaf-refused, leaf-passed, leaf-path}

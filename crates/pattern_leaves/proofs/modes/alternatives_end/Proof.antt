@@ -6,7 +6,7 @@ use Rattle.pattern_leaves.proofs.modes.alternatives_end.Lts as lts
 use Rattle.mir.proofs.blocks.set_goto.Reads as set-goto-reads
 use Rattle.mir.proofs.blocks.set_terminator.Reads as set-terminator-reads
 use Rattle.pattern_matching.proofs.is_check.Reads as is-check-reads
-use Rattle.pattern_tests.proofs.switching.else_block.Reads as else-block-reads
+use Rattle.pattern_switching.proofs.else_block.Reads as else-block-reads
 use mathlib.Core.Path.{sym, _∙_}
 use native.Mathlib.Omega.{arith}
 use borrow.Author.Tests.{not-true, not-false}

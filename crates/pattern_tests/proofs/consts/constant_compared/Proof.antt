@@ -5,7 +5,7 @@ use Rattle.pattern_tests.proofs.consts.constant_compared.Reads as reads
 use Rattle.pattern_tests.proofs.consts.constant_compared.Lts as lts
 use Rattle.lower.proofs.temps.temp.Reads as temp-reads
 use Rattle.mir.proofs.rvalues.push_binary_assignment.Reads as push-binary-assignment-reads
-use Rattle.pattern_tests.proofs.switching.then_switch.Reads as then-switch-reads
+use Rattle.pattern_switching.proofs.then_switch.Reads as then-switch-reads
 use mathlib.Core.Path.{sym, _∙_}
 use Rattle.state.proofs.RowLengths.{binary-length}
 use Rattle.lower.specs.declared.temps.DiscrTemp.{DiscrTemp}

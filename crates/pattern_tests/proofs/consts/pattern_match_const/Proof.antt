@@ -4,11 +4,11 @@ use Rattle.pattern_tests.proofs.consts.pattern_match_const.Tie as tie
 use Rattle.pattern_tests.proofs.consts.pattern_match_const.Reads as reads
 use Rattle.pattern_tests.proofs.consts.pattern_match_const.Lts as lts
 use Rattle.mir.proofs.blocks.new_basic_block.Reads as new-basic-block-reads
-use Rattle.pattern_tests.proofs.switching.compare.Reads as compare-reads
-use Rattle.pattern_tests.proofs.switching.else_block.Reads as else-block-reads
+use Rattle.pattern_switching.proofs.compare.Reads as compare-reads
+use Rattle.pattern_switching.proofs.else_block.Reads as else-block-reads
 use mathlib.Core.Path.{sym, _∙_}
 use Rattle.state.specs.declared.Stepped.{Stepped}
-use Rattle.pattern_tests.proofs.Branching.{then-else-made}
+use Rattle.pattern_switching.proofs.Branching.{then-else-made}
 use Rattle.pattern_tests.proofs.Constants.{const-full, const-else-full, const-ends}
 
 compare-requires : tie.Need-compare-requires

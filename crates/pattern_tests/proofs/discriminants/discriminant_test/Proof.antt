@@ -8,7 +8,7 @@ use Rattle.image.proofs.rows.variant_at.Reads as variant-at-reads
 use Rattle.literals.proofs.half.Reads as half-reads
 use Rattle.lower.proofs.temps.discr_temp_place.Reads as discr-temp-place-reads
 use Rattle.mir.proofs.rvalues.push_assignment.Reads as push-assignment-reads
-use Rattle.pattern_tests.proofs.switching.then_switch.Reads as then-switch-reads
+use Rattle.pattern_switching.proofs.then_switch.Reads as then-switch-reads
 use mathlib.Core.Path.{sym, _∙_}
 use native.Mathlib.Omega.{arith}
 use Rattle.state.proofs.RowLengths.{place-rvalue-length}

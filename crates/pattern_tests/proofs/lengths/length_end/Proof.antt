@@ -5,7 +5,7 @@ use Rattle.pattern_tests.proofs.lengths.length_end.Reads as reads
 use Rattle.pattern_tests.proofs.lengths.length_end.Lts as lts
 use Rattle.mir.proofs.blocks.set_terminator.Reads as set-terminator-reads
 use Rattle.pattern_tests.proofs.lengths.length_constant.Reads as length-constant-reads
-use Rattle.pattern_tests.proofs.switching.compare.Reads as compare-reads
+use Rattle.pattern_switching.proofs.compare.Reads as compare-reads
 use mathlib.Core.Path.{refl}
 use borrow.Author.Tests.{not-true, not-false}
 use Rattle.pattern_matching.specs.Walking.{localPlace}

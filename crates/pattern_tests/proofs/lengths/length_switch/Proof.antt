@@ -5,10 +5,10 @@ use Rattle.pattern_tests.proofs.lengths.length_switch.Reads as reads
 use Rattle.pattern_tests.proofs.lengths.length_switch.Lts as lts
 use Rattle.mir.proofs.blocks.new_basic_block.Reads as new-basic-block-reads
 use Rattle.pattern_tests.proofs.lengths.length_end.Reads as length-end-reads
-use Rattle.pattern_tests.proofs.switching.else_block.Reads as else-block-reads
+use Rattle.pattern_switching.proofs.else_block.Reads as else-block-reads
 use mathlib.Core.Path.{sym, _∙_}
 use Rattle.state.specs.declared.Stepped.{Stepped}
-use Rattle.pattern_tests.proofs.Branching.{else-then-made}
+use Rattle.pattern_switching.proofs.Branching.{else-then-made}
 use Rattle.pattern_tests.proofs.Measuring.{length-full, length-then-full, length-ends}
 
 length-end-requires : tie.Need-length-end-requires

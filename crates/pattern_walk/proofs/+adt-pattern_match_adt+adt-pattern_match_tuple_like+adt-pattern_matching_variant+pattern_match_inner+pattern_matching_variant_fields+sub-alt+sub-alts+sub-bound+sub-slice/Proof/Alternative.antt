@@ -4,8 +4,9 @@ use Rattle.pattern_walk.proofs.sub.alt.Reads as sub·alt
 use Rattle.pattern_walk.proofs.+adt-pattern_match_adt+adt-pattern_match_tuple_like+adt-pattern_matching_variant+pattern_match_inner+pattern_matching_variant_fields+sub-alt+sub-alts+sub-bound+sub-slice.Lts-sub-alt as lts
 use Rattle.pattern_walk.proofs.pattern_match_inner.Reads as pattern-match-inner
 use Rattle.pattern_matching.proofs.is_check.Reads as is-check-reads
-use Rattle.pattern_walk.proofs.idle.nothing_to_do.Reads as nothing-to-do-reads
+use Rattle.pattern_idle.proofs.nothing_to_do.Reads as nothing-to-do-reads
 use Rattle.pattern_parts.proofs.entering.visit.Reads as visit-reads
+use Rattle.pattern_alternatives.proofs.with_else.Reads as with-else-reads
 use Rattle.pattern_walk.proofs.+adt-pattern_match_adt+adt-pattern_match_tuple_like+adt-pattern_matching_variant+pattern_match_inner+pattern_matching_variant_fields+sub-alt+sub-alts+sub-bound+sub-slice.Proof.Measures.{sub·alt-at, pattern-match-inner-below}
 use mathlib.Core.Path.{sym, _∙_}
 use native.Mathlib.Omega.{arith}
@@ -13,12 +14,13 @@ use borrow.Author.Needs.{needs}
 use Rattle.image.specs.Tree.{tree}
 use Rattle.pattern_matching.specs.Patterns.{patternMatchInner}
 use Rattle.walking.proofs.Asking.{walkable-after, walkable-sure, asks-visit}
-use Rattle.walking.proofs.Trying.{alternative-stops, alternative-tested, alternative-again-stops, alternative-again}
-use Rattle.pattern_walk.proofs.Idling.{idle-walks}
+use Rattle.walking.proofs.Trying.{alternative-stops, alternative-tested, alternative-again}
+use Rattle.pattern_idle.proofs.Idling.{idle-walks}
+use Rattle.pattern_alternatives.proofs.Again.{again-ends}
 
 -- what it may use of the functions that it calls
 abbrev pub calls : ℕ → lts.Claims
-calls t = (pattern-match-inner-below t, pattern-match-inner.Post, is-check-reads.Asked, is-check-reads.Learnt, nothing-to-do-reads.Asked, nothing-to-do-reads.Learnt, visit-reads.Asked, visit-reads.Learnt)
+calls t = (pattern-match-inner-below t, pattern-match-inner.Post, is-check-reads.Asked, is-check-reads.Learnt, nothing-to-do-reads.Asked, nothing-to-do-reads.Learnt, visit-reads.Asked, visit-reads.Learnt, with-else-reads.Asked, with-else-reads.Learnt)
 
 pub pattern-match-inner-requires : (t : ℕ) → lts.Need-pattern-match-inner-requires (calls t) (sub·alt-at t) sub·alt.Post
 pattern-match-inner-requires t c κs = (omega (arith, c .before .before .before .before .before .before .before .before .before .before .before .before .pre .0), (c .before .before .before .before .before .before .before .before .before .before .before .before .pre .1 .0, c .before .before .before .before .before .before .before .before .before .before .before .before .pre .1 .1))
@@ -79,11 +81,8 @@ returns-2 t c =
 pub pattern-match-inner-requires-2 : (t : ℕ) → lts.Need-pattern-match-inner-requires-2 (calls t) (sub·alt-at t) sub·alt.Post
 pattern-match-inner-requires-2 t c κs = (omega (arith, c .before .before .before .before .before .before .before .before .before .before .before .before .before .before .before .before .before .before .before .before .before .before .before .before .before .before .before .before .before .before .before .before .before .before .before .pre .0), ((walkable-sure (walkable-after (c .before .before .before .before .before .before .before .before .before .before .before .before .before .before .before .before .before .before .before .before .before .before .before .before .before .before .before .before .before .before .before .before .before .before .before .pre .1 .0) (c .before .before .before .before .before .before .before .before .before .before .before .before .before .before .before .before .before .before .before .before .before .before .pattern-match-inner .kept .1 .1 .1 .1 .1 .1 .1 .0) (rw (c .before .before .before .before .before .before .before .before .before .before .c1 .given .1) at (c .before .before .before .before .before .before .before .before .before .before .before .before .before .before .before .before .before .before .before .before .before .before .pattern-match-inner .ensures)))), c .before .before .before .before .before .before .before .before .before .before .before .before .before .before .before .before .before .before .before .before .before .before .before .before .before .before .before .before .before .before .before .before .before .before .before .pre .1 .1))
 
-pub enum-known-e-2 : (t : ℕ) → lts.Need-enum-known-e-2 (calls t) (sub·alt-at t) sub·alt.Post
-enum-known-e-2 t c = search needs
-
-pub enum-known-c2 : (t : ℕ) → lts.Need-enum-known-c2 (calls t) (sub·alt-at t) sub·alt.Post
-enum-known-c2 t c = search needs
+pub with-else-requires : (t : ℕ) → lts.Need-with-else-requires (calls t) (sub·alt-at t) sub·alt.Post
+with-else-requires t c κs = tt
 
 pub same-length-11 : (t : ℕ) → lts.Need-same-length-11 (calls t) (sub·alt-at t) sub·alt.Post
 same-length-11 t c = c .before .before .before .before .before .before .before .before .before .before .before .before .before .pattern-match-inner .kept .1 .1 .1 .0
@@ -104,37 +103,19 @@ pub returns-3 : (t : ℕ) → lts.Need-returns-3 (calls t) (sub·alt-at t) sub·
 returns-3 t c = alternative-stops (patternMatchInner (c .before .before .before .before .before .before .before .before .before .before .before .before .before .before .before .before .before .before .before .before .before .before .before .before .before .before .args .image .now) (c .before .before .before .before .before .before .before .before .before .before .before .before .before .before .before .before .before .before .before .before .before .before .before .before .before .before .args .bindings .now) (tree (c .before .before .before .before .before .before .before .before .before .before .before .before .before .before .before .before .before .before .before .before .before .before .before .before .before .before .args .image .now) (c .before .before .before .before .before .before .before .before .before .before .before .before .before .before .before .before .before .before .before .before .before .before .before .before .before .before .args .q .0))) (c .before .before .before .before .before .before .before .before .before .before .before .before .before .before .before .before .before .before .before .before .before .before .before .before .before .before .args .mode) (c .before .before .before .before .before .before .before .before .before .before .before .before .before .before .before .before .before .before .before .before .before .before .before .before .before .before .args .counts) (c .before .before .before .before .before .before .before .before .before .before .before .before .before .before .before .before .before .before .before .before .before .before .before .before .before .before .args .discr) (c .before .before .before .before .before .before .before .before .before .before .before .before .before .before .before .before .before .before .before .before .before .before .before .before .before .before .args .current) (c .before .before .before .before .before .before .before .before .before .before .before .before .before .before .before .before .before .before .before .before .before .before .before .before .before .before .args .place) _ _ (rw (c .before .e .given .1) at (c .before .before .before .before .before .before .before .before .before .before .before .before .before .pattern-match-inner .ensures))
 
 pub same-length-16 : (t : ℕ) → lts.Need-same-length-16 (calls t) (sub·alt-at t) sub·alt.Post
-same-length-16 t c = c .before .before .before .before .before .before .before .before .before .before .before .before .before .pattern-match-inner2 .kept .1 .1 .1 .0 ∙ c .before .before .before .before .before .before .before .before .before .before .before .before .before .before .before .before .before .before .before .before .before .before .before .before .before .before .before .before .before .before .before .before .before .before .before .before .pattern-match-inner .kept .1 .1 .1 .0
+same-length-16 t c = c .before .before .before .before .before .before .before .before .before .before .before .pattern-match-inner2 .kept .1 .1 .1 .0 ∙ c .before .before .before .before .before .before .before .before .before .before .before .before .before .before .before .before .before .before .before .before .before .before .before .before .before .before .before .before .before .before .before .before .before .before .pattern-match-inner .kept .1 .1 .1 .0
 
 pub same-length-17 : (t : ℕ) → lts.Need-same-length-17 (calls t) (sub·alt-at t) sub·alt.Post
-same-length-17 t c = c .before .before .before .before .before .before .before .before .before .before .before .before .before .pattern-match-inner2 .kept .1 .1 .1 .1 .0 ∙ c .before .before .before .before .before .before .before .before .before .before .before .before .before .before .before .before .before .before .before .before .before .before .before .before .before .before .before .before .before .before .before .before .before .before .before .before .pattern-match-inner .kept .1 .1 .1 .1 .0
+same-length-17 t c = c .before .before .before .before .before .before .before .before .before .before .before .pattern-match-inner2 .kept .1 .1 .1 .1 .0 ∙ c .before .before .before .before .before .before .before .before .before .before .before .before .before .before .before .before .before .before .before .before .before .before .before .before .before .before .before .before .before .before .before .before .before .before .pattern-match-inner .kept .1 .1 .1 .1 .0
 
 pub same-length-18 : (t : ℕ) → lts.Need-same-length-18 (calls t) (sub·alt-at t) sub·alt.Post
-same-length-18 t c = c .before .before .before .before .before .before .before .before .before .before .before .before .before .pattern-match-inner2 .kept .1 .1 .1 .1 .1 .0 ∙ c .before .before .before .before .before .before .before .before .before .before .before .before .before .before .before .before .before .before .before .before .before .before .before .before .before .before .before .before .before .before .before .before .before .before .before .before .pattern-match-inner .kept .1 .1 .1 .1 .1 .0
+same-length-18 t c = c .before .before .before .before .before .before .before .before .before .before .before .pattern-match-inner2 .kept .1 .1 .1 .1 .1 .0 ∙ c .before .before .before .before .before .before .before .before .before .before .before .before .before .before .before .before .before .before .before .before .before .before .before .before .before .before .before .before .before .before .before .before .before .before .pattern-match-inner .kept .1 .1 .1 .1 .1 .0
 
 pub same-length-19 : (t : ℕ) → lts.Need-same-length-19 (calls t) (sub·alt-at t) sub·alt.Post
-same-length-19 t c = c .before .before .before .before .before .before .before .before .before .before .before .before .before .pattern-match-inner2 .kept .1 .1 .1 .1 .1 .1 .0 ∙ c .before .before .before .before .before .before .before .before .before .before .before .before .before .before .before .before .before .before .before .before .before .before .before .before .before .before .before .before .before .before .before .before .before .before .before .before .pattern-match-inner .kept .1 .1 .1 .1 .1 .1 .0
+same-length-19 t c = c .before .before .before .before .before .before .before .before .before .before .before .pattern-match-inner2 .kept .1 .1 .1 .1 .1 .1 .0 ∙ c .before .before .before .before .before .before .before .before .before .before .before .before .before .before .before .before .before .before .before .before .before .before .before .before .before .before .before .before .before .before .before .before .before .before .pattern-match-inner .kept .1 .1 .1 .1 .1 .1 .0
 
 pub same-length-20 : (t : ℕ) → lts.Need-same-length-20 (calls t) (sub·alt-at t) sub·alt.Post
-same-length-20 t c = c .before .before .before .before .before .before .before .before .before .before .before .before .before .pattern-match-inner2 .kept .1 .1 .1 .1 .1 .1 .1 .0 ∙ c .before .before .before .before .before .before .before .before .before .before .before .before .before .before .before .before .before .before .before .before .before .before .before .before .before .before .before .before .before .before .before .before .before .before .before .before .pattern-match-inner .kept .1 .1 .1 .1 .1 .1 .1 .0
+same-length-20 t c = c .before .before .before .before .before .before .before .before .before .before .before .pattern-match-inner2 .kept .1 .1 .1 .1 .1 .1 .1 .0 ∙ c .before .before .before .before .before .before .before .before .before .before .before .before .before .before .before .before .before .before .before .before .before .before .before .before .before .before .before .before .before .before .before .before .before .before .pattern-match-inner .kept .1 .1 .1 .1 .1 .1 .1 .0
 
 pub returns-4 : (t : ℕ) → lts.Need-returns-4 (calls t) (sub·alt-at t) sub·alt.Post
-returns-4 t c = alternative-again-stops (patternMatchInner (c .before .before .before .before .before .before .before .before .before .before .before .before .before .before .before .before .before .before .before .before .before .before .before .before .before .before .before .before .before .before .before .before .before .before .before .before .before .before .before .before .before .before .before .before .before .before .before .before .before .args .image .now) (c .before .before .before .before .before .before .before .before .before .before .before .before .before .before .before .before .before .before .before .before .before .before .before .before .before .before .before .before .before .before .before .before .before .before .before .before .before .before .before .before .before .before .before .before .before .before .before .before .before .args .bindings .now) (tree (c .before .before .before .before .before .before .before .before .before .before .before .before .before .before .before .before .before .before .before .before .before .before .before .before .before .before .before .before .before .before .before .before .before .before .before .before .before .before .before .before .before .before .before .before .before .before .before .before .before .args .image .now) (c .before .before .before .before .before .before .before .before .before .before .before .before .before .before .before .before .before .before .before .before .before .before .before .before .before .before .before .before .before .before .before .before .before .before .before .before .before .before .before .before .before .before .before .before .before .before .before .before .before .args .q .0))) (c .before .before .before .before .before .before .before .before .before .before .before .before .before .before .before .before .before .before .before .before .before .before .before .before .before .before .before .before .before .before .before .before .before .before .before .before .before .before .before .before .before .before .before .before .before .before .before .before .before .args .mode) (c .before .before .before .before .before .before .before .before .before .before .before .before .before .before .before .before .before .before .before .before .before .before .before .before .before .before .before .before .before .before .before .before .before .before .before .before .before .before .before .before .before .before .before .before .before .before .before .before .before .args .counts) (c .before .before .before .before .before .before .before .before .before .before .before .before .before .before .before .before .before .before .before .before .before .before .before .before .before .before .before .before .before .before .before .before .before .before .before .before .before .before .before .before .before .before .before .before .before .before .before .before .before .args .discr) (c .before .before .before .before .before .before .before .before .before .before .before .before .before .before .before .before .before .before .before .before .before .before .before .before .before .before .before .before .before .before .before .before .before .before .before .before .before .before .before .before .before .before .before .before .before .before .before .before .before .args .current) (c .before .before .before .before .before .before .before .before .before .before .before .before .before .before .before .before .before .before .before .before .before .before .before .before .before .before .before .before .before .before .before .before .before .before .before .before .before .before .before .before .before .before .before .before .before .before .before .before .before .args .place) _ _ (c .before .before .before .before .before .before .before .before .before .before .before .before .before .before .before .before .before .before .before .before .before .before .before .before .before .before .before .before .before .before .before .before .before .before .before .before .before .before .before .before .before .before .before .before .before .before .before .before .before .pre .1 .0 .primed) (rw (c .before .before .before .before .before .before .before .before .before .before .before .before .before .before .before .before .before .before .before .before .before .before .before .before .c1 .given .1) at (c .before .before .before .before .before .before .before .before .before .before .before .before .before .before .before .before .before .before .before .before .before .before .before .before .before .before .before .before .before .before .before .before .before .before .before .before .pattern-match-inner .ensures)) (sym (c .before .before .before .before .before .before .before .before .before .before .before .before .before .before .before .before .before .before .before .before .before .before .is-check .ensures) ∙ c .before .before .before .before .before .before .before .before .before .before .before .before .before .before .before .before .before .before .before .before .before .if1 .left) (rw (c .before .e2 .given .1) at (c .before .before .before .before .before .before .before .before .before .before .before .before .before .pattern-match-inner2 .ensures))
-
-pub same-length-21 : (t : ℕ) → lts.Need-same-length-21 (calls t) (sub·alt-at t) sub·alt.Post
-same-length-21 t c = c .before .before .before .before .before .before .before .before .before .before .before .before .before .pattern-match-inner2 .kept .1 .1 .1 .0 ∙ c .before .before .before .before .before .before .before .before .before .before .before .before .before .before .before .before .before .before .before .before .before .before .before .before .before .before .before .before .before .before .before .before .before .before .before .before .pattern-match-inner .kept .1 .1 .1 .0
-
-pub same-length-22 : (t : ℕ) → lts.Need-same-length-22 (calls t) (sub·alt-at t) sub·alt.Post
-same-length-22 t c = c .before .before .before .before .before .before .before .before .before .before .before .before .before .pattern-match-inner2 .kept .1 .1 .1 .1 .0 ∙ c .before .before .before .before .before .before .before .before .before .before .before .before .before .before .before .before .before .before .before .before .before .before .before .before .before .before .before .before .before .before .before .before .before .before .before .before .pattern-match-inner .kept .1 .1 .1 .1 .0
-
-pub same-length-23 : (t : ℕ) → lts.Need-same-length-23 (calls t) (sub·alt-at t) sub·alt.Post
-same-length-23 t c = c .before .before .before .before .before .before .before .before .before .before .before .before .before .pattern-match-inner2 .kept .1 .1 .1 .1 .1 .0 ∙ c .before .before .before .before .before .before .before .before .before .before .before .before .before .before .before .before .before .before .before .before .before .before .before .before .before .before .before .before .before .before .before .before .before .before .before .before .pattern-match-inner .kept .1 .1 .1 .1 .1 .0
-
-pub same-length-24 : (t : ℕ) → lts.Need-same-length-24 (calls t) (sub·alt-at t) sub·alt.Post
-same-length-24 t c = c .before .before .before .before .before .before .before .before .before .before .before .before .before .pattern-match-inner2 .kept .1 .1 .1 .1 .1 .1 .0 ∙ c .before .before .before .before .before .before .before .before .before .before .before .before .before .before .before .before .before .before .before .before .before .before .before .before .before .before .before .before .before .before .before .before .before .before .before .before .pattern-match-inner .kept .1 .1 .1 .1 .1 .1 .0
-
-pub same-length-25 : (t : ℕ) → lts.Need-same-length-25 (calls t) (sub·alt-at t) sub·alt.Post
-same-length-25 t c = c .before .before .before .before .before .before .before .before .before .before .before .before .before .pattern-match-inner2 .kept .1 .1 .1 .1 .1 .1 .1 .0 ∙ c .before .before .before .before .before .before .before .before .before .before .before .before .before .before .before .before .before .before .before .before .before .before .before .before .before .before .before .before .before .before .before .before .before .before .before .before .pattern-match-inner .kept .1 .1 .1 .1 .1 .1 .1 .0
-
-pub returns-5 : (t : ℕ) → lts.Need-returns-5 (calls t) (sub·alt-at t) sub·alt.Post
-returns-5 t c = alternative-again (patternMatchInner (c .before .before .before .before .before .before .before .before .before .before .before .before .before .before .before .before .before .before .before .before .before .before .before .before .before .before .before .before .before .before .before .before .before .before .before .before .before .before .before .before .before .before .before .before .before .before .before .before .before .args .image .now) (c .before .before .before .before .before .before .before .before .before .before .before .before .before .before .before .before .before .before .before .before .before .before .before .before .before .before .before .before .before .before .before .before .before .before .before .before .before .before .before .before .before .before .before .before .before .before .before .before .before .args .bindings .now) (tree (c .before .before .before .before .before .before .before .before .before .before .before .before .before .before .before .before .before .before .before .before .before .before .before .before .before .before .before .before .before .before .before .before .before .before .before .before .before .before .before .before .before .before .before .before .before .before .before .before .before .args .image .now) (c .before .before .before .before .before .before .before .before .before .before .before .before .before .before .before .before .before .before .before .before .before .before .before .before .before .before .before .before .before .before .before .before .before .before .before .before .before .before .before .before .before .before .before .before .before .before .before .before .before .args .q .0))) (c .before .before .before .before .before .before .before .before .before .before .before .before .before .before .before .before .before .before .before .before .before .before .before .before .before .before .before .before .before .before .before .before .before .before .before .before .before .before .before .before .before .before .before .before .before .before .before .before .before .args .mode) (c .before .before .before .before .before .before .before .before .before .before .before .before .before .before .before .before .before .before .before .before .before .before .before .before .before .before .before .before .before .before .before .before .before .before .before .before .before .before .before .before .before .before .before .before .before .before .before .before .before .args .counts) (c .before .before .before .before .before .before .before .before .before .before .before .before .before .before .before .before .before .before .before .before .before .before .before .before .before .before .before .before .before .before .before .before .before .before .before .before .before .before .before .before .before .before .before .before .before .before .before .before .before .args .discr) (c .before .before .before .before .before .before .before .before .before .before .before .before .before .before .before .before .before .before .before .before .before .before .before .before .before .before .before .before .before .before .before .before .before .before .before .before .before .before .before .before .before .before .before .before .before .before .before .before .before .args .current) (c .before .before .before .before .before .before .before .before .before .before .before .before .before .before .before .before .before .before .before .before .before .before .before .before .before .before .before .before .before .before .before .before .before .before .before .before .before .before .before .before .before .before .before .before .before .before .before .before .before .args .place) _ _ (c .before .before .before .before .before .before .before .before .before .before .before .before .before .before .before .before .before .before .before .before .before .before .before .before .before .before .before .before .before .before .before .before .before .before .before .before .before .before .before .before .before .before .before .before .before .before .before .before .before .pre .1 .0 .primed) (rw (c .before .before .before .before .before .before .before .before .before .before .before .before .before .before .before .before .before .before .before .before .before .before .before .before .c1 .given .1) at (c .before .before .before .before .before .before .before .before .before .before .before .before .before .before .before .before .before .before .before .before .before .before .before .before .before .before .before .before .before .before .before .before .before .before .before .before .pattern-match-inner .ensures)) (sym (c .before .before .before .before .before .before .before .before .before .before .before .before .before .before .before .before .before .before .before .before .before .before .is-check .ensures) ∙ c .before .before .before .before .before .before .before .before .before .before .before .before .before .before .before .before .before .before .before .before .before .if1 .left) (rw (c .before .c2 .given .1) at (c .before .before .before .before .before .before .before .before .before .before .before .before .before .pattern-match-inner2 .ensures))
+returns-4 t c = again-ends (patternMatchInner (c .before .before .before .before .before .before .before .before .before .before .before .before .before .before .before .before .before .before .before .before .before .before .before .before .before .before .before .before .before .before .before .before .before .before .before .before .before .before .before .before .before .before .before .before .before .before .before .args .image .now) (c .before .before .before .before .before .before .before .before .before .before .before .before .before .before .before .before .before .before .before .before .before .before .before .before .before .before .before .before .before .before .before .before .before .before .before .before .before .before .before .before .before .before .before .before .before .before .before .args .bindings .now) (tree (c .before .before .before .before .before .before .before .before .before .before .before .before .before .before .before .before .before .before .before .before .before .before .before .before .before .before .before .before .before .before .before .before .before .before .before .before .before .before .before .before .before .before .before .before .before .before .before .args .image .now) (c .before .before .before .before .before .before .before .before .before .before .before .before .before .before .before .before .before .before .before .before .before .before .before .before .before .before .before .before .before .before .before .before .before .before .before .before .before .before .before .before .before .before .before .before .before .before .before .args .q .0))) (c .before .before .before .before .before .before .before .before .before .before .before .before .before .before .before .before .before .before .before .before .before .before .before .before .before .before .before .before .before .before .before .before .before .before .before .before .before .before .before .before .before .before .before .before .before .before .before .args .mode) (c .before .before .before .before .before .before .before .before .before .before .before .before .before .before .before .before .before .before .before .before .before .before .before .before .before .before .before .before .before .before .before .before .before .before .before .before .before .before .before .before .before .before .before .before .before .before .before .args .counts) (c .before .before .before .before .before .before .before .before .before .before .before .before .before .before .before .before .before .before .before .before .before .before .before .before .before .before .before .before .before .before .before .before .before .before .before .before .before .before .before .before .before .before .before .before .before .before .before .args .discr) (c .before .before .before .before .before .before .before .before .before .before .before .before .before .before .before .before .before .before .before .before .before .before .before .before .before .before .before .before .before .before .before .before .before .before .before .before .before .before .before .before .before .before .before .before .before .before .before .args .current) (c .before .before .before .before .before .before .before .before .before .before .before .before .before .before .before .before .before .before .before .before .before .before .before .before .before .before .before .before .before .before .before .before .before .before .before .before .before .before .before .before .before .before .before .before .before .before .before .args .place) _ _ (c .before .before .before .before .before .before .before .before .before .before .before .before .before .before .before .before .before .before .before .before .before .before .before .before .before .before .before .before .before .before .before .before .before .before .before .before .before .before .before .before .before .before .before .before .before .before .before .pre .1 .0 .primed) (rw (c .before .before .before .before .before .before .before .before .before .before .before .before .before .before .before .before .before .before .before .before .before .before .c1 .given .1) at (c .before .before .before .before .before .before .before .before .before .before .before .before .before .before .before .before .before .before .before .before .before .before .before .before .before .before .before .before .before .before .before .before .before .before .pattern-match-inner .ensures)) (sym (c .before .before .before .before .before .before .before .before .before .before .before .before .before .before .before .before .before .before .before .before .is-check .ensures) ∙ c .before .before .before .before .before .before .before .before .before .before .before .before .before .before .before .before .before .before .before .if1 .left) (c .before .before .before .before .before .before .before .before .before .before .before .pattern-match-inner2 .ensures) (c .with-else .ensures)

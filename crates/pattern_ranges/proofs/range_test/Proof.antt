@@ -1,0 +1,55 @@
+use borrow.Author.Needs.{needs}
+use Rattle.pattern_ranges.proofs.range_test.Statement.{statement}
+use Rattle.pattern_ranges.proofs.range_test.Tie as tie
+use Rattle.pattern_ranges.proofs.range_test.Reads as reads
+use Rattle.pattern_ranges.proofs.range_test.Lts as lts
+use Rattle.mir.proofs.blocks.new_basic_block.Reads as new-basic-block-reads
+use Rattle.pattern_switching.proofs.compare.Reads as compare-reads
+use Rattle.pattern_switching.proofs.else_block.Reads as else-block-reads
+use mathlib.Core.Path.{sym, _∙_}
+use Rattle.state.specs.declared.Stepped.{Stepped}
+use Rattle.pattern_switching.proofs.Branching.{else-then-made}
+use Rattle.pattern_ranges.proofs.Ends.{range-full, range-then-full, range-ends}
+
+compare-requires : tie.Need-compare-requires
+compare-requires c κs =
+    let M = else-then-made (sym (c .before .before .before .before .before .before .before .before .before .c1 .given .1) ∙ c .before .before .before .before .before .before .before .before .before .before .before .else-block .ensures) (sym (c .before .before .before .before .before .c2 .given .1) ∙ c .before .before .before .before .before .before .before .new-basic-block .ensures) (c .before .before .before .before .before .before .before .before .before .before .before .before .before .before .before .before .before .pre .1) (c .before .before .before .before .before .before .before .before .before .before .before .before .before .before .before .before .before .pre .2) in
+    (c .before .before .before .before .before .before .before .before .before .before .before .before .before .before .before .before .before .pre .0, M .0, M .1)
+
+returns : tie.Need-returns
+returns c = range-full _ _ _ _ _ _ _ _ _ _ (sym (c .enum-told .given .1) ∙ c .before .before .else-block .ensures)
+
+returns-2 : tie.Need-returns-2
+returns-2 c = range-then-full _ _ _ _ _ _ _ _ _ _ (sym (c .before .before .before .before .c1 .given .1) ∙ c .before .before .before .before .before .before .else-block .ensures) (sym (c .enum-told2 .given .1) ∙ c .before .before .new-basic-block .ensures)
+
+returns-3 : tie.Need-returns-3
+returns-3 c = range-ends _ _ _ _ _ _ _ _ _ _ (sym (c .before .before .before .before .before .before .before .before .before .before .before .before .before .before .before .before .before .before .before .before .before .c1 .given .1) ∙ c .before .before .before .before .before .before .before .before .before .before .before .before .before .before .before .before .before .before .before .before .before .before .before .else-block .ensures) (Stepped.Refused _) (sym (c .before .before .before .before .before .before .before .before .before .before .before .before .before .before .before .before .before .c2 .given .1) ∙ c .before .before .before .before .before .before .before .before .before .before .before .before .before .before .before .before .before .before .before .new-basic-block .ensures) (c .before .before .before .before .before .before .before .before .before .before .before .before .before .before .before .before .before .before .before .before .before .before .before .before .before .before .before .before .before .pre .1) (c .before .before .before .before .before .before .before .before .before .before .before .before .before .before .before .before .before .before .before .before .before .before .before .before .before .before .before .before .before .pre .2) (rw (c .before .e .given .1) at (c .before .before .before .before .before .before .before .before .before .before .before .compare .ensures))
+
+returns-4 : tie.Need-returns-4
+returns-4 c = range-ends _ _ _ _ _ _ _ _ _ _ (sym (c .before .before .before .before .before .before .before .before .before .before .before .before .before .before .before .before .before .before .before .before .before .c1 .given .1) ∙ c .before .before .before .before .before .before .before .before .before .before .before .before .before .before .before .before .before .before .before .before .before .before .before .else-block .ensures) (Stepped.Now _) (sym (c .before .before .before .before .before .before .before .before .before .before .before .before .before .before .before .before .before .c2 .given .1) ∙ c .before .before .before .before .before .before .before .before .before .before .before .before .before .before .before .before .before .before .before .new-basic-block .ensures) (c .before .before .before .before .before .before .before .before .before .before .before .before .before .before .before .before .before .before .before .before .before .before .before .before .before .before .before .before .before .pre .1) (c .before .before .before .before .before .before .before .before .before .before .before .before .before .before .before .before .before .before .before .before .before .before .before .before .before .before .before .before .before .pre .2) (rw (c .before .c3 .given .1) at (c .before .before .before .before .before .before .before .before .before .before .before .compare .ensures))
+
+pub range-test-spec : {M : Type 1} → statement M
+range-test-spec =
+    tie.close
+    (tie.spec
+    (λ c κs. search needs)
+    (λ c. search needs)
+    (λ c. search needs)
+    (λ c κs. search needs)
+    (λ c. search needs)
+    (λ c. search needs)
+    compare-requires
+    (λ c. search needs)
+    (λ c. search needs)
+    returns
+    returns-2
+    (λ c. search needs)
+    (λ c. search needs)
+    (λ c. search needs)
+    (λ c. search needs)
+    returns-3
+    (λ c. search needs)
+    (λ c. search needs)
+    (λ c. search needs)
+    (λ c. search needs)
+    returns-4)

@@ -1,0 +1,189 @@
+// Ranges: each end is a test, the start before the end.
+use image::PatId;
+use image::Tables;
+use literals::LoweredOperand;
+use literals::lower_literal_or_const_to_operand;
+use lower::merging::OptBlock;
+use lower::temps::DiscrTemp;
+use mir::BasicBlockId;
+use mir::Counts;
+use mir::blocks::NewBlock;
+use mir::blocks::new_basic_block;
+use mir::rvalues::BinOp;
+use mir::rvalues::Constant;
+use mir::rvalues::Left;
+use pattern_matching::MatchingMode;
+use pattern_matching::is_check;
+use pattern_switching::compare;
+use pattern_switching::else_block;
+use place::Place;
+use refusals::MirLowerError;
+use state::Stepped;
+use walks::Lowered;
+ghost use mathlib.Core.Path.{_≡_};
+ghost use mathlib.Core.Bool.{true};
+ghost use Prim.Native.Nat.{_<_};
+ghost use Rattle.image.specs.Tables.{Whole, typeCount};
+ghost use Rattle.image.specs.Patterns.{operandOrAbsent};
+ghost use Rattle.image.specs.Tree.{operand?};
+ghost use Rattle.image.specs.Valid.{valid};
+ghost use Rattle.pattern_matching.specs.Tests.{rangeEnd?};
+ghost use Rattle.pattern_matching.specs.Patterns.{rangePattern};
+ghost use Rattle.walks.specs.Answers.{lent, Primed, Begins, Lowers};
+ghost use Rattle.pattern_ranges.specs.Ranges.{rangeTest};
+
+// A place is compared with one end; an else is made before the block that goes on.
+fn range_test(
+    image: &[u8],
+    tables: Tables,
+    blocks: &mut [u16],
+    statements: &mut [u16],
+    locals: &mut [u16],
+    entries: &mut [u16],
+    counts: Counts,
+    discr: DiscrTemp,
+    p: PatId,
+    op: BinOp,
+    constant: Constant,
+    current: BasicBlockId,
+    els: OptBlock,
+    place: Place,
+) -> Lowered
+    requires { ⌜ Whole (now image) tables × Primed (lent (now blocks) (now statements) (now locals) (now entries)) counts × Begins counts current els ⌝ }
+    ensures { λ r. ⌜ Lowers (λ ctx. rangeTest (now (image .entry)) (p .0) op constant ctx current els place) counts discr current els (lent (now (blocks .entry)) (now (statements .entry)) (now (locals .entry)) (now (entries .entry))) r (lent (now (blocks .exit)) (now (statements .exit)) (now (locals .exit)) (now (entries .exit))) ⌝ }
+{
+    match else_block(counts, els) {
+        NewBlock::Full => Lowered::Refused(MirLowerError::Limit, p),
+        NewBlock::Block(c1, other) => match new_basic_block(c1) {
+            NewBlock::Full => Lowered::Refused(MirLowerError::Limit, p),
+            NewBlock::Block(c2, then) => match compare(
+                image,
+                tables,
+                blocks,
+                statements,
+                locals,
+                entries,
+                c2,
+                op,
+                Left::Constant(constant),
+                place,
+                current,
+                then,
+                other,
+            ) {
+                Stepped::Refused(e) => Lowered::Refused(e, p),
+                Stepped::Now(c3) => Lowered::Done(c3, discr, then, OptBlock::Some(other)),
+            },
+        },
+    }
+}
+
+// One end of a range of the type ty, if it is there: its operand begins at the word o of the list.
+fn range_end(
+    image: &[u8],
+    tables: Tables,
+    blocks: &mut [u16],
+    statements: &mut [u16],
+    locals: &mut [u16],
+    entries: &mut [u16],
+    counts: Counts,
+    discr: DiscrTemp,
+    p: PatId,
+    ty: u16,
+    op: BinOp,
+    o: u16,
+    current: BasicBlockId,
+    els: OptBlock,
+    place: Place,
+) -> Lowered
+    requires { ⌜ (valid (now image) ≡ true) × Whole (now image) tables × (ty < typeCount (now image)) × (operandOrAbsent (now image) o ≡ true) ⌝ }
+    requires { ⌜ Primed (lent (now blocks) (now statements) (now locals) (now entries)) counts × Begins counts current els ⌝ }
+    ensures { λ r. ⌜ Lowers (λ ctx. rangeEnd? (now (image .entry)) (p .0) ty op (operand? (now (image .entry)) o) ctx current els place) counts discr current els (lent (now (blocks .entry)) (now (statements .entry)) (now (locals .entry)) (now (entries .entry))) r (lent (now (blocks .exit)) (now (statements .exit)) (now (locals .exit)) (now (entries .exit))) ⌝ }
+{
+    if o == 65535 {
+        return Lowered::Done(counts, discr, current, els);
+    }
+    match lower_literal_or_const_to_operand(image, tables, ty, o) {
+        LoweredOperand::Refused(e) => Lowered::Refused(e, p),
+        LoweredOperand::Constant(constant) => range_test(
+            image,
+            tables,
+            blocks,
+            statements,
+            locals,
+            entries,
+            counts,
+            discr,
+            p,
+            op,
+            constant,
+            current,
+            els,
+            place,
+        ),
+    }
+}
+
+// Both ends of a range of the type ty, in Check: the start is tested whole before the end is looked at.
+pub fn pattern_match_range(
+    image: &[u8],
+    tables: Tables,
+    blocks: &mut [u16],
+    statements: &mut [u16],
+    locals: &mut [u16],
+    entries: &mut [u16],
+    counts: Counts,
+    discr: DiscrTemp,
+    mode: MatchingMode,
+    p: PatId,
+    ty: u16,
+    start: u16,
+    end: u16,
+    current: BasicBlockId,
+    els: OptBlock,
+    place: Place,
+) -> Lowered
+    requires { ⌜ (valid (now image) ≡ true) × Whole (now image) tables × (ty < typeCount (now image)) × (operandOrAbsent (now image) start ≡ true) × (operandOrAbsent (now image) end ≡ true) ⌝ }
+    requires { ⌜ Primed (lent (now blocks) (now statements) (now locals) (now entries)) counts × Begins counts current els ⌝ }
+    ensures { λ r. ⌜ Lowers (λ ctx. rangePattern (now (image .entry)) (p .0) ty (operand? (now (image .entry)) start) (operand? (now (image .entry)) end) mode ctx current els place) counts discr current els (lent (now (blocks .entry)) (now (statements .entry)) (now (locals .entry)) (now (entries .entry))) r (lent (now (blocks .exit)) (now (statements .exit)) (now (locals .exit)) (now (entries .exit))) ⌝ }
+{
+    if !is_check(mode) {
+        return Lowered::Done(counts, discr, current, els);
+    }
+    match range_end(
+        image,
+        tables,
+        blocks,
+        statements,
+        locals,
+        entries,
+        counts,
+        discr,
+        p,
+        ty,
+        BinOp::Le,
+        start,
+        current,
+        els,
+        place,
+    ) {
+        Lowered::Refused(e, q) => Lowered::Refused(e, q),
+        Lowered::Done(c1, d1, then, other) => range_end(
+            image,
+            tables,
+            blocks,
+            statements,
+            locals,
+            entries,
+            c1,
+            d1,
+            p,
+            ty,
+            BinOp::Ge,
+            end,
+            then,
+            other,
+            place,
+        ),
+    }
+}

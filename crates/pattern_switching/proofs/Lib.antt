@@ -1,0 +1,4 @@
+pub mod Branching
+mod Comparing
+mod Forking
+pub mod Cutting

@@ -1,0 +1,55 @@
+-- The blocks of a test and its end, cut where the code is cut, and what the functions promise. Assumes nothing: these are definitions.
+use Prim.Native.Nat.{ℕ}
+use mathlib.Core.List.{List}
+use Rattle.refusals.specs.Refusals.{Result, ok, andThen}
+use Rattle.place.specs.declared.LocalId.{LocalId}
+use Rattle.place.specs.declared.Place.{Place}
+use Rattle.mir.specs.declared.BasicBlockId.{BasicBlockId}
+use Rattle.mir.specs.declared.Counts.{Counts}
+use Rattle.mir.specs.declared.blocks.NewBlock.{NewBlock}
+use Rattle.mir.specs.declared.blocks.Terminator.{Terminator}
+use Rattle.mir.specs.declared.rvalues.BinOp.{BinOp}
+use Rattle.mir.specs.declared.rvalues.Left.{Left}
+use Rattle.mir.specs.Blocks.{newBlock}
+use Rattle.mir.specs.Rvalues.{binaryRow}
+use Rattle.state.specs.State.{State, decode}
+use Rattle.state.specs.Steps.{nextBlock, nextLocal, tryBlock, tryStatement, setTerminator}
+use Rattle.state.specs.Contracts.{Ready, Answers, steppedResult, steppedCounts}
+use Rattle.state.specs.declared.Stepped.{Stepped}
+use Rattle.lower.specs.declared.temps.DiscrTemp.{DiscrTemp}
+use Rattle.lower.specs.declared.merging.OptBlock.{OptBlock}
+use Rattle.lower.specs.Temps.{temp}
+use Rattle.pattern_matching.specs.Walking.{Ctx, Out, Walk, step, out, withState, elseState, elseBlock}
+use Rattle.pattern_matching.specs.Tests.{boolWord, ifTrue}
+use Rattle.walks.specs.declared.Lowered.{Lowered}
+use Rattle.walks.specs.Answers.{Lent, lent, bodyOf, Lowers}
+
+-- the else that there is, or a new block, with the counts
+unfoldable pub elseMade : Counts → OptBlock → NewBlock
+elseMade c (OptBlock.Some b) = NewBlock.Block c b
+elseMade c OptBlock.None = newBlock c
+
+-- `compare`, its state alone
+unfoldable pub compareStep : List ℕ → BinOp → Left → Place → State → BasicBlockId → BasicBlockId → BasicBlockId → Result State
+compareStep image op left place st current then other =
+    andThen (temp image st boolWord current) (λ st₁.
+    andThen (tryStatement st₁ (binaryRow current (nextLocal st) op left place)) (λ st₂.
+    ok (ifTrue st₂ current (nextLocal st) then other)))
+
+-- a block goes on by a local's value: `then` is made before an else
+unfoldable pub thenSwitch : ℕ → LocalId → ℕ → ℕ → Ctx → BasicBlockId → OptBlock → Walk Out
+thenSwitch p l low high ctx current els =
+    step p (tryBlock (ctx .state)) (λ st₁.
+    step p (elseState st₁ els) (λ st₂.
+    out (withState ctx (setTerminator st₂ current (Terminator.Switch l low high (nextBlock (ctx .state)) (elseBlock st₁ els)))) (nextBlock (ctx .state)) (OptBlock.Some (elseBlock st₁ els))))
+
+-- what a step on the four tables promises: t₀ lies in them before, and t after
+abbrev pub Steps : (State → Result State) → Counts → BasicBlockId → Lent → Stepped → Lent → Type 0
+Steps defined c current t₀ r t =
+    (scopes : List ℕ) → Ready (bodyOf t₀ scopes) c →
+    Answers (bodyOf t₀ scopes) c (current .0) (bodyOf t scopes) (steppedCounts r) (steppedResult r (bodyOf t scopes)) (defined (decode (bodyOf t₀ scopes) c))
+
+-- what a step of the walk that touches the blocks alone promises, whatever lies in the other tables
+abbrev pub Switches : (Ctx → Walk Out) → Counts → DiscrTemp → BasicBlockId → OptBlock → List ℕ → Lowered → List ℕ → Type 0
+Switches defined c discr current els blocks₀ r blocks =
+    (statements locals entries : List ℕ) → Lowers defined c discr current els (lent blocks₀ statements locals entries) r (lent blocks statements locals entries)

@@ -1,0 +1,14 @@
+use borrow.Author.Needs.{needs}
+use Rattle.pattern_words.proofs.words.is_digit.Statement.{statement}
+use Rattle.pattern_words.proofs.words.is_digit.Tie as tie
+use Rattle.pattern_words.specs.Words.{isDigit}
+
+is-between-requires : tie.Need-is-between-requires
+is-between-requires c κs = search needs
+
+returns : tie.Need-returns
+unfolding isDigit
+returns c = (c .is-between .ensures)
+
+pub is-digit-spec : {M : Type 1} → statement M
+is-digit-spec = tie.close (tie.spec is-between-requires returns)

@@ -1,0 +1,1 @@
+// Texts whose tokens are computed by the definitions: see proofs/.
