@@ -22,7 +22,8 @@ use Rattle.lowered_params.specs.declared.ParamsCall.{ParamsCall}
 use Rattle.lowered_params.specs.Calls.{numbers as paramsNumbers}
 use Rattle.called.specs.Call.{Call, Promised}
 use Rattle.called.specs.AsFound.{AsFound, NoneVisited}
-use Rattle.called.specs.Contracts.{PromisedAssignment, SelfHanded, PromisedSelf, ParamsHanded, ParamsLeft, PromisedParams, OnBody, PromisedTemp, PromisedMerge, PromisedPush, PromisedPopAssumeDropped, PromisedPopAndDrop, PromisedDropUntil}
+use Rattle.called.specs.Params.{ParamsHanded, ParamsLeft, PromisedParams}
+use Rattle.called.specs.Contracts.{PromisedAssignment, SelfHanded, PromisedSelf, OnBody, PromisedTemp, PromisedMerge, PromisedPush, PromisedPopAssumeDropped, PromisedPopAndDrop, PromisedDropUntil}
 use Rattle.called.proofs.Restored as restored
 
 -- A call on a pattern, its answer, what lies in the tables when it returns, and the numbers of a refusal.

@@ -27,7 +27,8 @@ use Rattle.check_body.specs.Bodies.{isBlock, isLocal, tablesSized, countsWithin
 use Rattle.check_body.proofs.Checked.{sizes, within}
 use Rattle.lower.specs.declared.merging.OptBlock.{OptBlock}
 use Rattle.views.specs.Views.{terminatorOf, lineOf, mirOf}
-use Rattle.growth.specs.Opened.{terminator, lines, Below, ElseReady, Starts}
+use Rattle.lower_calls.specs.Calls.{bodyTaken}
+use Rattle.growth.specs.Opened.{terminator, lines, Below, ElseReady, Ready, Starts}
 use Rattle.growth.proofs.Working.{below-append}
 use Rattle.handed.specs.Handed.{startHolds, elseHolds, placeHolds, bindingsHold, discrHolds, patternHanded, matchHolds}
 use Rattle.called.specs.Call.{Call, before, startOf}
@@ -43,7 +44,7 @@ pub record Given (call : Call) : Type 0 where
   pub root : call .place .local .0 < length (before call .locals)
 
 -- a valid image has at most 512 patterns
-few-patterns : (image : List ℕ) → valid image ≡ true → patternCount image ≤ 512
+pub few-patterns : (image : List ℕ) → valid image ≡ true → patternCount image ≤ 512
 unfolding valid withinLimits
 few-patterns image v =
     let a = leb (typeCount image) 256 in
@@ -110,6 +111,23 @@ else-ready b c current (OptBlock.Some x) e =
     let n = block-count b c in
     (omega (arith, inside, n), λ same. false≢true (subst (λ (t : Bool). not t ≡ true) (eq-eqb (x .0) (current .0) same) (and-right (isBlock c (x .0)) (not (eqb (x .0) (current .0))) e)))
 
+-- a walk may start in a body, from a block and with an else that are taken
+pub may-start : (image : List ℕ) (b : Body) (c : Counts) (current : BasicBlockId) (els : OptBlock) → bodyTaken image b c ≡ true → startHolds (b .blocks) c current ≡ true →
+    elseHolds c current els ≡ true → Ready (decode b c) current els
+unfolding startHolds decode mirOf
+may-start image b c current els taken start else =
+    let s = current .0 in
+    let first = isBlock c s in
+    let second = isOpen (rowAt 12 (b .blocks) s) in
+    let inside = ltb-true s (c .blocks) (and-left first second start) in
+    let n = block-count b c in
+    record {
+      inside = omega (arith, inside, n);
+      opened = terminator-row b c s inside ∙ open-row (rowAt 12 (b .blocks) s) (and-right first second start);
+      else = else-ready b c current els else;
+      lines = subst (λ (m : ℕ). Below m (lines (decode b c))) (sym n) (lines-below (b .statements) (c .blocks) (c .statements) (statement-block (typeCount image) (variantCount image) b c taken));
+    }
+
 module _ (call : Call) (T : Taken call) where
   abbrev c : Counts
   c = call .counts
@@ -135,20 +153,7 @@ module _ (call : Call) (T : Taken call) where
   pattern-there = ltb-true _ _ (and-left (ltb (call .pattern) (patternCount (call .image))) (eqb (length (call .visits)) 512) (test 0))
 
   starts : Starts (startOf call) (call .start) (call .else)
-  unfolding startHolds decode mirOf
-  starts =
-      let b = call .body in
-      let s = call .start .0 in
-      let first = isBlock c s in
-      let second = isOpen (rowAt 12 (b .blocks) s) in
-      let inside = ltb-true s (c .blocks) (and-left first second (test 3)) in
-      let n = block-count b c in
-      record {
-        inside = omega (arith, inside, n);
-        opened = terminator-row b c s inside ∙ open-row (rowAt 12 (b .blocks) s) (and-right first second (test 3));
-        else = else-ready b c (call .start) (call .else) (test 4);
-        lines = subst (λ (m : ℕ). Below m (lines (decode b c))) (sym n) (lines-below (b .statements) (c .blocks) (c .statements) (statement-block (typeCount (call .image)) (variantCount (call .image)) b c (T .body)));
-      }
+  starts = may-start (call .image) (call .body) c (call .start) (call .else) (T .body) (test 3) (test 4)
 
   place-there : (call .place .local .0 < c .locals) × (call .place .len ≤ 16)
   unfolding placeHolds

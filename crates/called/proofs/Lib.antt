@@ -6,4 +6,5 @@ pub mod Runs
 pub mod Ended
 pub mod Refusals
 pub mod Restored
+pub mod Params
 pub mod Acceptances

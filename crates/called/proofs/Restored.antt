@@ -36,7 +36,8 @@ use Rattle.lowered_params.specs.Calls.{listHolds, paramsCall}
 use Rattle.lowered_params.specs.Calls as params
 use Rattle.called.specs.Call.{Call, Promised}
 use Rattle.called.specs.AsFound.{AsFound, NoneVisited}
-use Rattle.called.specs.Contracts.{PromisedAssignment, SelfHanded, PromisedSelf, ParamsHanded, ParamsLeft, PromisedParams, OnBody, PromisedTemp, PromisedMerge, PromisedPush, PromisedPopAssumeDropped, PromisedPopAndDrop, PromisedDropUntil}
+use Rattle.called.specs.Params.{ParamsHanded, ParamsLeft, PromisedParams}
+use Rattle.called.specs.Contracts.{PromisedAssignment, SelfHanded, PromisedSelf, OnBody, PromisedTemp, PromisedMerge, PromisedPush, PromisedPopAssumeDropped, PromisedPopAndDrop, PromisedDropUntil}
 
 -- the same refusal
 same-some : {x y : Refusal} → some x ≡ some y → x ≡ y
@@ -68,7 +69,7 @@ unfolding refusalAt
 refusal-number e p refusal is = let n = walk-number e in subst (λ (x : Refusal). 2 < x .number) (same-some is) n
 
 -- a body that is taken has its sizes
-sized : (image : List ℕ) (b : Body) (c : Counts) → bodyTaken image b c ≡ true → Sized b c
+pub sized : (image : List ℕ) (b : Body) (c : Counts) → bodyTaken image b c ≡ true → Sized b c
 sized image b c taken =
     let long = sizes _ _ (b .blocks) (b .statements) (b .locals) (b .scopes) (b .entries) c taken in
     let few = within _ _ (b .blocks) (b .statements) (b .locals) (b .scopes) (b .entries) c taken in

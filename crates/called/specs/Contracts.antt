@@ -5,7 +5,6 @@ use Rattle.place.specs.declared.LocalId.{LocalId}
 use Rattle.mir.specs.declared.BasicBlockId.{BasicBlockId}
 use Rattle.mir.specs.declared.Counts.{Counts}
 use Rattle.state.specs.State.{Body, decode}
-use Rattle.lower.specs.declared.temps.DiscrTemp.{DiscrTemp}
 use Rattle.lower.specs.declared.merging.OptBlock.{OptBlock}
 use Rattle.lower_calls.specs.declared.TempCall.{TempCall}
 use Rattle.lower_calls.specs.declared.MergeCall.{MergeCall}
@@ -16,9 +15,6 @@ use Rattle.lower_calls.specs.Answers.{Gives, tempAnswer, mergeAnswer, scopeAnsw
 use Rattle.match_calls.specs.declared.MatchCall.{MatchCall}
 use Rattle.match_calls.specs.declared.SelfCall.{SelfCall}
 use Rattle.match_calls.specs.Calls.{patternMatchAssignmentCall, matchSelfParamCall, Visits, GivesSelf}
-use Rattle.lowered_params.specs.declared.SelfParam.{SelfParam}
-use Rattle.lowered_params.specs.declared.ParamsCall.{ParamsCall}
-use Rattle.lowered_params.specs.Calls.{paramsCall, GivesParams}
 use Rattle.called.specs.Call.{Call}
 
 -- `pattern_match_assignment` (crates/pattern_calls/src/lib.rt), of a call, its answer, and the tables' words when it returns. It is handed what `pattern_match` is but the
@@ -44,32 +40,6 @@ pub record SelfHanded : Type 0 where
 abbrev pub PromisedSelf : SelfHanded → SelfCall → Body → Type 0
 PromisedSelf call answer body =
     GivesSelf (call .body) (call .counts) (matchSelfParamCall (call .image) (call .bindings) (call .body) (call .counts) (call .binding) (call .start) (call .local)) answer body
-
--- what `lower_params_and_bindings` is handed: the image, the list of the parameters, self or none, the bindings' locals, the words of the five tables and of the visits',
--- the counts, the local that tests of enums share if there is one, and the block to start from
-pub record ParamsHanded : Type 0 where
-  pub image : List ℕ
-  pub list : List ℕ
-  pub self : SelfParam
-  pub bindings : List ℕ
-  pub body : Body
-  pub visits : List ℕ
-  pub counts : Counts
-  pub discr : DiscrTemp
-  pub start : BasicBlockId
-
--- what lies in the bindings' locals and in the tables when it returns
-pub record ParamsLeft : Type 0 where
-  pub bindings : List ℕ
-  pub body : Body
-  pub visits : List ℕ
-
--- its contract (crates/params/src/lib.rt), of a call, its answer, and what is left
-abbrev pub PromisedParams : ParamsHanded → ParamsCall → ParamsLeft → Type 0
-PromisedParams call answer left =
-    GivesParams (call .bindings) (call .body) (call .visits) (call .counts)
-    (paramsCall (call .image) (call .list) (call .self) (call .bindings) (call .body) (call .visits) (call .counts) (call .discr) (call .start))
-    answer (left .bindings) (left .body) (left .visits)
 
 -- what every call on a body is handed, beside its own numbers: the image, the words of the five tables, and the counts
 pub record OnBody : Type 0 where

@@ -3,3 +3,4 @@ pub mod Acceptance
 pub mod Passes
 pub mod AsFound
 pub mod Contracts
+pub mod Params

@@ -38,7 +38,7 @@ pub record Tally (c c′ : Ctx) (b : ℕ) (rs : List Reached) : Type 0 where
   pub kept : (i : ℕ) → i < length (c .state .locals) → getD (c′ .state .locals) i 0 ≡ getD (c .state .locals) i 0
 
 -- the visits to patterns in a row
-visits-append : (n : ℕ) (rs rs′ : List Reached) → visitsOf n (rs ++ rs′) ≡ visitsOf n rs + visitsOf n rs′
+pub visits-append : (n : ℕ) (rs rs′ : List Reached) → visitsOf n (rs ++ rs′) ≡ visitsOf n rs + visitsOf n rs′
 unfolding visitsOf
 visits-append n rs rs′ = total-append _ rs rs′
 
