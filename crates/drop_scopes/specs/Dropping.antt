@@ -1,4 +1,5 @@
--- Drop scopes, as lower.rs leaves them. Assumes nothing: these are definitions.
+-- Drop scopes, as lower.rs leaves them, with the rules of the Reference's chapter "Destructors" in brackets; where the Rust leaves them for another order is listed in
+-- docs/DIFFERENCES.md. Assumes nothing: these are definitions.
 use Prim.Native.Nat.{ℕ, zero, suc, _+_, _-_}
 use mathlib.Core.Bool.{Bool, true, cond}
 use mathlib.Core.List.{List, [], _∷_}
@@ -28,7 +29,8 @@ isCopy image word = cond (ltb word (typeCount image)) (eqb (typeAt image word .c
 unfoldable pub markDead : State → BasicBlockId → LocalId → Result At
 markDead st block l = andThen (tryStatement st (deadRow block l)) (λ st₁. ok (record { state = st₁; block = block }))
 
--- a local leaves: one that is not copy is dropped by the block's terminator, and a new block goes on; then it is dead there
+-- a local leaves: one that is not copy is dropped by the block's terminator ("When an initialized variable or temporary goes out of scope, its destructor is run"
+-- [destructors.intro]), and a new block goes on; then it is dead there
 unfoldable pub emitDropAndStorageDead : List ℕ → State → BasicBlockId → LocalId → Result At
 emitDropAndStorageDead image st block l =
     cond (isCopy image (getD (st .locals) (l .0) 0)) (markDead st block l)
@@ -44,7 +46,8 @@ unfoldable pub lastFirst : List ℕ → ℕ → ℕ → List ℕ
 lastFirst words start zero = []
 lastFirst words start (suc n) = getD words (start + n) 0 ∷ lastFirst words start n
 
--- the entries of the scope i and of those opened after it: "Locals leave last first."
+-- the entries of the scope i and of those opened after it: "Locals leave last first.", "in reverse order of declaration (for variables) or creation (for temporaries)"
+-- [destructors.scope.intro]
 abbrev pub entriesFrom : State → ℕ → List ℕ
 entriesFrom st i = lastFirst (st .entries) (scopeStart st i) (length (st .entries) - scopeStart st i)
 
