@@ -11,7 +11,7 @@ ghost use lib.ListN.{length, drop};
 ghost use Rattle.image.specs.Bytes.{littleEndian};
 ghost use Rattle.image.specs.Lists.{member, allIn};
 ghost use Rattle.text_chars.specs.Bytes.{run};
-ghost use Rattle.pattern_words.specs.Words.{between, isDigit, isLetter, beginsWord, inWord, keywords, neverRaw, isOneOf, wordOf, endsPrefix, isRaw, rawPiece, plainPiece, wordPiece};
+ghost use Rattle.pattern_words.specs.Words.{between, isDigit, isLetter, beginsWord, inWord, keywords, neverRaw, isOneOf, piece, wordOf, endsPrefix, isRaw, rawPiece, plainPiece, wordPiece};
 
 const UNDERSCORE: u64 = 0x5f;
 
@@ -157,6 +157,12 @@ fn is_never_raw(number: u64) -> bool
     is_in(number, &NEVER_RAW)
 }
 
+fn piece_as(kind: Kind, size: usize) -> Piece
+    ensures { λ r. ⌜ r ≡ piece kind size ⌝ }
+{
+    Piece { kind, size }
+}
+
 // What a word is.
 fn word_of(word: &[u8], at: usize) -> Piece
     requires { ⌜ allIn inWord (now word) ≡ true ⌝ }
@@ -164,52 +170,28 @@ fn word_of(word: &[u8], at: usize) -> Piece
 {
     let size = word.len();
     if 8 < size {
-        return Piece {
-            kind: Kind::Name(at),
-            size,
-        };
+        return piece_as(Kind::Name(at), size);
     }
     let number = word_number(word);
     if number == UNDERSCORE {
-        return Piece {
-            kind: Kind::Underscore,
-            size,
-        };
+        return piece_as(Kind::Underscore, size);
     }
     if number == REF {
-        return Piece {
-            kind: Kind::Ref,
-            size,
-        };
+        return piece_as(Kind::Ref, size);
     }
     if number == MUT {
-        return Piece {
-            kind: Kind::Mut,
-            size,
-        };
+        return piece_as(Kind::Mut, size);
     }
     if number == TRUE {
-        return Piece {
-            kind: Kind::True,
-            size,
-        };
+        return piece_as(Kind::True, size);
     }
     if number == FALSE {
-        return Piece {
-            kind: Kind::False,
-            size,
-        };
+        return piece_as(Kind::False, size);
     }
     if is_keyword(number) {
-        return Piece {
-            kind: Kind::Fails,
-            size: 0,
-        };
+        return piece_as(Kind::Fails, 0);
     }
-    Piece {
-        kind: Kind::Name(at),
-        size,
-    }
+    piece_as(Kind::Name(at), size)
 }
 
 // A word that is no name behind `r#`.
