@@ -118,6 +118,11 @@ checksum of each table. `calls.txt` has for each script the number of its first 
 - `call_faults.py`: numbers 1 and 2; every rule is broken alone at least once.
 - `call_chance.py`: random scripts, from a fixed seed.
 - `call_list.py`: judges them all, and holds them to the answers that they state.
+
+## Pattern texts
+
+- `tokens.py`: the tokens of pattern texts, written from the Reference's chapters on the
+  lexical structure alone. `python3 samples/tokens.py TEXT..` prints them, one line a text.
 """
 
 
