@@ -20,10 +20,13 @@ use Rattle.called.proofs.Params as calls
 
 -- Every call that is accepted, and what it hands out.
 module _ (call : ParamsHanded) (out : ParamsHandedOut) (accepted : AcceptedParams call out) where
-  -- demand 1: what it hands out is what the definition of `lower_params_and_bindings` gives, a transcription of the Rust; the first parameter's local, or self's, is the
-  -- next one when the call comes
-  pub what-the-definition-gives-is-handed-out : (loweredOf call ≡ ok (resultOfParams out)) × (out .first .0 ≡ call .counts .locals)
-  what-the-definition-gives-is-handed-out = (calls.params-give call out accepted, calls.first-next call out accepted)
+  -- demand 1: what it hands out is what the definition of `lower_params_and_bindings` gives, a transcription of the Rust
+  pub what-the-definition-gives-is-handed-out : loweredOf call ≡ ok (resultOfParams out)
+  what-the-definition-gives-is-handed-out = calls.params-give call out accepted
+
+  -- the first parameter's local, or self's, is the next one when the call comes
+  pub the-first-local-is-the-next-one : out .first .0 ≡ call .counts .locals
+  the-first-local-is-the-next-one = calls.first-next call out accepted
 
   -- "of the new blocks exactly the returned one is open": one that is open is returned ..
   pub only-the-returned-block-is-open : (b : ℕ) → call .counts .blocks ≤ b → b < out .counts .blocks → terminatorAt (mirOf (afterParams out)) b ≡ Terminator.Open → b ≡ out .then .0

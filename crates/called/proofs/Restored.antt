@@ -20,7 +20,7 @@ use Rattle.lower_calls.specs.declared.MergeCall.{MergeCall}
 use Rattle.lower_calls.specs.declared.ScopeCall.{ScopeCall}
 use Rattle.lower_calls.specs.declared.DropCall.{DropCall}
 use Rattle.lower_calls.specs.Sizes.{Sized}
-use Rattle.lower_calls.specs.Calls.{bodyTaken, stepRefusal, tablesAfter, tempCall, mergeBlocksCall, pushDropScopeCall, popAssumeDroppedCall, popAndDropCall, dropUntilScopeCall}
+use Rattle.lower_calls.specs.Calls.{bodyTaken, tempCall, mergeBlocksCall, pushDropScopeCall, popAssumeDroppedCall, popAndDropCall, dropUntilScopeCall}
 use Rattle.lower_calls.specs.Calls.{call as stepping, stepped, calledRefusal}
 use Rattle.lower_calls.specs.Calls as steps
 use Rattle.lower_calls.specs.Answers.{Gives, tempRefusal, mergeRefusal, scopeRefusal, dropRefusal}
