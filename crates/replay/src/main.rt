@@ -31,7 +31,7 @@ fn replay_record(sort: u8, image: &[u8], out: &mut [u8; 524288]) -> bool {
 }
 
 // The next record: answers whether there was one that could be replayed.
-fn next(buffer: &mut [u8; 131072], out: &mut [u8; 524288]) -> bool {
+fn next(buffer: &mut [u8], out: &mut [u8; 524288]) -> bool {
     let sort = next_sort();
     match next_entry(buffer) {
         Entry::End => false,
@@ -40,7 +40,7 @@ fn next(buffer: &mut [u8; 131072], out: &mut [u8; 524288]) -> bool {
 }
 
 // A proved loop has to end, so it counts its turns down, from a number that no list uses up.
-fn replay(buffer: &mut [u8; 131072], out: &mut [u8; 524288]) {
+fn replay(buffer: &mut [u8], out: &mut [u8; 524288]) {
     let mut turns = u64::MAX;
     while turns > 0 && next(buffer, out) {
         turns -= 1;
