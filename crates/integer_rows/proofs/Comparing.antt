@@ -96,6 +96,15 @@ module _ (size : ℕ) (signed : Bool) {row : IntegerRow} (at : row ≡ integerRo
       ap (λ (r : IntegerRow). ltb high (r .«greatest_high»)) at
       ∙ up-other low high (sixteenBytes (greatestValue size signed)) small (λ e. ne (e ∙ ap (λ (r : IntegerRow). r .«greatest_high») (sym at))) ∙ not-above size signed (ofHalves low high)
 
+-- every row holds 0 to 127
+pub small-in-every-row : (size : ℕ) (signed : Bool) → isIntegerSize size ≡ true → (low high : ℕ) → high ≡ 0 → low < 128 → true ≡ inRange size signed (pos (ofHalves low high))
+unfolding greatestValue sixteenBytes
+small-in-every-row size signed sized low high none small = sym (le-leb (ofHalves low high) (sixteenBytes (greatestValue size signed)) (fits signed)) ∙ not-above size signed (ofHalves low high)
+  where
+    fits : (signed : Bool) → ofHalves low high ≤ sixteenBytes (greatestValue size signed)
+    fits false = omega (arith, some-few size sized .0)
+    fits true = omega (arith, some-few size sized .0)
+
 -- numbers below a count of values, `all`, and its half
 module _ (all : ℕ) where
   away : (n : ℕ) → n < all → 0 < all - n
@@ -132,7 +141,7 @@ module _ (size : ℕ) (sized : isIntegerSize size ≡ true) (low high : ℕ) (sm
 
   least-is : least ≡ valueCount 16 - valueCount size / 2
   unfolding leastValue
-  least-is = bytes-below (valueCount size / 2) (some-few size sized .0)
+  least-is = bytes-below (valueCount size / 2) (omega (arith, some-few size sized .0))
 
   not-below : leb least (ofHalves low high) ≡ inRange size true (negℤ (pos below))
   not-below =

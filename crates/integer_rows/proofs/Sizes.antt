@@ -4,7 +4,7 @@ use mathlib.Core.Path.{_≡_, refl, sym, ap, _∙_}
 use mathlib.Core.Bool.{Bool, true, false, not, _&&_, _||_}
 use native.Mathlib.Nat.{add-mod-right}
 use native.Mathlib.Omega.{arith}
-use borrow.Author.Tests.{eqb-true, eqb-false, not-true, not-false, ltb-true, leb-true, lt-ltb, le-ltb}
+use borrow.Author.Tests.{eqb-true, eqb-false, not-true, not-false, leb-true, lt-ltb, le-ltb}
 use lib.Dec.{eqb, leb, ltb}
 use Rattle.image.specs.Integers.{valueCount}
 use Rattle.image.specs.Lists.{allBelow}
@@ -69,13 +69,13 @@ module _ {size row : ℕ} (a : Ahead size row) where
     unsigned-row e =
         (omega (arith, row-few), ap (λ (n : ℕ). 2 ^ n) (add-mod-right row 5) ∙ here, le-ltb (row + 5) 5 (omega arith) ∙ sym e)
 
--- half of the values of a size: there are some, and no more than of 16 bytes. A test, computed at each of the sizes
+-- half of the values of a size: no fewer than of a byte, and no more than of 16. A test, computed at each of the sizes
 halved : ℕ → Bool
-halved size = ltb 0 (valueCount size / 2) && leb (valueCount size / 2) (valueCount 16 / 2)
+halved size = leb 128 (valueCount size / 2) && leb (valueCount size / 2) (valueCount 16 / 2)
 
-pub some-few : (size : ℕ) → isIntegerSize size ≡ true → (0 < valueCount size / 2) × (valueCount size / 2 ≤ valueCount 16 / 2)
+pub some-few : (size : ℕ) → isIntegerSize size ≡ true → (128 ≤ valueCount size / 2) × (valueCount size / 2 ≤ valueCount 16 / 2)
 unfolding rowSize allBelow halved
 some-few size e =
     let a = some-row size e in
     let h : halved size ≡ true = rw (sym (a .is)) (below-at (λ place. halved (rowSize place)) 5 (a .place) refl (omega (arith, a .signed))) in
-    (ltb-true 0 (valueCount size / 2) (and-left (ltb 0 (valueCount size / 2)) (leb (valueCount size / 2) (valueCount 16 / 2)) h), leb-true (valueCount size / 2) (valueCount 16 / 2) (and-right (ltb 0 (valueCount size / 2)) (leb (valueCount size / 2) (valueCount 16 / 2)) h))
+    (leb-true 128 (valueCount size / 2) (and-left (leb 128 (valueCount size / 2)) (leb (valueCount size / 2) (valueCount 16 / 2)) h), leb-true (valueCount size / 2) (valueCount 16 / 2) (and-right (leb 128 (valueCount size / 2)) (leb (valueCount size / 2) (valueCount 16 / 2)) h))

@@ -113,11 +113,16 @@ pub fn integer_row(size: u16, signed: bool) -> IntegerRow
     row_at(row_number(size, signed))
 }
 
-// A number that is not negative is in the range where it is not above the row's greatest.
+// A number that is not negative is in the range where it is not above the row's greatest. Every row holds 0 to 127: for these none is looked up.
 pub fn positive_in_range(size: u16, signed: bool, low: u64, high: u64) -> bool
     requires { ⌜ isIntegerSize size ≡ true ⌝ }
     ensures { λ r. ⌜ r ≡ inRange size signed (pos (low + valueCount 8 * high)) ⌝ }
 {
+    if high == 0 {
+        if low < 128 {
+            return true;
+        }
+    }
     let row = integer_row(size, signed);
     if high == row.greatest_high {
         return low <= row.greatest_low;
