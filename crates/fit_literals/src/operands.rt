@@ -63,17 +63,13 @@ pub fn literal_fits(image: &[u8], tables: Tables, ty: u16, o: u16) -> bool
     let operand = operand_at(image, tables, o);
     let bytes = operand_bytes(image, tables, operand);
     match operand_kind(operand.kind) {
-        OperandKind::Int => integer_fits(image, row, kind, true, bytes),
-        OperandKind::Uint => integer_fits(image, row, kind, false, bytes),
+        OperandKind::Int | OperandKind::Uint => {
+            integer_fits(image, row, kind, operand.kind == 1, bytes)
+        }
         OperandKind::Char => row.kind == 3,
         OperandKind::Bool => row.kind == 2,
         OperandKind::Str => refers_to_str(image, tables, ty),
-        OperandKind::CStr => false,
-        OperandKind::ByteStr => false,
-        OperandKind::Constant => false,
-        OperandKind::Float => false,
-        OperandKind::Other => false,
-        OperandKind::Unknown => false,
+        _ => false,
     }
 }
 

@@ -13,10 +13,10 @@ use Rattle.image.proofs.rows.type_at.Reads as type-at-reads
 use mathlib.Core.Path.{_∙_}
 use native.Mathlib.Omega.{arith}
 use Rattle.image.specs.declared.kinds.OperandKind.{OperandKind}
-use Rattle.literals.proofs.Operands.{operand-listed, operand-lies, int-bytes, uint-bytes}
+use Rattle.literals.proofs.Operands.{operand-listed, operand-lies}
 use Rattle.meaning.specs.Fitting.{literalFits}
 use Rattle.fit_literals.proofs.Shapes.{holds-of, is-kind}
-use Rattle.fit_literals.proofs.Clauses.{integer-at, literal-by}
+use Rattle.fit_literals.proofs.Clauses.{integer-at, literal-by, integer-bytes, literal-integer, literal-other}
 
 type-at-requires : tie.Need-type-at-requires
 type-at-requires c κs = (c .before .pre .1, omega (arith, c .before .pre .1 .type-count, c .before .pre .2))
@@ -28,57 +28,29 @@ operand-bytes-requires : tie.Need-operand-bytes-requires
 operand-bytes-requires c κs = (c .before .before .before .before .pre .1, omega (arith, c .before .before .before .before .pre .1 .data-count, operand-lies _ _ (c .before .before .before .before .pre .3) (c .operand-at .ensures)))
 
 integer-fits-requires : tie.Need-integer-fits-requires
-integer-fits-requires c κs = (holds-of _ _ (c .before .before .before .before .before .before .type-at .ensures) (c .before .before .before .before .before .before .before .before .pre .0) (c .before .before .before .before .before .before .before .before .pre .2) (c .before .before .before .before .before .type-kind .ensures), int-bytes _ _ (c .before .before .before .before .before .before .before .before .pre .3) (c .before .before .before .before .operand-at .ensures) (c .before .before .before .operand-bytes .ensures) (c .before .before .operand-kind .ensures) (c .enum-told .given .1))
-
-integer-fits-requires-2 : tie.Need-integer-fits-requires-2
-integer-fits-requires-2 c κs = (holds-of _ _ (c .before .before .before .before .before .before .type-at .ensures) (c .before .before .before .before .before .before .before .before .pre .0) (c .before .before .before .before .before .before .before .before .pre .2) (c .before .before .before .before .before .type-kind .ensures), uint-bytes _ _ (c .before .before .before .before .before .before .before .before .pre .3) (c .before .before .before .before .operand-at .ensures) (c .before .before .before .operand-bytes .ensures) (c .before .before .operand-kind .ensures) (c .enum-told2 .given .1))
+integer-fits-requires c κs = (holds-of _ _ (c .before .before .before .before .before .before .type-at .ensures) (c .before .before .before .before .before .before .before .before .pre .0) (c .before .before .before .before .before .before .before .before .pre .2) (c .before .before .before .before .before .type-kind .ensures), integer-bytes _ _ (c .before .before .before .before .operand-at .ensures) (c .before .before .before .before .before .before .before .before .pre .3) _ (c .before .before .operand-kind .ensures) (c .before .match .keys1) (c .before .before .before .operand-bytes .ensures))
 
 refers-to-str-requires : tie.Need-refers-to-str-requires
 refers-to-str-requires c κs = (c .before .before .before .before .before .before .before .before .pre .0, c .before .before .before .before .before .before .before .before .pre .1, c .before .before .before .before .before .before .before .before .pre .2)
 
 returns : tie.Need-returns
 unfolding literalFits
-returns c = c .integer-fits .ensures ∙ integer-at _ _ (c .before .before .before .before .before .before .before .type-at .ensures) (c .before .before .before .before .before .before .type-kind .ensures) _ _ ∙ literal-by _ _ (c .before .before .before .before .before .operand-at .ensures) OperandKind.Int (c .before .before .before .operand-kind .ensures) (c .before .enum-told .given .1) _ (c .before .before .before .before .operand-bytes .ensures)
+returns c = c .integer-fits .ensures ∙ integer-at _ _ (c .before .before .before .before .before .before .before .type-at .ensures) (c .before .before .before .before .before .before .type-kind .ensures) _ _ ∙ literal-integer _ _ (c .before .before .before .before .before .operand-at .ensures) _ (c .before .before .before .operand-kind .ensures) (c .before .before .match .keys1) _ (c .before .before .before .before .operand-bytes .ensures)
 
 returns-2 : tie.Need-returns-2
 unfolding literalFits
-returns-2 c = c .integer-fits2 .ensures ∙ integer-at _ _ (c .before .before .before .before .before .before .before .type-at .ensures) (c .before .before .before .before .before .before .type-kind .ensures) _ _ ∙ literal-by _ _ (c .before .before .before .before .before .operand-at .ensures) OperandKind.Uint (c .before .before .before .operand-kind .ensures) (c .before .enum-told2 .given .1) _ (c .before .before .before .before .operand-bytes .ensures)
+returns-2 c = is-kind _ _ (c .before .before .before .before .before .before .before .type-at .ensures) (c .before .before .before .before .before .before .before .before .before .pre .0) (c .before .before .before .before .before .before .before .before .before .pre .2) 3 ∙ literal-by _ _ (c .before .before .before .before .before .operand-at .ensures) OperandKind.Char (c .before .before .before .operand-kind .ensures) (c .before .enum-told .given .1) _ (c .before .before .before .before .operand-bytes .ensures)
 
 returns-3 : tie.Need-returns-3
 unfolding literalFits
-returns-3 c = is-kind _ _ (c .before .before .before .before .before .before .before .type-at .ensures) (c .before .before .before .before .before .before .before .before .before .pre .0) (c .before .before .before .before .before .before .before .before .before .pre .2) 3 ∙ literal-by _ _ (c .before .before .before .before .before .operand-at .ensures) OperandKind.Char (c .before .before .before .operand-kind .ensures) (c .before .enum-told3 .given .1) _ (c .before .before .before .before .operand-bytes .ensures)
+returns-3 c = is-kind _ _ (c .before .before .before .before .before .before .before .type-at .ensures) (c .before .before .before .before .before .before .before .before .before .pre .0) (c .before .before .before .before .before .before .before .before .before .pre .2) 2 ∙ literal-by _ _ (c .before .before .before .before .before .operand-at .ensures) OperandKind.Bool (c .before .before .before .operand-kind .ensures) (c .before .enum-told2 .given .1) _ (c .before .before .before .before .operand-bytes .ensures)
 
 returns-4 : tie.Need-returns-4
 unfolding literalFits
-returns-4 c = is-kind _ _ (c .before .before .before .before .before .before .before .type-at .ensures) (c .before .before .before .before .before .before .before .before .before .pre .0) (c .before .before .before .before .before .before .before .before .before .pre .2) 2 ∙ literal-by _ _ (c .before .before .before .before .before .operand-at .ensures) OperandKind.Bool (c .before .before .before .operand-kind .ensures) (c .before .enum-told4 .given .1) _ (c .before .before .before .before .operand-bytes .ensures)
+returns-4 c = c .refers-to-str .ensures ∙ literal-by _ _ (c .before .before .before .before .before .operand-at .ensures) OperandKind.Str (c .before .before .before .operand-kind .ensures) (c .before .enum-told3 .given .1) _ (c .before .before .before .before .operand-bytes .ensures)
 
 returns-5 : tie.Need-returns-5
-unfolding literalFits
-returns-5 c = c .refers-to-str .ensures ∙ literal-by _ _ (c .before .before .before .before .before .operand-at .ensures) OperandKind.Str (c .before .before .before .operand-kind .ensures) (c .before .enum-told5 .given .1) _ (c .before .before .before .before .operand-bytes .ensures)
-
-returns-6 : tie.Need-returns-6
-unfolding literalFits
-returns-6 c = literal-by _ _ (c .before .before .before .before .operand-at .ensures) OperandKind.CStr (c .before .before .operand-kind .ensures) (c .enum-told6 .given .1) _ (c .before .before .before .operand-bytes .ensures)
-
-returns-7 : tie.Need-returns-7
-unfolding literalFits
-returns-7 c = literal-by _ _ (c .before .before .before .before .operand-at .ensures) OperandKind.ByteStr (c .before .before .operand-kind .ensures) (c .enum-told7 .given .1) _ (c .before .before .before .operand-bytes .ensures)
-
-returns-8 : tie.Need-returns-8
-unfolding literalFits
-returns-8 c = literal-by _ _ (c .before .before .before .before .operand-at .ensures) OperandKind.Constant (c .before .before .operand-kind .ensures) (c .enum-told8 .given .1) _ (c .before .before .before .operand-bytes .ensures)
-
-returns-9 : tie.Need-returns-9
-unfolding literalFits
-returns-9 c = literal-by _ _ (c .before .before .before .before .operand-at .ensures) OperandKind.Float (c .before .before .operand-kind .ensures) (c .enum-told9 .given .1) _ (c .before .before .before .operand-bytes .ensures)
-
-returns-10 : tie.Need-returns-10
-unfolding literalFits
-returns-10 c = literal-by _ _ (c .before .before .before .before .operand-at .ensures) OperandKind.Other (c .before .before .operand-kind .ensures) (c .enum-told10 .given .1) _ (c .before .before .before .operand-bytes .ensures)
-
-returns-11 : tie.Need-returns-11
-unfolding literalFits
-returns-11 c = literal-by _ _ (c .before .before .before .before .operand-at .ensures) OperandKind.Unknown (c .before .before .operand-kind .ensures) (c .enum-told11 .given .1) _ (c .before .before .before .operand-bytes .ensures)
+returns-5 c = literal-other _ _ (c .before .before .before .operand-at .ensures) _ (c .before .operand-kind .ensures) (c .match .keys5) _ (c .before .before .operand-bytes .ensures)
 
 pub literal-fits-spec : {M : Type 1} → statement M
 literal-fits-spec =
@@ -89,28 +61,13 @@ literal-fits-spec =
     operand-at-requires
     operand-bytes-requires
     (λ c κs. search needs)
-    (λ c. search needs)
     integer-fits-requires
-    (λ c. search needs)
-    integer-fits-requires-2
     (λ c. search needs)
     (λ c. search needs)
     (λ c. search needs)
     refers-to-str-requires
-    (λ c. search needs)
-    (λ c. search needs)
-    (λ c. search needs)
-    (λ c. search needs)
-    (λ c. search needs)
-    (λ c. search needs)
     returns
     returns-2
     returns-3
     returns-4
-    returns-5
-    returns-6
-    returns-7
-    returns-8
-    returns-9
-    returns-10
-    returns-11)
+    returns-5)
