@@ -51,9 +51,9 @@ REFUSED_OF_PARAMETERS = (
     "param_locals/local_missing_from_its_scope",
     "param_steps/else_left_open",
     "params_text/bindings_and_entries_exchanged",
-    "params_listing/a_scope_where_none_is_asked",
-    "params_listing/scope_by_the_word_of_self",
-    "params_listing/self_not_counted",
+    "params_start/a_scope_where_none_is_asked",
+    "params_start/scope_by_the_word_of_self",
+    "params_start/self_not_counted",
 )
 
 # Further changes: a name, the file below crates/, the text, and what it becomes.
