@@ -13,7 +13,7 @@ from pathlib import Path
 ROOT = Path(__file__).resolve().parent.parent
 PAGE = [ROOT / f"crates/audit/proofs/{name}.antt" for name in ("Audit", "Accepting", "Refusing", "Parameters")]
 # The lowering's definition and the steps that it is made of; of `lower` and `state` the rest is read as tables are.
-LOWERING = re.compile(r"crates/(pattern_matching|literals|lowered_params|drop_scopes)/specs/|crates/(lower/specs/(Temps|Merging)|state/specs/Steps|mir/specs/Rvalues)")
+LOWERING = re.compile(r"crates/(pattern_matching|literals|drop_scopes)/specs/|crates/(lowered_params/specs/Params|lower/specs/(Temps|Merging)|state/specs/Steps|mir/specs/Rvalues)")
 
 
 def named(path):

@@ -252,7 +252,7 @@ def main():
         missed += not differs
         print(f"{change[0]}: {told}", flush=True)
     print(f"{len(changes)} changes, {missed} not found")
-    return 1 if missed else 0
+    return 1 if missed or not changes else 0
 
 
 if __name__ == "__main__":

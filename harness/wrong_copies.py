@@ -179,7 +179,7 @@ def main():
         missed += not differs
         print(f"{name}: {told}", flush=True)
     print(f"{tried} changes, {missed} not found")
-    return 1 if missed else 0
+    return 1 if missed or not tried else 0
 
 
 if __name__ == "__main__":

@@ -24,7 +24,7 @@ from wrong_lines import CHANGES, ROWS
 
 REPOSITORY = Path(__file__).resolve().parent.parent
 # The crates of theorems, from the bottom to the page.
-THEOREMS = ("counting", "growth", "meaning", "correctness", "fitted", "param_runs", "called", "audit")
+THEOREMS = ("counting", "growth", "meaning", "correctness", "fitted", "room", "param_runs", "called", "audit")
 # The crate of the page's rows alone, over the definitions that they are computed from.
 ROWS_STAND_ON = "refusals row_tables image place mir state literals lower views pattern_matching counting meaning"
 ERROR = re.compile(r"crates/(\w+)/(specs|proofs)/([\w/]+)\.antt:\d+:\d+: error: `([^`]+)`(.*)")
@@ -32,8 +32,8 @@ ERROR = re.compile(r"crates/(\w+)/(specs|proofs)/([\w/]+)\.antt:\d+:\d+: error: 
 
 def dependencies():
     """What each crate stands on, and what that stands on."""
-    lines = (REPOSITORY / "crates.txt").read_text().splitlines()
-    direct = {name: below.split() for name, below in (line.split(":") for line in lines if line[:1] not in ("#", ""))}
+    lines = (line.split("#")[0] for line in (REPOSITORY / "crates.txt").read_text().splitlines())
+    direct = {name: below.split() for name, colon, below in (line.partition(":") for line in lines) if colon}
 
     def all_below(name):
         return {name}.union(*map(all_below, direct.get(name, ())))
@@ -172,7 +172,9 @@ def prepare(folder, below):
 def main():
     """Tries each change, and prints the table."""
     below = dependencies()
-    chosen = [change for change in CHANGES if all(word in change[0] for word in sys.argv[1:])]
+    chosen = [change for change in CHANGES if not sys.argv[1:] or any(word in change[0] for word in sys.argv[1:])]
+    if not chosen:
+        sys.exit("no change says any of these words")
     accepted = []
     with tempfile.TemporaryDirectory() as folder:
         prepare(Path(folder), below)
