@@ -27,7 +27,6 @@ use Rattle.meaning.specs.Running.{Env, valueOf, signedNumber, sameValue, compar
 use Rattle.meaning.specs.Executing.{atThen, atElse}
 use Rattle.meaning.specs.Matching.{fromStart, toEnd, matches}
 use Rattle.meaning.specs.Binding.{binds}
-use Rattle.meaning.specs.Differences.{asTheRustReads}
 use Rattle.meaning.proofs.Laws as laws
 use Rattle.meaning.proofs.Crossing as crossing
 use Rattle.meaning.proofs.Behind as behind
@@ -117,12 +116,12 @@ a-body-goes-on-from-itself = goes-on-refl
 -- comes to, with the bindings and the blocks entered on the way that this one has.
 module _ (call : Call) (out : HandedOut) (accepted : Accepted call out) (t : ℕ) (typed : placeTy (call .image) (before call) (call .place) ≡ PlaceTy.Ty t)
     (named : t < typeCount (call .image)) (v : Value) (fitting : Fitting (call .image) (call .bindings) (startOf call) (call .place) t (patternOf call) v) (env : Env) where
-  pub the-function-runs-a-value-that-matches-to-then : matches (call .image) (asTheRustReads (patternOf call)) v ≡ true →
-      (c : Comes (call .image) (call .bindings) (mirOf (after out)) (call .place) v (startOf call) (call .start) env (binds (call .image) (asTheRustReads (patternOf call)) (pathOf (call .place)) v) (out .then .0) (drop (out .counts .statements) (mirOf (after out) .lines)))
+  pub the-function-runs-a-value-that-matches-to-then : matches (call .image) (patternOf call) v ≡ true →
+      (c : Comes (call .image) (call .bindings) (mirOf (after out)) (call .place) v (startOf call) (call .start) env (binds (call .image) (patternOf call) (pathOf (call .place)) v) (out .then .0) (drop (out .counts .statements) (mirOf (after out) .lines)))
       × Ends (call .image) (mirOf (after out)) (call .place) v (startOf call) (call .start) env (out .then) (out .else) (out .then .0) (drop (out .counts .statements) (mirOf (after out) .lines)) (c .stops) atThen
   the-function-runs-a-value-that-matches-to-then = ended.ends-at-then call out accepted t typed named v fitting env
 
-  pub the-function-runs-any-other-value-to-else : matches (call .image) (asTheRustReads (patternOf call)) v ≡ false →
+  pub the-function-runs-any-other-value-to-else : matches (call .image) (patternOf call) v ≡ false →
       (e : BasicBlockId) × (out .else ≡ OptBlock.Some e) × (c : Comes (call .image) (call .bindings) (mirOf (after out)) (call .place) v (startOf call) (call .start) env [] (e .0) (mirOf (after out) .lines))
       × Ends (call .image) (mirOf (after out)) (call .place) v (startOf call) (call .start) env (out .then) (out .else) (e .0) (mirOf (after out) .lines) (c .stops) atElse
   the-function-runs-any-other-value-to-else = ended.ends-at-else call out accepted t typed named v fitting env

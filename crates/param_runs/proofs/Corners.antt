@@ -47,7 +47,6 @@ use Rattle.meaning.specs.Fitting.{literalFits, pathFits, rowFits, eachFits, typ
 use Rattle.meaning.specs.Fit.{boundIn, bindingsFit}
 use Rattle.meaning.specs.Fits.{hasVariant, pathTaken, nothingRefused, present, localsDiffer, fits}
 use Rattle.meaning.specs.Matching.{crossed, created, matchAll, matchRow, isVariant, pathMatches, matches}
-use Rattle.meaning.specs.Differences.{asTheReference}
 use Rattle.meaning.specs.Running.{scalarOf, bytesOf, sameValue}
 use Rattle.param_runs.specs.Returned.{ownLocal}
 use Rattle.param_runs.specs.Through.{plain, patternFits, paramFits, paramsFit, allFit, paramsBound}
@@ -111,5 +110,5 @@ as-wanted = refl
 
 -- whether the parameters fit the values beside them, as the theorem on runs asks
 pub fit-as-said : map cornerFits rows ≡ map (λ (row : Row). row .fit) rows
-unfolding wordAt littleEndian tablesOf typeAt variantAt patAt bindingAt listAt operandAt operandBytes member upFrom listed shapeBy tyOf variantOf bindingOf operandOf word? operand? trees tree? target nodeBy node treeOf tree allTrue distinct leastValue greatestValue inRange integerValue items partsOf intFits kindNumber fieldTypes valueFits referent behind typeIsThePlaces tupleFields variantsOf argumentsFit discriminantsDiffer integerFits literalFits pathFits rowFits eachFits typesFit boundIn bindingsFit hasVariant pathTaken nothingRefused present localsDiffer fits crossed created matchAll matchRow isVariant pathMatches matches asTheReference scalarOf bytesOf sameValue Rattle.meaning.specs.Typing.variantFields ownLocal plain patternFits paramFits paramsFit allFit paramsBound cornerFits
+unfolding wordAt littleEndian tablesOf typeAt variantAt patAt bindingAt listAt operandAt operandBytes member upFrom listed shapeBy tyOf variantOf bindingOf operandOf word? operand? trees tree? target nodeBy node treeOf tree allTrue distinct leastValue greatestValue inRange integerValue items partsOf intFits kindNumber fieldTypes valueFits referent behind typeIsThePlaces tupleFields variantsOf argumentsFit discriminantsDiffer integerFits literalFits pathFits rowFits eachFits typesFit boundIn bindingsFit hasVariant pathTaken nothingRefused present localsDiffer fits crossed created matchAll matchRow isVariant pathMatches matches scalarOf bytesOf sameValue Rattle.meaning.specs.Typing.variantFields ownLocal plain patternFits paramFits paramsFit allFit paramsBound cornerFits
 fit-as-said = refl
