@@ -299,7 +299,7 @@ module _ (image : List ℕ) where
   -- patterns in a row that bind nothing twice, all of whose bindings have locals
   pub separate : (bindings : List ℕ) (qs : Pats) → allBindingsFit image qs ≡ true → bindOnce image (boundInAll image qs) ≡ true → AllLocal bindings (boundInAll image qs) →
       Separate bindings (binders image qs)
-  unfolding boundInAll allBindingsFit binders allAsTheRustReads
+  unfolding boundInAll allBindingsFit binders
   separate bindings nil f once there = tt
   separate bindings (cons q qs) f once there =
       let here = boundIn image q in

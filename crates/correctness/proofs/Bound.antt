@@ -94,7 +94,7 @@ module _ (scene : Scene) (word : ℕ) (bindings : List ℕ) (M : Mir) (holds : v
     bound (Pat.Or h alts) f there of =
         let image = scene .image in
         let pat = Pat.Or h alts in
-        let read = allAsTheRustReads alts in
+        let read = alts in
         let first = alternativesFit image alts in
         let each = allBindingsFit image alts in
         let ks = alts-bound alts (and-left first each f) (and-right first each f) there of in

@@ -11,6 +11,7 @@ use borrow.Author.Tests.{eqb-true, leb-true}
 use lib.Dec.{ltb}
 use lib.ListN.{length, getD, take, drop, length-take, length-drop, length-map, length-reverse}
 use lib.Seq.{drop-cons, take-length, drop-length}
+use Rattle.pattern_matching.specs.Slices.{suffixItems}
 use Rattle.image.specs.Lists.{upFrom}
 use Rattle.image.proofs.Bools.{and-right}
 use Rattle.place.specs.declared.elems.ProjectionElem.{ProjectionElem}

@@ -22,7 +22,7 @@ use Rattle.views.specs.Growing.{GoesOn}
 use Rattle.pattern_matching.specs.declared.MatchingMode.{MatchingMode}
 use Rattle.pattern_matching.specs.Walking.{Ctx, Out, Walk, ok, Lowering, next, out}
 use Rattle.pattern_matching.specs.Variants.{patternMatchAdt}
-use Rattle.pattern_matching.specs.Slices.{RestOf, lengthTest, restBound, sliceItems, sliceOn}
+use Rattle.pattern_matching.specs.Slices.{RestOf, lengthTest, restBound, sliceItems, sliceOn, suffixItems}
 use Rattle.pattern_matching.specs.Patterns.{restBy, restOf}
 use Rattle.growth.specs.Opened.{Ready, Leaves}
 use Rattle.growth.proofs.Walks.{not-ok, walked}
