@@ -147,7 +147,7 @@ def c_string():
 
 
 def half_open_end():
-    """`1..3` on u8, its end a constant: the end is taken, the flag ignored."""
+    """`1..3` on u8, its end a constant: the end is left out."""
     m, u8 = with_u8()
     end = m.add_operand(CONSTANT, bytes([3]))
     m.add_pattern(RANGE, u8, m.add_integer(1), end, 1)
@@ -175,7 +175,7 @@ def rest_binding(kind, length=0):
 
 
 def slice_rest_binding():
-    """`[_, rest @ .., a, b]` on [u8]: suffix items run backwards."""
+    """`[_, rest @ .., a, b]` on [u8]: suffix items in the order of the text."""
     return rest_binding(SLICE_TYPE)
 
 

@@ -101,9 +101,9 @@ def check_others():
     assert statements(lowered(on.constant)) == [
         "live 1", "set 1 05", "live 2", "set 2 eq copy 1 copy 0"]
     assert sizes(on.half_open) == (2, 2) and sizes(on.half_open_end) == (3, 4)
-    assert statements(lowered(on.half_open_end))[3] == "set 2 ge 03 copy 0"
-    bound = ["live 1", "set 1 ref 0.s1-2", "live 2", "set 2 copy 0.e0",
-             "live 3", "set 3 copy 0.e1"]
+    assert statements(lowered(on.half_open_end))[3] == "set 2 gt 03 copy 0"
+    bound = ["live 1", "set 1 ref 0.s1-2", "live 2", "set 2 copy 0.e1",
+             "live 3", "set 3 copy 0.e0"]
     assert statements(lowered(on.slice_rest_binding)) == [
         "live 4", "set 4 len 0", "live 5", "set 5 le 0300000000000000 copy 4"] + bound
     assert statements(lowered(on.array_rest_binding)) == bound
