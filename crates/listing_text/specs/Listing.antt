@@ -41,11 +41,12 @@ placeRvalueWord PlaceRvalue.Mut = mutWord
 placeRvalueWord PlaceRvalue.Len = lenWord
 placeRvalueWord PlaceRvalue.Discr = discrWord
 
--- "an operator (eq, le, ge) with two operands"
+-- "an operator (eq, le, ge) with two operands"; gt is request S-1's
 unfoldable pub operatorWord : BinOp → List ℕ
 operatorWord BinOp.Eq = eqWord
 operatorWord BinOp.Le = leWord
 operatorWord BinOp.Ge = geWord
+operatorWord BinOp.Gt = gtWord
 
 unfoldable pub leftText : Left → List ℕ
 leftText (Left.Local l) = copyWord ++ decimal (l .0)
