@@ -6,8 +6,8 @@ first line of its listing.
 
 from images import (
     ABSENT, ARRAY, BIND, CHAR, CHARACTER, CONSTANT, C_STRING, ENUM, INTEGER, LIT,
-    NAMES_CONSTANT, NAMES_VARIANT, OR, PATH, RANGE, RECORD, REF, REFERENCE, REST, SLICE, SLICE_TYPE, STR, STRUCT, TUPLE,
-    TUPLE_STRUCT, TUPLE_TYPE, WILD, Image,
+    NAMES_CONSTANT, NAMES_VARIANT, OR, PATH, RANGE, RECORD, REF, REFERENCE, REST, SLICE,
+    SLICE_TYPE, STR, STRUCT, TUPLE, TUPLE_STRUCT, TUPLE_TYPE, WILD, Image,
 )
 from readable import (
     array, constant, first_three, half_open, last_two, literal7, or_1_2, range_, reference,
