@@ -96,7 +96,7 @@ module _ (image : List ℕ) (p from count : ℕ) (t : ArgumentsThere ArgumentRow
 -- a Slice's items at the end stand in the list behind those in front
 module _ (image : List ℕ) (p rest from front back : ℕ) (t : SliceThere image p rest from front back) where
   pub back-lies : from + front + back ≤ listCount image
-  back-lies = t .at-end .lies
+  back-lies = t .at-end .lies .0
 
   -- so many at most
   pub back-few : valid image ≡ true → from + front + back ≤ 2048
