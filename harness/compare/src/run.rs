@@ -93,8 +93,13 @@ pub fn compare<T: Given>(sources: Vec<Source<T>>, other: &Other, counts: bool) -
     for (sort, count) in &tally.sorts {
         println!("  {sort}: {count}");
     }
-    println!("differ from the Rust's own listing by document 02's replacements alone: {}", tally.replaced);
-    println!("{} {} compared, {} differ", tally.given, T::NAME, tally.differences);
+    println!(
+        "{} {} compared, {} differ; {} agree by document 02's replacements alone",
+        tally.given,
+        T::NAME,
+        tally.differences,
+        tally.replaced
+    );
     tally.differences
 }
 
