@@ -3,7 +3,7 @@
 use Prim.Native.Nat.{ℕ, _+_, _-_, _^_, _/_, _≤_, _<_}
 use mathlib.Core.Path.{_≡_}
 use mathlib.Core.Logic.{_↔_}
-use mathlib.Core.Bool.{Bool, true, false, not, _||_}
+use mathlib.Core.Bool.{Bool, true, false, not, _&&_, _||_}
 use mathlib.Core.Option.{none, some}
 use mathlib.Core.List.{List, [], _∷_, _++_, map}
 use lib.Dec.{leb, ltb}
@@ -43,13 +43,16 @@ pub the-same-exactly-when-equal : (v w : Value) → Comparable v → Comparable 
 the-same-exactly-when-equal = laws.same-exactly-when-equal
 
 -- Integers are compared in their order, bools with false before true, and chars by their numbers.
-pub integers-in-their-order : (y z : ℤ) → (compared BinOp.Le (Int y) (Int z) ≡ leZ y z) × (compared BinOp.Ge (Int y) (Int z) ≡ leZ z y)
+pub integers-in-their-order : (y z : ℤ) →
+    (compared BinOp.Le (Int y) (Int z) ≡ leZ y z) × (compared BinOp.Ge (Int y) (Int z) ≡ leZ z y) × (compared BinOp.Gt (Int y) (Int z) ≡ ltZ z y)
 integers-in-their-order = laws.integers-compared
 
-pub false-before-true : (a b : Bool) → (compared BinOp.Le (Bool′ a) (Bool′ b) ≡ not a || b) × (compared BinOp.Ge (Bool′ a) (Bool′ b) ≡ not b || a)
+pub false-before-true : (a b : Bool) →
+    (compared BinOp.Le (Bool′ a) (Bool′ b) ≡ not a || b) × (compared BinOp.Ge (Bool′ a) (Bool′ b) ≡ not b || a) × (compared BinOp.Gt (Bool′ a) (Bool′ b) ≡ a && not b)
 false-before-true = laws.bools-compared
 
-pub chars-by-their-numbers : (c d : ℕ) → (compared BinOp.Le (Char c) (Char d) ≡ leb c d) × (compared BinOp.Ge (Char c) (Char d) ≡ leb d c)
+pub chars-by-their-numbers : (c d : ℕ) →
+    (compared BinOp.Le (Char c) (Char d) ≡ leb c d) × (compared BinOp.Ge (Char c) (Char d) ≡ leb d c) × (compared BinOp.Gt (Char c) (Char d) ≡ ltb d c)
 chars-by-their-numbers = laws.chars-compared
 
 -- A range: an end that is absent bounds nothing; a value is not below the start, not above the end, and below the end where the range is half-open.
