@@ -5,30 +5,22 @@ use mathlib.Core.Path.{_≡_}
 use mathlib.Core.Logic.{_⊎_}
 use mathlib.Core.Bool.{true, false}
 use mathlib.Core.List.{[], map}
-use lib.ListN.{getD, drop}
+use lib.ListN.{getD}
 use Rattle.refusals.specs.declared.MirLowerError.{MirLowerError}
 use Rattle.refusals.specs.Refusals.{numberOf}
 use Rattle.image.specs.declared.PatId.{PatId}
-use Rattle.image.specs.Tables.{typeCount}
-use Rattle.place.specs.declared.place_ty.PlaceTy.{PlaceTy}
 use Rattle.mir.specs.declared.BasicBlockId.{BasicBlockId}
 use Rattle.mir.specs.declared.blocks.Terminator.{Terminator}
 use Rattle.lower.specs.declared.merging.OptBlock.{OptBlock}
 use Rattle.pattern_matching.specs.Walking.{ok}
-use Rattle.pattern_matching.specs.Variants.{placeTy}
 use Rattle.views.specs.Views.{Mir, mirOf}
 use Rattle.views.specs.Growing.{terminatorAt, GoesOn}
 use Rattle.counting.specs.Demand3.{Counted}
 use Rattle.counting.specs.Reaching.{Reached}
-use Rattle.counting.specs.Counting.{reachedFrom, Standing}
-use Rattle.meaning.specs.Values.{Value}
 use Rattle.meaning.specs.Running.{Env}
-use Rattle.meaning.specs.Matching.{matches}
-use Rattle.meaning.specs.Binding.{binds}
-use Rattle.meaning.specs.Fits.{fits}
-use Rattle.correctness.specs.Demand2.{pathOf, Fitting, Stops, Comes}
-use Rattle.called.specs.Call.{Call, HandedOut, Accepted, Refused, before, after, patternOf, startOf, resultOf}
+use Rattle.called.specs.Call.{Call, HandedOut, Accepted, Refused, after, patternOf, startOf, resultOf}
 use Rattle.called.specs.Passes.{TwoPasses}
+use Rattle.called.specs.Runs.{IsReachedIn, FittingPattern, FittingValue, matching, bound, ComesToThen, ComesToElse, StopsAtThen, StopsAtElse}
 use Rattle.called.proofs.Runs.{if-it-matches, if-not, stops}
 use Rattle.called.proofs.Bodies.{gives, only-those-open, those-open, two-passes, counted, reached-visits, other-visits}
 use Rattle.called.proofs.Refusals.{fit-refused}
@@ -41,27 +33,20 @@ pub what-is-handed-out-is-what-the-definition-gives : (call : Call) (out : Hande
     lowering (call .image) (call .bindings) (patternOf call) (startOf call) (call .start) (call .else) (call .place) ≡ ok (resultOf out)
 what-is-handed-out-is-what-the-definition-gives = gives
 
--- Demands 2 and 3 on runs: a pattern that fits its place, of the type t, and a value that fits, in every body M that goes on from the accepted one, whatever the locals
+-- Demands 2 and 3 on runs: an accepted call on a pattern that fits its place and a value that does, in every body M that goes on from the one handed out, whatever the locals
 -- hold before.
-module _ (call : Call) (out : HandedOut) (accepted : Accepted call out) (t : ℕ) (typed : placeTy (call .image) (before call) (call .place) ≡ PlaceTy.Ty t)
-    (named : t < typeCount (call .image)) (v : Value) (fitting : Fitting (call .image) (call .bindings) (startOf call) (call .place) t (patternOf call) v) (M : Mir)
-    (goes-on : GoesOn (mirOf (after out)) M) (env : Env) where
-  -- "the blocks lead a value to the then block when the Reference says it matches, with the bindings it says": to the end of then, every
-  -- other local handed in but the discriminant's unchanged
-  pub a-value-that-matches-comes-to-then : matches (call .image) (patternOf call) v ≡ true →
-      Comes (call .image) (call .bindings) M (call .place) v (startOf call) (call .start) env (binds (call .image) (patternOf call) (pathOf (call .place)) v) (out .then .0) (drop (out .counts .statements) (M .lines))
-  a-value-that-matches-comes-to-then = if-it-matches call out accepted t typed named v fitting M goes-on env
+module _ {call : Call} {out : HandedOut} (on : FittingValue call out) (M : Mir) (goes-on : GoesOn (mirOf (after out)) M) (env : Env) where
+  -- "the blocks lead a value to the then block when the Reference says it matches, with the bindings it says"
+  pub a-value-that-matches-comes-to-then : matching on ≡ true → ComesToThen on M env (bound on)
+  a-value-that-matches-comes-to-then = if-it-matches on M goes-on env
 
-  -- "and otherwise to the else block": on reaching it, with nothing bound
-  pub any-other-value-comes-to-else : matches (call .image) (patternOf call) v ≡ false →
-      (e : BasicBlockId) × (out .else ≡ OptBlock.Some e) × Comes (call .image) (call .bindings) M (call .place) v (startOf call) (call .start) env [] (e .0) (M .lines)
-  any-other-value-comes-to-else = if-not call out accepted t typed named v fitting M goes-on env
+  -- "and otherwise to the else block": with nothing bound
+  pub any-other-value-comes-to-else : matching on ≡ false → ComesToElse on M env []
+  any-other-value-comes-to-else = if-not on M goes-on env
 
   -- "For every fitting pattern and every fitting value, the run enters no block twice and stops at then or else."
-  pub the-run-enters-no-block-twice-and-stops-at-then-or-else :
-      (Stops (call .image) M (call .place) v (startOf call) (call .start) env (out .then .0) (drop (out .counts .statements) (M .lines)))
-      ⊎ ((e : BasicBlockId) × (out .else ≡ OptBlock.Some e) × Stops (call .image) M (call .place) v (startOf call) (call .start) env (e .0) (M .lines))
-  the-run-enters-no-block-twice-and-stops-at-then-or-else = stops call out accepted t typed named v fitting M goes-on env
+  pub the-run-enters-no-block-twice-and-stops-at-then-or-else : StopsAtThen on M env ⊎ StopsAtElse on M env
+  the-run-enters-no-block-twice-and-stops-at-then-or-else = stops on M goes-on env
 
 -- Demand 3, for every call of `pattern_match` that is accepted, whether its pattern fits or not.
 module _ (call : Call) (out : HandedOut) (accepted : Accepted call out) where
@@ -85,18 +70,17 @@ module _ (call : Call) (out : HandedOut) (accepted : Accepted call out) where
   counted-as-document-01-counts = counted call out accepted
 
   -- "Every pattern reached, with k Or patterns above it in the tree walked, was visited exactly k + 2 times" ..
-  pub every-reached-pattern-was-visited-k-plus-2-times : (q : Reached) → Standing q (reachedFrom (call .image) (patternOf call) (placeTy (call .image) (before call) (call .place))) →
+  pub every-reached-pattern-was-visited-k-plus-2-times : (q : Reached) → IsReachedIn call q →
       getD (out .visits) (q .number) 0 ≡ q .ors + 2
   every-reached-pattern-was-visited-k-plus-2-times = reached-visits call out accepted
 
   -- .. "and every other one never"
-  pub every-other-one-never : (n : ℕ) → ((q : Reached) → Standing q (reachedFrom (call .image) (patternOf call) (placeTy (call .image) (before call) (call .place))) → q .number ≡ n → ⊥) →
+  pub every-other-one-never : (n : ℕ) → ((q : Reached) → IsReachedIn call q → q .number ≡ n → ⊥) →
       getD (out .visits) n 0 ≡ 0
   every-other-one-never = other-visits call out accepted
 
 -- A pattern that fits is refused for a limit (11) or for want of a scope (14) alone.
-pub a-fitting-pattern-is-refused-by-11-or-14-alone : (call : Call) (e : MirLowerError) (p : PatId) (t : ℕ) → Refused call e p → placeTy (call .image) (before call) (call .place) ≡ PlaceTy.Ty t →
-    t < typeCount (call .image) → fits (call .image) (call .bindings) (call .place .local .0) (call .discr) t (patternOf call) ≡ true → (numberOf e ≡ 11) ⊎ (numberOf e ≡ 14)
+pub a-fitting-pattern-is-refused-by-11-or-14-alone : {call : Call} → FittingPattern call → (e : MirLowerError) (p : PatId) → Refused call e p → (numberOf e ≡ 11) ⊎ (numberOf e ≡ 14)
 a-fitting-pattern-is-refused-by-11-or-14-alone = fit-refused
 
 -- The corners of pattern_matching.rs that document 01 marks [P], from the bytes of their images.

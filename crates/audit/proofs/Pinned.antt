@@ -10,29 +10,23 @@ use lib.Dec.{leb, ltb}
 use lib.IntN.{ℤ, pos, negℤ}
 use lib.ListN.{length, getD, take, drop}
 use lib.Signed.{leZ, ltZ}
-use Rattle.image.specs.Tables.{typeCount}
 use Rattle.place.specs.declared.LocalId.{LocalId}
 use Rattle.place.specs.declared.elems.ProjectionElem.{ProjectionElem}
-use Rattle.place.specs.declared.place_ty.PlaceTy.{PlaceTy}
-use Rattle.mir.specs.declared.BasicBlockId.{BasicBlockId}
 use Rattle.mir.specs.declared.rvalues.BinOp.{BinOp}
 use Rattle.lower.specs.declared.temps.DiscrTemp.{DiscrTemp}
-use Rattle.lower.specs.declared.merging.OptBlock.{OptBlock}
-use Rattle.pattern_matching.specs.Variants.{placeTy}
-use Rattle.views.specs.Views.{Path, Mir, mirOf}
+use Rattle.views.specs.Views.{Path, Mir}
 use Rattle.views.specs.Growing.{GoesOn}
 use Rattle.growth.proofs.Working.{goes-on-refl}
 use Rattle.meaning.specs.Values.{Value, Int, Bool′, Char, Comparable, middle, placeIn}
 use Rattle.meaning.specs.Running.{Env, valueOf, signedNumber, sameValue, compared, Scene, sameElem, read}
-use Rattle.meaning.specs.Executing.{atThen, atElse}
-use Rattle.meaning.specs.Matching.{fromStart, toEnd, matches}
-use Rattle.meaning.specs.Binding.{binds}
+use Rattle.meaning.specs.Matching.{fromStart, toEnd}
 use Rattle.meaning.proofs.Laws as laws
 use Rattle.meaning.proofs.Crossing as crossing
 use Rattle.meaning.proofs.Behind as behind
-use Rattle.correctness.specs.Demand2.{pathOf, IsNotDiscr, Fitting, Distinct, Comes, Ends}
+use Rattle.correctness.specs.Demand2.{IsNotDiscr, Distinct}
 use Rattle.correctness.proofs.Plain as plain
-use Rattle.called.specs.Call.{Call, HandedOut, Accepted, before, after, patternOf, startOf}
+use Rattle.called.specs.Call.{Call, HandedOut}
+use Rattle.called.specs.Runs.{FittingValue, matching, bound, FunctionComesToThen, FunctionComesToElse}
 use Rattle.called.proofs.Ended as ended
 use Rattle.audit.specs.Judged.{judged}
 use Rattle.audit.proofs.Judged as kinds
@@ -117,17 +111,12 @@ a-body-goes-on-from-itself = goes-on-refl
 
 -- The run as a function, in the body that the call hands out: with enough steps it ends at the end of then, or on reaching the else, where the run as a relation
 -- comes to, with the bindings and the blocks entered on the way that this one has.
-module _ (call : Call) (out : HandedOut) (accepted : Accepted call out) (t : ℕ) (typed : placeTy (call .image) (before call) (call .place) ≡ PlaceTy.Ty t)
-    (named : t < typeCount (call .image)) (v : Value) (fitting : Fitting (call .image) (call .bindings) (startOf call) (call .place) t (patternOf call) v) (env : Env) where
-  pub the-function-runs-a-value-that-matches-to-then : matches (call .image) (patternOf call) v ≡ true →
-      (c : Comes (call .image) (call .bindings) (mirOf (after out)) (call .place) v (startOf call) (call .start) env (binds (call .image) (patternOf call) (pathOf (call .place)) v) (out .then .0) (drop (out .counts .statements) (mirOf (after out) .lines)))
-      × Ends (call .image) (mirOf (after out)) (call .place) v (startOf call) (call .start) env (out .then) (out .else) (out .then .0) (drop (out .counts .statements) (mirOf (after out) .lines)) (c .stops) atThen
-  the-function-runs-a-value-that-matches-to-then = ended.ends-at-then call out accepted t typed named v fitting env
+module _ {call : Call} {out : HandedOut} (on : FittingValue call out) (env : Env) where
+  pub the-function-runs-a-value-that-matches-to-then : matching on ≡ true → FunctionComesToThen on env (bound on)
+  the-function-runs-a-value-that-matches-to-then = ended.ends-at-then on env
 
-  pub the-function-runs-any-other-value-to-else : matches (call .image) (patternOf call) v ≡ false →
-      (e : BasicBlockId) × (out .else ≡ OptBlock.Some e) × (c : Comes (call .image) (call .bindings) (mirOf (after out)) (call .place) v (startOf call) (call .start) env [] (e .0) (mirOf (after out) .lines))
-      × Ends (call .image) (mirOf (after out)) (call .place) v (startOf call) (call .start) env (out .then) (out .else) (e .0) (mirOf (after out) .lines) (c .stops) atElse
-  the-function-runs-any-other-value-to-else = ended.ends-at-else call out accepted t typed named v fitting env
+  pub the-function-runs-any-other-value-to-else : matching on ≡ false → FunctionComesToElse on env []
+  the-function-runs-any-other-value-to-else = ended.ends-at-else on env
 
 -- Rows, computed from the images' bytes: document 01's corners that are marked [P], every kind of pattern, and each clause of "A pattern fits when" from both sides. Each
 -- image is valid; the fit, what matches, what is bound, and where the run as a function comes are as they were judged by hand.

@@ -1,5 +1,5 @@
 -- A call of `pattern_match` on a pattern that fits, with room and a scope open, is accepted. Assumes nothing.
-use Prim.Native.Nat.{ℕ, _<_}
+use Prim.Native.Nat.{ℕ}
 use mathlib.Core.Path.{_≡_, refl, ap, subst, _∙_}
 use mathlib.Core.Bool.{true}
 use mathlib.Core.List.{List}
@@ -7,20 +7,17 @@ use native.Mathlib.Omega.{arith}
 use lib.ListN.{length}
 use Rattle.refusals.specs.declared.MirLowerError.{MirLowerError}
 use Rattle.image.specs.declared.PatId.{PatId}
-use Rattle.image.specs.Tables.{typeCount}
-use Rattle.place.specs.declared.place_ty.PlaceTy.{PlaceTy}
 use Rattle.state.specs.State.{Body, countsOf}
 use Rattle.state.specs.Contracts.{Ready}
 use Rattle.pattern_matching.specs.Walking.{Out, Walk, ok}
-use Rattle.pattern_matching.specs.Variants.{placeTy}
 use Rattle.counting.specs.Demand3.{Counted}
-use Rattle.meaning.specs.Fits.{fits}
 use Rattle.room.specs.Room.{ScopeOpen, Made}
 use Rattle.room.proofs.Rooms as rooms
 use Rattle.match_calls.specs.declared.MatchCall.{MatchCall}
 use Rattle.match_calls.specs.Calls.{walked, patternMatchCall, walkAnswer, answer, ReadyWalk}
 use Rattle.match_calls.specs.Calls.{call as calling}
 use Rattle.called.specs.Call.{Call, HandedOut, Promised, Accepted, Refused, before, after, patternOf, startOf, resultOf}
+use Rattle.called.specs.Runs.{FittingPattern}
 use Rattle.called.specs.Acceptance.{Taken, HasRoom, LimitPassed, IsAcceptance}
 use Rattle.called.proofs.Walked.{walkOf, taken, stopping}
 use Rattle.called.proofs.Given.{given}
@@ -32,15 +29,18 @@ walks : (call : Call) → Taken call →
 unfolding patternMatchCall calling
 walks call T = rw (T .image-valid, T .body, T .names)
 
--- whatever the contract lets it answer
-pub fit-accepted : (call : Call) (r : MatchCall) (body : Body) (visits : List ℕ) (t : ℕ) → Promised call r body visits → Taken call →
-    placeTy (call .image) (before call) (call .place) ≡ PlaceTy.Ty t → t < typeCount (call .image) →
-    fits (call .image) (call .bindings) (call .place .local .0) (call .discr) t (patternOf call) ≡ true →
-    HasRoom call → ScopeOpen (startOf call) → IsAcceptance call r body visits
-fit-accepted call r body visits t P T typed named fit room scope =
+-- the definition gives something
+pub fit-lowered : {call : Call} → FittingPattern call → Taken call → HasRoom call → ScopeOpen (startOf call) → (o : Out) × (walkOf call ≡ ok o)
+fit-lowered {call} fit T room scope =
     let G = given call T in
-    let (o, gave) = rooms.fit-accepted (call .image) (call .bindings) (patternOf call) (startOf call) (call .start) (call .else) (call .place) t (G .image-valid) named typed (G .root) (call .elements) fit
-    room scope in
+    rooms.fit-accepted (call .image) (call .bindings) (patternOf call) (startOf call) (call .start) (call .else) (call .place) (fit .type) (G .image-valid) (fit .of-type .named) (fit .of-type .typed)
+    (G .root) (call .elements) (fit .fitting) room scope
+
+-- whatever the contract lets it answer
+pub fit-accepted : {call : Call} → FittingPattern call → Taken call → HasRoom call → ScopeOpen (startOf call) → (r : MatchCall) (body : Body) (visits : List ℕ) → Promised call r body visits →
+    IsAcceptance call r body visits
+fit-accepted {call} fit T room scope r body visits P =
+    let (o, gave) = fit-lowered fit T room scope in
     let is : r ≡ MatchCall.Matched (countsOf (o .ctx .state)) (o .ctx .discr) (o .then) (o .else) = P .gives .reply ∙ ap answer (walks call T) ∙ ap walkAnswer gave in
     (record { counts = countsOf (o .ctx .state); discr = o .ctx .discr; then = o .then; else = o .else; body = body; visits = visits }, is, refl, refl, subst (λ (x : MatchCall). Promised call x body visits) is P)
 

@@ -14,16 +14,15 @@ use Rattle.lower.specs.declared.merging.OptBlock.{OptBlock}
 use Rattle.pattern_matching.specs.declared.MatchingMode.{MatchingMode}
 use Rattle.pattern_matching.specs.Walking.{Out, Walk, ok, refused, next}
 use Rattle.pattern_matching.specs.Patterns.{patternMatch}
-use Rattle.pattern_matching.specs.Variants.{placeTy}
 use Rattle.views.specs.Views.{mirOf}
 use Rattle.views.specs.Growing.{terminatorAt}
 use Rattle.counting.specs.Demand3.{Counted}
 use Rattle.counting.specs.Reaching.{Reached}
-use Rattle.counting.specs.Counting.{reachedFrom, Standing}
 use Rattle.counting.proofs.Tallies.{le-or-lt}
 use Rattle.counting.proofs.Ors.{reached-low}
 use Rattle.match_calls.specs.declared.MatchCall.{MatchCall}
 use Rattle.called.specs.Call.{Call, HandedOut, Accepted, before, after, patternOf, startOf, resultOf}
+use Rattle.called.specs.Runs.{placeTyOf, IsReachedIn}
 use Rattle.called.specs.Passes.{pass, TwoPasses}
 use Rattle.called.proofs.Walked.{walkOf, taken, Handing, handing}
 use Rattle.called.proofs.Given.{Given, given}
@@ -95,10 +94,10 @@ module _ (call : Call) (out : HandedOut) (accepted : Accepted call out) where
       (call .elements) (gives call out accepted)
 
   -- "Every pattern reached, with k Or patterns above it in the tree walked, was visited exactly k + 2 times"
-  pub reached-visits : (q : Reached) → Standing q (reachedFrom (call .image) (patternOf call) (placeTy (call .image) (before call) (call .place))) → getD (out .visits) (q .number) 0 ≡ q .ors + 2
+  pub reached-visits : (q : Reached) → IsReachedIn call q → getD (out .visits) (q .number) 0 ≡ q .ors + 2
   reached-visits q stands =
       let G = handed call out accepted in
-      let low = reached-low (call .image) (G .image-valid) (call .pattern) (placeTy (call .image) (before call) (call .place)) q (G .there) stands in
+      let low = reached-low (call .image) (G .image-valid) (call .pattern) (placeTyOf call) q (G .there) stands in
       let there = G .there in
       let few = G .few in
       let l = length-zeros 512 in
@@ -106,7 +105,7 @@ module _ (call : Call) (out : HandedOut) (accepted : Accepted call out) where
       (G .root) (call .elements) (gives call out accepted) (no-visit 512) stands (omega (arith, low, there, few, l))
 
   -- "and every other one never"
-  pub other-visits : (n : ℕ) → ((q : Reached) → Standing q (reachedFrom (call .image) (patternOf call) (placeTy (call .image) (before call) (call .place))) → q .number ≡ n → ⊥) →
+  pub other-visits : (n : ℕ) → ((q : Reached) → IsReachedIn call q → q .number ≡ n → ⊥) →
       getD (out .visits) n 0 ≡ 0
   other-visits n none =
       let G = handed call out accepted in

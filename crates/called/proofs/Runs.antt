@@ -1,61 +1,46 @@
--- Demand 2, and demand 3 on runs, of the accepted calls of `pattern_match`. Assumes nothing.
-use Prim.Native.Nat.{ℕ, _<_}
+-- Demands 2 and 3 on runs, of the calls of `pattern_match` that are accepted. Assumes nothing.
+use Prim.Native.Nat.{ℕ}
 use mathlib.Core.Path.{_≡_, subst}
 use mathlib.Core.Logic.{_⊎_}
 use mathlib.Core.Bool.{true, false}
 use mathlib.Core.List.{[]}
 use lib.ListN.{drop}
-use Rattle.image.specs.Tables.{typeCount}
-use Rattle.place.specs.declared.place_ty.PlaceTy.{PlaceTy}
-use Rattle.mir.specs.declared.BasicBlockId.{BasicBlockId}
-use Rattle.state.proofs.Answering.{statement-count}
-use Rattle.lower.specs.declared.merging.OptBlock.{OptBlock}
-use Rattle.pattern_matching.specs.Variants.{placeTy}
 use Rattle.views.specs.Views.{Mir, mirOf}
 use Rattle.views.specs.Growing.{GoesOn}
-use Rattle.meaning.specs.Values.{Value}
+use Rattle.state.proofs.Answering.{statement-count}
 use Rattle.meaning.specs.Running.{Env}
-use Rattle.meaning.specs.Matching.{matches}
-use Rattle.meaning.specs.Binding.{binds}
-use Rattle.correctness.specs.Demand2.{pathOf, Handed, Fitting, Stops, Comes}
-use Rattle.called.specs.Call.{Call, HandedOut, Accepted, before, after, patternOf, startOf, resultOf}
+use Rattle.correctness.specs.Demand2.{Handed}
+use Rattle.correctness.proofs.Demand as demand
+use Rattle.called.specs.Call.{Call, HandedOut, Accepted, after, startOf, resultOf}
+use Rattle.called.specs.Runs.{OfType, FittingValue, matching, bound, StopsAt, ComesTo, ComesToThen, ComesToElse, StopsAtThen, StopsAtElse}
 use Rattle.called.proofs.Bodies.{handed, gives}
 
--- what the call was handed, as the theorems over the definition ask for it
-pub taken : (call : Call) (out : HandedOut) → Accepted call out → (t : ℕ) → placeTy (call .image) (before call) (call .place) ≡ PlaceTy.Ty t → t < typeCount (call .image) →
-    Handed (call .image) (call .bindings) (startOf call) (call .start) (call .else) (call .place) t
-taken call out accepted t typed named =
+-- what the call was handed, on a place of a type of the table
+pub taken : (call : Call) (out : HandedOut) → Accepted call out → (t : ℕ) → OfType call t → Handed (call .image) (call .bindings) (startOf call) (call .start) (call .else) (call .place) t
+taken call out accepted t of =
     let G = handed call out accepted in
-    record { starts = G .starts; elements = call .elements; within = G .within; root = G .root; placed = typed; named = named }
+    record { starts = G .starts; elements = call .elements; within = G .within; root = G .root; placed = of .typed; named = of .named }
 
-module _ (call : Call) (out : HandedOut) (accepted : Accepted call out) (t : ℕ) (typed : placeTy (call .image) (before call) (call .place) ≡ PlaceTy.Ty t)
-    (named : t < typeCount (call .image)) (v : Value) (fitting : Fitting (call .image) (call .bindings) (startOf call) (call .place) t (patternOf call) v) (M : Mir)
-    (goes-on : GoesOn (mirOf (after out)) M) (env : Env) where
+module _ {call : Call} {out : HandedOut} (on : FittingValue call out) (M : Mir) (goes-on : GoesOn (mirOf (after out)) M) (env : Env) where
+  abbrev there : Handed (call .image) (call .bindings) (startOf call) (call .start) (call .else) (call .place) (on .type)
+  there = taken call out (on .accepted) (on .type) (on .of-type)
+
   -- a value that matches comes to then
-  pub if-it-matches : matches (call .image) (patternOf call) v ≡ true →
-      Comes (call .image) (call .bindings) M (call .place) v (startOf call) (call .start) env (binds (call .image) (patternOf call) (pathOf (call .place)) v) (out .then .0)
-      (drop (out .counts .statements) (M .lines))
+  pub if-it-matches : matching on ≡ true → ComesToThen on M env (bound on)
   if-it-matches e =
-      subst
-      (λ (n : ℕ). Comes (call .image) (call .bindings) M (call .place) v (startOf call) (call .start) env (binds (call .image) (patternOf call) (pathOf (call .place)) v) (out .then .0) (drop n (M .lines)))
-      (statement-count (out .body) (out .counts))
-      (Rattle.correctness.proofs.Demand.if-it-matches (call .image) (call .bindings) (call .pattern) (startOf call) (call .start) (call .else) (call .place) t v (handed call out accepted .there) (taken call out accepted t typed named)
-      fitting (resultOf out) (gives call out accepted) M goes-on env e)
+      subst (λ (n : ℕ). ComesTo on M env (bound on) (out .then .0) (drop n (M .lines))) (statement-count (out .body) (out .counts))
+      (demand.if-it-matches (call .image) (call .bindings) (call .pattern) (startOf call) (call .start) (call .else) (call .place) (on .type) (on .value) (handed call out (on .accepted) .there) there
+      (on .fitting) (resultOf out) (gives call out (on .accepted)) M goes-on env e)
 
   -- any other comes to else
-  pub if-not : matches (call .image) (patternOf call) v ≡ false →
-      (e : BasicBlockId) × (out .else ≡ OptBlock.Some e) × Comes (call .image) (call .bindings) M (call .place) v (startOf call) (call .start) env [] (e .0) (M .lines)
+  pub if-not : matching on ≡ false → ComesToElse on M env []
   if-not =
-      Rattle.correctness.proofs.Demand.if-not (call .image) (call .bindings) (call .pattern) (startOf call) (call .start) (call .else) (call .place) t v (handed call out accepted .there) (taken call out accepted t typed named) fitting
-      (resultOf out) (gives call out accepted) M goes-on env
+      demand.if-not (call .image) (call .bindings) (call .pattern) (startOf call) (call .start) (call .else) (call .place) (on .type) (on .value) (handed call out (on .accepted) .there) there (on .fitting)
+      (resultOf out) (gives call out (on .accepted)) M goes-on env
 
   -- "the run enters no block twice and stops at then or else"
-  pub stops : (Stops (call .image) M (call .place) v (startOf call) (call .start) env (out .then .0) (drop (out .counts .statements) (M .lines)))
-      ⊎ ((e : BasicBlockId) × (out .else ≡ OptBlock.Some e) × Stops (call .image) M (call .place) v (startOf call) (call .start) env (e .0) (M .lines))
+  pub stops : StopsAtThen on M env ⊎ StopsAtElse on M env
   stops =
-      subst
-      (λ (n : ℕ). (Stops (call .image) M (call .place) v (startOf call) (call .start) env (out .then .0) (drop n (M .lines)))
-      ⊎ ((e : BasicBlockId) × (out .else ≡ OptBlock.Some e) × Stops (call .image) M (call .place) v (startOf call) (call .start) env (e .0) (M .lines)))
-      (statement-count (out .body) (out .counts))
-      (Rattle.correctness.proofs.Demand.stops-at-then-or-else (call .image) (call .bindings) (call .pattern) (startOf call) (call .start) (call .else) (call .place) t v (handed call out accepted .there)
-      (taken call out accepted t typed named) fitting (resultOf out) (gives call out accepted) M goes-on env)
+      subst (λ (n : ℕ). StopsAt on M env (out .then .0) (drop n (M .lines)) ⊎ StopsAtElse on M env) (statement-count (out .body) (out .counts))
+      (demand.stops-at-then-or-else (call .image) (call .bindings) (call .pattern) (startOf call) (call .start) (call .else) (call .place) (on .type) (on .value) (handed call out (on .accepted) .there)
+      there (on .fitting) (resultOf out) (gives call out (on .accepted)) M goes-on env)

@@ -1,6 +1,7 @@
 pub mod Call
 pub mod Acceptance
 pub mod Passes
+pub mod Runs
 pub mod AsFound
 pub mod Contracts
 pub mod Params

@@ -11,7 +11,7 @@ use Rattle.image.specs.Valid.{valid}
 use Rattle.image.specs.Tree.{Pat, tree}
 use Rattle.place.specs.declared.place_ty.PlaceTy.{PlaceTy}
 use Rattle.counting.specs.Reaching.{Reached}
-use Rattle.counting.specs.Counting.{total, reachedFrom, visitsOf, Standing}
+use Rattle.counting.specs.Counting.{total, reachedFrom, visitsOf, IsReached}
 use Rattle.counting.proofs.Tallies.{hit-same}
 use Rattle.counting.proofs.Numbers.{times-once}
 use Rattle.counting.proofs.Within.{hits, within}
@@ -26,19 +26,19 @@ unfolding visitsOf total
 visits-other n r rs e = rw (ne-eqb (r .number) n e) (omega arith)
 
 -- a number that none of them has is never visited
-visits-none : (n : ℕ) (rs : List Reached) → ((r : Reached) → Standing r rs → r .number ≡ n → ⊥) → visitsOf n rs ≡ 0
+visits-none : (n : ℕ) (rs : List Reached) → ((r : Reached) → IsReached r rs → r .number ≡ n → ⊥) → visitsOf n rs ≡ 0
 unfolding visitsOf total
 visits-none n [] none = refl
 visits-none n (r ∷ rs) none = visits-other n r rs (none r (inl refl)) ∙ visits-none n rs (λ q s. none q (inr s))
 
 -- one that stands there has its number there
-hits-standing : (n : ℕ) (r : Reached) (rs : List Reached) → Standing r rs → r .number ≡ n → 1 ≤ hits n rs
+hits-standing : (n : ℕ) (r : Reached) (rs : List Reached) → IsReached r rs → r .number ≡ n → 1 ≤ hits n rs
 unfolding total
 hits-standing n r (q ∷ rs) (inl same) e = let s = hit-same n (q .number) (ap (λ (x : Reached). x .number) (sym same) ∙ e) in omega (arith, s)
 hits-standing n r (q ∷ rs) (inr s) e = let i = hits-standing n r rs s e in omega (arith, i)
 
 -- the visits of one whose number no other has
-visits-one : (r : Reached) (rs : List Reached) → hits (r .number) rs ≤ 1 → Standing r rs → visitsOf (r .number) rs ≡ r .ors + 2
+visits-one : (r : Reached) (rs : List Reached) → hits (r .number) rs ≤ 1 → IsReached r rs → visitsOf (r .number) rs ≡ r .ors + 2
 unfolding total
 visits-one r (q ∷ rs) le (inl same) =
     let n = r .number in
@@ -55,7 +55,7 @@ visits-one r (q ∷ rs) le (inr st) =
     visits-other n q rs other ∙ visits-one r rs (omega (arith, le)) st
 
 -- "Every pattern reached, with k Or patterns above it in the tree walked, was visited exactly k + 2 times"
-pub visited-exactly : (image : List ℕ) (p : ℕ) (ty : PlaceTy) (r : Reached) → valid image ≡ true → p < patternCount image → Standing r (reachedFrom image (tree image p) ty) →
+pub visited-exactly : (image : List ℕ) (p : ℕ) (ty : PlaceTy) (r : Reached) → valid image ≡ true → p < patternCount image → IsReached r (reachedFrom image (tree image p) ty) →
     visitsOf (r .number) (reachedFrom image (tree image p) ty) ≡ r .ors + 2
 visited-exactly image p ty r v h st =
     let w = within image (r .number) (tree image p) .at ty 0 false in
@@ -63,6 +63,6 @@ visited-exactly image p ty r v h st =
     visits-one r (reachedFrom image (tree image p) ty) (omega (arith, w, o)) st
 
 -- "and every other one never"
-pub never-visited : (image : List ℕ) (root : Pat) (ty : PlaceTy) (n : ℕ) → ((r : Reached) → Standing r (reachedFrom image root ty) → r .number ≡ n → ⊥) →
+pub never-visited : (image : List ℕ) (root : Pat) (ty : PlaceTy) (n : ℕ) → ((r : Reached) → IsReached r (reachedFrom image root ty) → r .number ≡ n → ⊥) →
     visitsOf n (reachedFrom image root ty) ≡ 0
 never-visited image root ty n none = visits-none n (reachedFrom image root ty) none

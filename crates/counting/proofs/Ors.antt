@@ -31,7 +31,7 @@ use Rattle.place.specs.PlaceTypes.{projectionTy, multiProjectionTy}
 use Rattle.pattern_matching.specs.Variants.{shapeOf, fieldsUpTo}
 use Rattle.pattern_matching.specs.Slices.{suffixItems}
 use Rattle.counting.specs.Reaching.{behindDerefs, Argument, zip, inARow, byFields, fieldCount, isEnum, downcast, ofVariant, items, failing, Reached, anOr, Reaching, pathReached, throughArguments, throughAlternatives, reached, reachings, reaching?}
-use Rattle.counting.specs.Counting.{reachedFrom, visitsOf, Standing}
+use Rattle.counting.specs.Counting.{reachedFrom, visitsOf, IsReached}
 use Rattle.counting.proofs.Tallies.{hit-or}
 use Rattle.counting.proofs.Once.{visited-exactly, never-visited}
 
@@ -64,7 +64,7 @@ low-append low-none l′ = l′
 low-append (low-one a l) l′ = low-one a (low-append l l′)
 
 -- one of them
-low-standing : {m : ℕ} (q : Reached) {rs : List Reached} → Low m rs → Standing q rs → q .number + q .ors < m
+low-standing : {m : ℕ} (q : Reached) {rs : List Reached} → Low m rs → IsReached q rs → q .number + q .ors < m
 low-standing {m = m} q (low-one a l) (inl same) = subst (λ (x : Reached). x .number + x .ors < m) (sym same) a
 low-standing q (low-one a l) (inr s) = low-standing q l s
 
@@ -255,25 +255,25 @@ module _ (image : List ℕ) (v : valid image ≡ true) where
       (patKind (patAt image p .kind)) (patAt image p) (below-at (subpatternsBelow image) (patternCount image) p (all-true-at (rules image) 8 (unfold valid in v)) lt))
 
   -- The theorem: the number of a pattern that is reached from p, and the Ors above it, are together at most p.
-  pub reached-low : (p : ℕ) (ty : PlaceTy) (q : Reached) → p < patternCount image → Standing q (reachedFrom image (tree image p) ty) → q .number + q .ors ≤ p
+  pub reached-low : (p : ℕ) (ty : PlaceTy) (q : Reached) → p < patternCount image → IsReached q (reachedFrom image (tree image p) ty) → q .number + q .ors ≤ p
   reached-low p ty q lt stands =
       let low = low-standing q (tree-low (suc p) p (omega arith) lt .at ty 0 false) stands in
       omega (arith, low)
 
 -- one of the reached has the number n, or none has
-some-has : (n : ℕ) (rs : List Reached) → ((q : Reached) × Standing q rs × (q .number ≡ n)) ⊎ ((q : Reached) → Standing q rs → q .number ≡ n → ⊥)
+some-has : (n : ℕ) (rs : List Reached) → ((q : Reached) × IsReached q rs × (q .number ≡ n)) ⊎ ((q : Reached) → IsReached q rs → q .number ≡ n → ⊥)
 some-has n [] = inr (λ q s e. s)
 some-has n (r ∷ rs) =
     ⊎-elim
     (λ (e : r .number ≡ n). inl (r, inl refl, e))
     (λ (e : r .number ≡ n → ⊥).
     ⊎-elim
-    (λ (found : (q : Reached) × Standing q rs × (q .number ≡ n)). inl (found .0, inr (found .1), found .2))
-    (λ (missing : (q : Reached) → Standing q rs → q .number ≡ n → ⊥). inr (others e missing))
+    (λ (found : (q : Reached) × IsReached q rs × (q .number ≡ n)). inl (found .0, inr (found .1), found .2))
+    (λ (missing : (q : Reached) → IsReached q rs → q .number ≡ n → ⊥). inr (others e missing))
     (some-has n rs))
     (hit-or n (r .number))
   where
-    others : (r .number ≡ n → ⊥) → ((q : Reached) → Standing q rs → q .number ≡ n → ⊥) → (q : Reached) → Standing q (r ∷ rs) → q .number ≡ n → ⊥
+    others : (r .number ≡ n → ⊥) → ((q : Reached) → IsReached q rs → q .number ≡ n → ⊥) → (q : Reached) → IsReached q (r ∷ rs) → q .number ≡ n → ⊥
     others e missing q (inl same) d = e (subst (λ (x : Reached). x .number ≡ n) same d)
     others e missing q (inr s) d = missing q s d
 
@@ -281,7 +281,7 @@ some-has n (r ∷ rs) =
 pub visits-few : (image : List ℕ) (p : ℕ) (ty : PlaceTy) (n : ℕ) → valid image ≡ true → p < patternCount image → visitsOf n (reachedFrom image (tree image p) ty) ≤ p + 2
 visits-few image p ty n v lt = by (some-has n (reachedFrom image (tree image p) ty))
   where
-    by : ((q : Reached) × Standing q (reachedFrom image (tree image p) ty) × (q .number ≡ n)) ⊎ ((q : Reached) → Standing q (reachedFrom image (tree image p) ty) → q .number ≡ n → ⊥) →
+    by : ((q : Reached) × IsReached q (reachedFrom image (tree image p) ty) × (q .number ≡ n)) ⊎ ((q : Reached) → IsReached q (reachedFrom image (tree image p) ty) → q .number ≡ n → ⊥) →
         visitsOf n (reachedFrom image (tree image p) ty) ≤ p + 2
     by (inl (q, stands, e)) =
         let low = reached-low image v p ty q lt stands in

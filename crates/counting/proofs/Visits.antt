@@ -15,7 +15,7 @@ use Rattle.pattern_matching.specs.Walking.{Ctx, Out, ok}
 use Rattle.pattern_matching.specs.Variants.{placeTy}
 use Rattle.pattern_matching.specs.Patterns.{patternMatch}
 use Rattle.counting.specs.Reaching.{Reached}
-use Rattle.counting.specs.Counting.{reachedFrom, visitsOf, Standing}
+use Rattle.counting.specs.Counting.{reachedFrom, visitsOf, IsReached}
 use Rattle.counting.proofs.Once.{visited-exactly, never-visited}
 use Rattle.counting.proofs.Whole.{counted}
 
@@ -26,7 +26,7 @@ from-nothing a b n z e = omega arith
 -- a reached pattern, with k Ors above it: k + 2 times
 pub reached-visits : (image bindings : List ℕ) (p : ℕ) (ctx : Ctx) (current : BasicBlockId) (els : OptBlock) (place : Place) (r : Out) (q : Reached) → valid image ≡ true → p < patternCount image →
     place .local .0 < length (ctx .state .locals) → length (place .elems) ≡ 16 → patternMatch image bindings (tree image p) ctx current els place ≡ ok r →
-    ((n : ℕ) → getD (ctx .visits) n 0 ≡ 0) → Standing q (reachedFrom image (tree image p) (placeTy image (ctx .state) place)) → q .number < length (ctx .visits) →
+    ((n : ℕ) → getD (ctx .visits) n 0 ≡ 0) → IsReached q (reachedFrom image (tree image p) (placeTy image (ctx .state) place)) → q .number < length (ctx .visits) →
     getD (r .ctx .visits) (q .number) 0 ≡ q .ors + 2
 reached-visits image bindings p ctx current els place r q v there rooted whole accepted zero stands h =
     let ty = placeTy image (ctx .state) place in
@@ -36,7 +36,7 @@ reached-visits image bindings p ctx current els place r q v there rooted whole a
 -- any other one: never
 pub other-visits : (image bindings : List ℕ) (root : Pat) (ctx : Ctx) (current : BasicBlockId) (els : OptBlock) (place : Place) (r : Out) (n : ℕ) →
     place .local .0 < length (ctx .state .locals) → length (place .elems) ≡ 16 → patternMatch image bindings root ctx current els place ≡ ok r →
-    ((n : ℕ) → getD (ctx .visits) n 0 ≡ 0) → ((q : Reached) → Standing q (reachedFrom image root (placeTy image (ctx .state) place)) → q .number ≡ n → ⊥) → n < length (ctx .visits) →
+    ((n : ℕ) → getD (ctx .visits) n 0 ≡ 0) → ((q : Reached) → IsReached q (reachedFrom image root (placeTy image (ctx .state) place)) → q .number ≡ n → ⊥) → n < length (ctx .visits) →
     getD (r .ctx .visits) n 0 ≡ 0
 other-visits image bindings root ctx current els place r n rooted whole accepted zero none h =
     let ty = placeTy image (ctx .state) place in

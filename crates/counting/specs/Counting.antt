@@ -33,9 +33,9 @@ unfoldable pub visitsOf : ℕ → List Reached → ℕ
 visitsOf n rs = total (λ r. cond (eqb (r .number) n) (checkVisits r + 1) 0) rs
 
 -- r stands in the list
-abbrev pub Standing : Reached → List Reached → Type 0
-Standing r [] = ⊥
-Standing r (q ∷ rs) = (r ≡ q) ⊎ Standing r rs
+abbrev pub IsReached : Reached → List Reached → Type 0
+IsReached r [] = ⊥
+IsReached r (q ∷ rs) = (r ≡ q) ⊎ IsReached r rs
 
 -- "Blocks: each Check visit makes 1 per test, and 1 more if the pattern is an alternative that can fail; each visit to an Or makes 1"
 abbrev pub blocksOf : Reached → ℕ
