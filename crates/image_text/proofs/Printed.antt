@@ -5,10 +5,10 @@ use mathlib.Core.Bool.{true, false}
 use mathlib.Core.Option.{none, some}
 use mathlib.Core.List.{List, _++_}
 use native.Mathlib.Omega.{arith}
+use native.Mathlib.Nat.{zero-add}
 use borrow.Author.Tests.{leb-true, leb-false}
 use lib.Dec.{leb}
-use lib.ListN.{length, take, drop}
-use lib.Seq.{take-append-seam}
+use lib.ListN.{length, drop}
 use Rattle.refusals.specs.declared.MirLowerError.{MirLowerError}
 use Rattle.refusals.specs.Refusals.{breaksARule, namesNothing, numberOf, reasonOf, refusalAt}
 use Rattle.row_tables.specs.Rows.{zeros, stored}
@@ -93,8 +93,7 @@ printed {before = before} {text = text} {pen = pen} {after = after} W ok =
     let count : pen .at ≡ length text = omega (arith, W .at ok) in
     record {
       within = omega (arith, count, fits);
-      stands = λ short.
-          (count, ap (take (pen .at)) (W .stands ok) ∙ ap (λ (n : ℕ). take n (text ++ drop (0 + length text) before)) count ∙ take-append-seam text (drop (0 + length text) before));
+      stands = λ short. (count, W .stands ok ∙ ap (λ (n : ℕ). text ++ drop n before) (zero-add (length text)));
       no-room = λ short. absurd (omega (arith, fits, short));
     }
 

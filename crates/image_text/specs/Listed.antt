@@ -3,8 +3,8 @@ use Prim.Native.Nat.{ℕ, _≤_, _<_}
 use mathlib.Core.Path.{_≡_}
 use mathlib.Core.Bool.{cond}
 use mathlib.Core.Option.{Option, none, some}
-use mathlib.Core.List.{List, []}
-use lib.ListN.{length, take}
+use mathlib.Core.List.{List, [], _++_}
+use lib.ListN.{length, drop}
 use Rattle.row_tables.specs.Rows.{zeros}
 use Rattle.refusals.specs.Refusals.{breaksARule, namesNothing, refusalAt}
 use Rattle.image.specs.Valid.{valid}
@@ -58,8 +58,9 @@ Listable blocks statements locals (MatchCall.Refused e p) = Unit
 Listable blocks statements locals MatchCall.BadCall = Unit
 Listable blocks statements locals MatchCall.BadImage = Unit
 
--- a text stands at the start of a buffer, and r says how many bytes it has, if there was room for it, and otherwise 0: `before` lies in the buffer before, and `after` after
+-- A text stands at the start of a buffer, what lay behind it is as it was, and r says how many bytes the text has, if there was room for it, and otherwise 0: `before` lies
+-- in the buffer before, and `after` after.
 pub record Printed (before text : List ℕ) (r : ℕ) (after : List ℕ) : Type 0 where
   pub within : r ≤ length before
-  pub stands : length text ≤ length before → (r ≡ length text) × (take r after ≡ text)
+  pub stands : length text ≤ length before → (r ≡ length text) × (after ≡ text ++ drop (length text) before)
   pub no-room : length before < length text → r ≡ 0
