@@ -70,12 +70,15 @@ same; with `--check` it writes none and fails if one differs.
 
 ## Listings
 
-Written from document 01 and the Rust alone, not from the definitions:
+Written from the documents and the Rust alone, not from the definitions:
 
-- `lowering.py`: what the listing program prints. `python3 samples/lowering.py FILE`
-  prints the listing of an image. `builder.py` holds what lower.rs and mir.rs give it.
-- `corners.py`: checks document 01's corners, which are in `accepted.py` and
-  `refusals.py`. `python3 samples/corners.py` prints each with its listing's first line.
+- `lowering.py`: what the listing program prints; the end of a half-open range and the
+  offsets of suffix items are document 02's, all else is the Rust's. `python3
+  samples/lowering.py FILE` prints the listing of an image. `builder.py` holds what lower.rs
+  and mir.rs give it.
+- `corners.py`: checks document 01's corners and document 02's on these two shapes, which are
+  in `accepted.py` and `refusals.py`. `python3 samples/corners.py` prints each with its
+  listing's first line.
 - `judged.py`: whether patterns fit, which values match, what they bind and where a run comes,
   judged by hand from document 01 and the Reference; `sketch.py` is the short notation for
   their images. `corner_theorems.py` prints these and the corners as rows of theorems.
@@ -111,11 +114,12 @@ their tables, or a count. For each call a line is printed: its answer, the five 
 checksum of each table. `calls.txt` has for each script the number of its first line in
 `crates/replay/stdout`, its name, and what it shows.
 
-- `calls.py`: answers the calls, by document 01 and the rows of `docs/BODY.md` alone, and
+- `calls.py`: answers the calls, by the documents and the rows of `docs/BODY.md` alone, and
   names the rules that number 2 is given for.
 - `call_notation.py`: the scripts' image, and a short notation for commands.
 - `call_scripts.py`: document 01's corners, the limits, restoration, zeros above the counts.
-- `call_faults.py`: numbers 1 and 2; every rule is broken alone at least once.
+- `call_faults.py`: numbers 1 and 2; every rule is broken alone at least once. Of a
+  statement's kinds 12 is the last one and 13 the first that there is not.
 - `call_chance.py`: random scripts, from a fixed seed.
 - `call_list.py`: judges them all, and holds them to the answers that they state.
 
