@@ -196,7 +196,7 @@ module _ (image : List ℕ) where
   mutual
     unfolding boundIn bindingsFit binds
 
-    -- what a pattern binds as the Rust reads it
+    -- what a pattern binds
     pub binds-among : (pat : Pat) → bindingsFit image pat ≡ true → (path : Path) (v : Value) → Each (Among (boundIn image pat)) (binds image pat path v)
     binds-among (Pat.Missing h) f path v = tt
     binds-among (Pat.Rest h) f path v = tt

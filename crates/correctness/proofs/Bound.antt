@@ -1,4 +1,4 @@
--- A walk in Bind over a fitting pattern binds what the Reference says of the pattern that the Rust reads, where that matches: by induction on the pattern.
+-- A walk in Bind over a fitting pattern binds what the Reference says, where the pattern matches: by induction on the pattern.
 -- Assumes nothing.
 use Prim.Native.Nat.{ℕ, _+_, _-_, _<_}
 use native.Mathlib.Omega.{arith}

@@ -1,5 +1,5 @@
--- The first half of demand 2: of a call's two walks the one in Check leads to the block that goes on where the pattern that the Rust reads
--- matches, and else to the else. Assumes nothing.
+-- The first half of demand 2: of a call's two walks the one in Check leads to the block that goes on where the pattern matches, and else to
+-- the else. Assumes nothing.
 use Prim.Native.Nat.{ℕ}
 use mathlib.Core.Path.{_≡_, refl}
 use mathlib.Core.Bool.{true}

@@ -1,4 +1,4 @@
--- The tests of a pattern lead to the block that goes on where the pattern that the Rust reads matches, and else to the else: by induction on the pattern.
+-- The tests of a pattern lead to the block that goes on where the pattern matches, and else to the else: by induction on the pattern.
 -- Assumes nothing.
 use Prim.Native.Nat.{ℕ, _+_, _-_}
 use native.Mathlib.Omega.{arith}

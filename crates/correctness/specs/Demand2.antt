@@ -1,5 +1,5 @@
--- Demand 2, as it is proved: "for a pattern that fits its type, outside the listed differences, the blocks lead a value to the then block when the Reference
--- says it matches, with the bindings it says, and otherwise to the else block". Assumes nothing: these are definitions.
+-- Demand 2, as it is proved: "for a pattern that fits its type, .. the blocks lead a value to the then block when the Reference says it matches, with the bindings
+-- it says, and otherwise to the else block". Assumes nothing: these are definitions.
 use Prim.Native.Nat.{ℕ, _≤_, _<_}
 use mathlib.Core.Path.{_≡_}
 use mathlib.Core.Bool.{true, cond}
