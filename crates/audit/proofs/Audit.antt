@@ -96,7 +96,7 @@ module _ (call : Call) (out : HandedOut) (accepted : Accepted call out) where
 
 -- A pattern that fits is refused for a limit (11) or for want of a scope (14) alone.
 pub a-fitting-pattern-is-refused-by-11-or-14-alone : (call : Call) (e : MirLowerError) (p : PatId) (t : ℕ) → Refused call e p → placeTy (call .image) (before call) (call .place) ≡ PlaceTy.Ty t →
-    t < typeCount (call .image) → fits (call .image) (call .bindings) (call .place .local .0) (call .discr) t (patternOf call) ≡ true → (numberOf e ≡ 11) ⊎ (numberOf e ≡ 14)
+    t < typeCount (call .image) → fits (call .image) (call .bindings) (call .place .local .0) t (patternOf call) ≡ true → (numberOf e ≡ 11) ⊎ (numberOf e ≡ 14)
 a-fitting-pattern-is-refused-by-11-or-14-alone = fit-refused
 
 -- The corners of pattern_matching.rs that document 01 marks [P], from the bytes of their images.

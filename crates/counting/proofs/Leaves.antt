@@ -130,7 +130,7 @@ inside-lit image h operand = record { goes = λ pass c current els place ty k f 
 -- a pattern that names a variant, with the type of its place at hand
 holds-named : {image : List ℕ} {shape : AdtPatternShape} {fs : ℕ → List (Argument (PlaceTy → Bool))} {rs : ℕ → List (Argument Reaching)} → Fielded image shape fs rs → (h : Head) (v : ℕ) (pass : Pass)
     (c : Ctx) (current : BasicBlockId) (els : OptBlock) (place : Place) (ty : PlaceTy) (k : ℕ) (f : Bool) → On image (visited c (h .number)) place ty →
-    Before pass (someEnum (naming h k f (isEnum (shapeOf image ty)) ∷ throughArguments image ty k (ofVariant image ty (some v) rs))) (c .discr) →
+    Before pass (someEnum (naming h k f (isEnum (shapeOf image ty)) ∷ throughArguments image ty k (ofVariant image ty (some v) rs))) →
     Holds (After pass c els (isEnum (shapeOf image ty) || someArgument image ty (ofVariant image ty (some v) fs)) k f
     (naming h k f (isEnum (shapeOf image ty)) ∷ throughArguments image ty k (ofVariant image ty (some v) rs)))
     (patternMatchingVariant image (h .number) v shape (modeOf pass) (visited c (h .number)) current els place)
@@ -170,7 +170,7 @@ inside-path image bindings h (variant v) =
           subst (λ (x : Bool). Holds (After pass c els x k f (naming h k f e ∷ [])) (patternMatchingVariant image (h .number) v AdtPatternShape.Unit (modeOf pass) (visited c (h .number)) current els place)) (fails ty e)
           (subst (λ (l : List Reached). Holds (After pass c els (e || someArgument image ty (downcast e v [])) k f (naming h k f e ∷ l)) (patternMatchingVariant image (h .number) v AdtPatternShape.Unit (modeOf pass) (visited c (h .number)) current els place))
           (below ty k e)
-          (holds-named (fielded-unit image) h v pass c current els place ty k f o (subst (λ (l : List Reached). Before pass (someEnum (naming h k f e ∷ l)) (c .discr)) (sym (below ty k e)) b)));
+          (holds-named (fielded-unit image) h v pass c current els place ty k f o (subst (λ (l : List Reached). Before pass (someEnum (naming h k f e ∷ l))) (sym (below ty k e)) b)));
     }
   where
     fails : (ty : PlaceTy) (e : Bool) → (e || someArgument image ty (downcast e v [])) ≡ positive (cond e 1 0)

@@ -28,7 +28,7 @@ use Rattle.counting.proofs.Leaves.{inside-range, inside-lit, inside-var
 -- a subpattern that may be absent
 record Below (image : List ℕ) (l : Lowering) (fails : PlaceTy → Bool) (reach : Reaching) : Type 0 where
   pub goes : (pass : Pass) (c : Ctx) (current : BasicBlockId) (els : OptBlock) (place : Place) (ty : PlaceTy) (k : ℕ) → On image c place ty →
-      Before pass (someEnum (reach ty k false)) (c .discr) → Holds (After pass c els (fails ty) k false (reach ty k false)) (l (modeOf pass) c current els place)
+      Before pass (someEnum (reach ty k false)) → Holds (After pass c els (fails ty) k false (reach ty k false)) (l (modeOf pass) c current els place)
 
 -- a Bind
 inside-bind : {image : List ℕ} {l : Lowering} {fails : PlaceTy → Bool} {reach : Reaching} (bindings : List ℕ) (h : Head) (b : ℕ) (how : BindingMode) → Below image l fails reach →

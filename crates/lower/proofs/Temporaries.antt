@@ -22,7 +22,6 @@ use Rattle.state.specs.Contracts.{Ready, Answers, steppedCounts, steppedResult}
 use Rattle.state.specs.declared.Stepped.{Stepped}
 use Rattle.state.proofs.Answering.{next-local, then, stops, refuses, done}
 use Rattle.lower.specs.declared.temps.NewTemp.{NewTemp}
-use Rattle.lower.specs.declared.temps.DiscrTemp.{DiscrTemp}
 use Rattle.lower.specs.Temps.{isSlice, temp, pushStorageLiveForLocal, discrTempPlace}
 use Rattle.lower.specs.Promises.{Marks, Makes, Shares}
 use Rattle.state.proofs.Calls.{local-number, new-local-answers}

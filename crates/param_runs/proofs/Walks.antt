@@ -88,7 +88,7 @@ param-shares image bindings p l ctx current r s e =
 -- a pattern that is lowered, on a value that matches
 pub lowered-walks : (image bindings : List ℕ) (q : Param) (l : ℕ) (v : Value) (ctx : Ctx) (current : BasicBlockId) (r : Out) (M : Mir) (env : Env) → valid image ≡ true →
     ((i : ℕ) → getD image i 0 < 256) → NamedParam image q → Starts ctx current OptBlock.None → l < length (ctx .state .locals) → getD (ctx .state .locals) l 0 ≡ q .ty →
-    fits image bindings l (ctx .discr) (q .ty) (tree image (q .pattern)) ≡ true → valueFits image v (q .ty) ≡ true →
+    fits image bindings l (q .ty) (tree image (q .pattern)) ≡ true → valueFits image v (q .ty) ≡ true →
     matches image (tree image (q .pattern)) v ≡ true → patternMatch image bindings (tree image (q .pattern)) ctx current OptBlock.None (localPlace (record { 0 = l })) ≡ ok r →
     GoesOn (mirOf (shutOut r .ctx .state)) M →
     Walked (sceneAt image l v) bindings M ctx (current .0) env (binds image (tree image (q .pattern)) (whole l) v) (shutOut r .ctx) (r .then .0) (rest (shutOut r .ctx .state) M)

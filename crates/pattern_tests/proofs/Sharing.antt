@@ -30,7 +30,6 @@ use Rattle.mir.specs.Rvalues.{placeRvalueRow}
 use Rattle.mir.specs.Statements.{newStatement, statementsAfter}
 use Rattle.state.proofs.RowLengths.{place-rvalue-length}
 use Rattle.lower.specs.declared.temps.NewTemp.{NewTemp}
-use Rattle.lower.specs.declared.temps.DiscrTemp.{DiscrTemp}
 use Rattle.lower.specs.declared.merging.OptBlock.{OptBlock}
 use Rattle.lower.specs.Promises.{Shares}
 use Rattle.pattern_matching.specs.Walking.{Ctx, Out, Walk}
@@ -93,16 +92,16 @@ module _ (image : List ℕ) (row : VariantRow) {bytes : List ℕ} (read : bytes 
       parts low high _ (split ∙ ap littleEndian all) (rw d (little-small 8 bytes few))
 
 -- `discriminant_test`; bl₀, s₀, l₀ and e₀ are the tables at entry
-module _ (image bl₀ s₀ l₀ e₀ : List ℕ) (c : Counts) (discr : DiscrTemp) (p : PatId) (v : ℕ) (current : BasicBlockId) (els : OptBlock) (place : Place) where
+module _ (image bl₀ s₀ l₀ e₀ : List ℕ) (c : Counts) (p : PatId) (v : ℕ) (current : BasicBlockId) (els : OptBlock) (place : Place) where
   abbrev Tested : Lowered → Lent → Type 0
-  Tested = Lowers (λ ctx. discriminantTest image (p .0) v ctx current els place) c discr current els (lent bl₀ s₀ l₀ e₀)
+  Tested = Lowers (λ ctx. discriminantTest image (p .0) v ctx current els place) c current els (lent bl₀ s₀ l₀ e₀)
 
   abbrev row : LocalId → List ℕ
   row m = placeRvalueRow current m PlaceRvalue.Discr place
 
   -- from here on all tests of enums share the local
   abbrev switches : ℕ → ℕ → LocalId → Ctx → Walk Out
-  switches low high m ctx = thenSwitch (p .0) m low high (record { state = ctx .state; discr = DiscrTemp.Some m; visits = ctx .visits }) current els
+  switches low high m ctx = thenSwitch (p .0) m low high (record { state = ctx .state; visits = ctx .visits }) current els
 
   abbrev both : LocalId → Ctx → Walk Out
   both = switches (variantOf image v .discriminant % 18446744073709551616) (variantOf image v .discriminant / 18446744073709551616)

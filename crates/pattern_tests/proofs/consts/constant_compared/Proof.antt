@@ -8,7 +8,6 @@ use Rattle.mir.proofs.rvalues.push_binary_assignment.Reads as push-binary-assig
 use Rattle.pattern_switching.proofs.then_switch.Reads as then-switch-reads
 use mathlib.Core.Path.{sym, _∙_}
 use Rattle.state.proofs.RowLengths.{binary-length}
-use Rattle.lower.specs.declared.temps.DiscrTemp.{DiscrTemp}
 use Rattle.pattern_tests.proofs.Assigning.{making, assign-fits}
 use Rattle.pattern_tests.proofs.Constants.{compared-no-temp, compared-full, compared-switches}
 

@@ -12,7 +12,6 @@ use mathlib.Core.Path.{sym, _∙_}
 use native.Mathlib.Omega.{arith}
 use borrow.Author.Tests.{not-true, not-false}
 use Rattle.state.proofs.RowLengths.{constant-length}
-use Rattle.lower.specs.declared.temps.DiscrTemp.{DiscrTemp}
 use Rattle.pattern_tests.proofs.Assigning.{making, assign-goes}
 use Rattle.pattern_tests.proofs.Constants.{path-skips, path-no-temp, path-full, path-tests}
 

@@ -9,7 +9,6 @@ use Rattle.pattern_tests.proofs.lengths.length_switch.Reads as length-s
 use mathlib.Core.Path.{sym, _∙_}
 use native.Mathlib.Omega.{arith}
 use Rattle.state.proofs.RowLengths.{place-rvalue-length}
-use Rattle.lower.specs.declared.temps.DiscrTemp.{DiscrTemp}
 use Rattle.pattern_tests.proofs.Assigning.{making, assign-goes}
 use Rattle.pattern_tests.proofs.Measuring.{measure-no-temp, measure-full, measure-switches}
 

@@ -22,10 +22,10 @@ abbrev pub calls : ℕ → lts.Claims
 calls t = (new-basic-block-reads.Asked, new-basic-block-reads.Learnt, list-at-reads.Asked, list-at-reads.Learnt, sub·alt-below t, sub·alt.Post, set-goto-reads.Asked, set-goto-reads.Learnt, alternatives-end-reads.Asked, alternatives-end-reads.Learnt)
 
 abbrev pub Inv-loop : lts.InvT-loop
-Inv-loop image tables bindings blocks₀ statements₀ locals₀ entries₀ visits₀ mode p from count els place join c₀ d₀ here₀ i₀ blocks statements locals entries visits c d here i = AlternativesGoing image tables bindings p from count mode join els place c₀ d₀ here₀ (lent blocks₀ statements₀ locals₀ entries₀) visits₀ c d here (lent blocks statements locals entries) visits i
+Inv-loop image tables bindings blocks₀ statements₀ locals₀ entries₀ visits₀ mode p from count els place join c₀ here₀ i₀ blocks statements locals entries visits c here i = AlternativesGoing image tables bindings p from count mode join els place c₀ here₀ (lent blocks₀ statements₀ locals₀ entries₀) visits₀ c here (lent blocks statements locals entries) visits i
 
 abbrev pub μ-loop : lts.MeasureT-loop
-μ-loop image tables bindings blocks₀ statements₀ locals₀ entries₀ visits₀ mode p from count els place join c₀ d₀ here₀ i₀ blocks statements locals entries visits c d here i = count - i
+μ-loop image tables bindings blocks₀ statements₀ locals₀ entries₀ visits₀ mode p from count els place join c₀ here₀ i₀ blocks statements locals entries visits c here i = count - i
 
 pub new-basic-block-requires : (t : ℕ) → lts.Need-new-basic-block-requires (calls t) (sub·alts-at t) sub·alts.Post Inv-loop μ-loop
 new-basic-block-requires t c κs = tt
