@@ -7,7 +7,7 @@ use refusals::MirLowerError;
 
 // What the lowering of a pattern, or a part of it, gives.
 pub enum Lowered {
-    // The counts, the local that all tests of enums share, the block where a match goes on, and the one where a mismatch does.
+    // The counts, the block where a match goes on, and the one where a mismatch does.
     Done(Counts, BasicBlockId, OptBlock),
     // Why it was refused, and the pattern that was visited then.
     Refused(MirLowerError, PatId),
