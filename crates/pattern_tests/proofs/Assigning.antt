@@ -44,15 +44,15 @@ renamed c n (NewTemp.Refused e) same is = tt
 -- `temp`
 pub making : (image : List ℕ) (word : ℕ) {c : Counts} {current : BasicBlockId} {s₀ l₀ e₀ : List ℕ} {r : NewTemp} {s l e : List ℕ} → Makes (λ st. temp image st word current) c current s₀ l₀ e₀ r s l e →
     Making (λ ctx. temp image (ctx .state) word current) (λ ctx. nextLocal (ctx .state)) c current s₀ l₀ e₀ r s l e
-making image word discr {c = c} {s₀ = s₀} {l₀ = l₀} {e₀ = e₀} {r = r} M =
+making image word {c = c} {s₀ = s₀} {l₀ = l₀} {e₀ = e₀} {r = r} M =
     record { answers = λ bl sc v R. M .answers bl sc R; named = λ bl sc v R. renamed c (nextLocal (decode (body bl s₀ l₀ sc e₀) c)) r (next-local (body bl s₀ l₀ sc e₀) c R) (M .number) }
 
 -- `discr_temp_place`
 pub sharing : {image : List ℕ} {c : Counts} {current : BasicBlockId} {s₀ l₀ e₀ : List ℕ} {r : NewTemp} {s l e : List ℕ} → Shares image discr c current s₀ l₀ e₀ r s l e →
     Making (λ ctx. discrTempPlace image (ctx .state) current) (λ ctx. discrLocal (ctx .state)) c current s₀ l₀ e₀ r s l e
 unfolding discrLocal
-sharing (DiscrTemp.Some d) M = record { answers = λ bl sc v R. M .answers bl sc R; named = λ bl sc v R. M .number }
-sharing {c = c} DiscrTemp.None {s₀ = s₀} {l₀ = l₀} {e₀ = e₀} {r = r} M =
+sharing M = record { answers = λ bl sc v R. M .answers bl sc R; named = λ bl sc v R. M .number }
+sharing {c = c} {s₀ = s₀} {l₀ = l₀} {e₀ = e₀} {r = r} M =
     record { answers = λ bl sc v R. M .answers bl sc R; named = λ bl sc v R. renamed c (nextLocal (decode (body bl s₀ l₀ sc e₀) c)) r (next-local (body bl s₀ l₀ sc e₀) c R) (M .number) }
 
 -- the assignment is there

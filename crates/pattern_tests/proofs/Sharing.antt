@@ -109,14 +109,14 @@ module _ (image bl₀ s₀ l₀ e₀ : List ℕ) (c : Counts) (p : PatId) (v : �
   -- there is no local
   pub discriminant-no-temp : {err : MirLowerError} {s l e : List ℕ} → Shares image discr c current s₀ l₀ e₀ (NewTemp.Refused err) s l e → Tested (Lowered.Refused err p) (lent bl₀ s l e)
   unfolding discriminantTest thenSwitch
-  discriminant-no-temp S = assign-no-local bl₀ p els row both (sharing discr S)
+  discriminant-no-temp S = assign-no-local bl₀ p els row both (sharing S)
 
   module _ {c₁ : Counts} {m : LocalId} {s₁ s l e : List ℕ} (long : length (place .elems) ≡ 16) (S : Shares image discr c current s₀ l₀ e₀ (NewTemp.Local c₁ m) s₁ l e)
       (after : s ≡ statementsAfter c₁ s₁ (row m)) where
     -- there is no room for the statement
     pub discriminant-full : Counted.Full ≡ newStatement c₁ → Tested (Lowered.Refused MirLowerError.Limit p) (lent bl₀ s l e)
     unfolding discriminantTest thenSwitch
-    discriminant-full full = assign-full bl₀ p els row both (sharing discr S) (place-rvalue-length current m PlaceRvalue.Discr place long) after full
+    discriminant-full full = assign-full bl₀ p els row both (sharing S) (place-rvalue-length current m PlaceRvalue.Discr place long) after full
 
     -- the block goes on by the local
     pub discriminant-switches : {c₂ : Counts} {r : Lowered} {bl : List ℕ} {low high : ℕ} →
@@ -126,5 +126,5 @@ module _ (image bl₀ s₀ l₀ e₀ : List ℕ) (c : Counts) (p : PatId) (v : �
     unfolding discriminantTest thenSwitch
     discriminant-switches {low = low} {high = high} halves is P h W =
         let L = W s l e in
-        assign-then bl₀ p els row both (sharing discr S) (place-rvalue-length current m PlaceRvalue.Discr place long) after is P h
+        assign-then bl₀ p els row both (sharing S) (place-rvalue-length current m PlaceRvalue.Discr place long) after is P h
         (lowers-by {defined = switches low high m} (λ ctx. rw (halves .0, halves .1) refl) (record { answers = L .answers; onward = L .onward }))
