@@ -60,8 +60,8 @@ statement-grown c {c₁ = c₁} is = made (ltb (c .statements) statementLimit) i
 
 -- where the push of a statement goes on
 pushed-onward : (c : Counts) (r : Counted) (p : PatId) {current : BasicBlockId} {els : OptBlock} → r ≡ newStatement c → Begins c current els → OnwardBy c current els (pushed r discr p current els)
-pushed-onward c (Counted.Now c₁) discr p is h = onward-grown (statement-grown c is) h
-pushed-onward c Counted.Full discr p is h = tt
+pushed-onward c (Counted.Now c₁) p is h = onward-grown (statement-grown c is) h
+pushed-onward c Counted.Full p is h = tt
 
 -- p is visited, and the walk goes on where it is
 module _ (p : PatId) (current : BasicBlockId) (els : OptBlock) (place : Place) where
@@ -119,8 +119,8 @@ module _ (bindings s₀ e₀ : List ℕ) (c : Counts) (p q : PatId) (b : ℕ) (h
           let F = M bl lo sc R in
           rw (← bound)
           (step-then (p .0) (assigned discr p current els place l (bindingRvalue how) (ctxOf (body bl s₀ lo sc e₀) c visits)) F (inl refl)
-          (assign-answers discr p current els place bl s₁ lo sc e₁ visits c₁ (decode (body bl s₀ lo sc e₀) c) l (bindingRvalue how) r long is (after ∙ ap (λ (v : PlaceRvalue). statementsAfter c₁ s₁ (placeRvalueRow current l v place)) same) (F .goes .0)));
-      onward = let G = M bl lo (zeros 32) P .goes .1 in onward-by (pushed r discr p current els) G (onward-grown G start) (pushed-onward c₁ r discr p is (begins-grown G start));
+          (assign-answers p current els place bl s₁ lo sc e₁ visits c₁ (decode (body bl s₀ lo sc e₀) c) l (bindingRvalue how) r long is (after ∙ ap (λ (v : PlaceRvalue). statementsAfter c₁ s₁ (placeRvalueRow current l v place)) same) (F .goes .0)));
+      onward = let G = M bl lo (zeros 32) P .goes .1 in onward-by (pushed r discr p current els) G (onward-grown G start) (pushed-onward c₁ r p is (begins-grown G start));
     }
 
 -- `local_path`: s₀ is the statements' table at entry
@@ -148,8 +148,8 @@ module _ (bindings s₀ : List ℕ) (c : Counts) (p : PatId) (b : ℕ) (current 
       s ≡ statementsAfter c s₀ (placeRvalueRow current l PlaceRvalue.Copy place) → Path MatchingMode.Assign (pushed r discr p current els) s
   unfolding localPath
   path-assigned {l = l} r long start bound is after bl lo e = record {
-    answers = λ sc visits R. rw (← bound) (assign-answers discr p current els place bl s₀ lo sc e visits c (decode (body bl s₀ lo sc e) c) l PlaceRvalue.Copy r long is after R);
-    onward = pushed-onward c r discr p is start;
+    answers = λ sc visits R. rw (← bound) (assign-answers p current els place bl s₀ lo sc e visits c (decode (body bl s₀ lo sc e) c) l PlaceRvalue.Copy r long is after R);
+    onward = pushed-onward c r p is start;
   }
 
 -- `fill_rest`: s₀ and e₀ are the tables at entry

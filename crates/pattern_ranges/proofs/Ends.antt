@@ -63,7 +63,7 @@ module _ (image : List ℕ) (t : Lent) (c : Counts) (p : PatId) (op : BinOp) (co
 
     -- both are made, and the place is compared
     pub range-ends : {c₂ : Counts} {on : BasicBlockId} {t′ : Lent} (r : Stepped) → NewBlock.Block c₂ on ≡ newBlock c₁ → Primed t c → Begins c current els → Steps (λ st. ends st on other) c₂ current t r t′ →
-        Tests (loweredBy discr p on other r) t′
+        Tests (loweredBy p on other r) t′
     range-ends {on = on} r is P h E =
         lowers-by (λ ctx. range-cut image p constant place current els ctx op)
         (else-then-ends p ends els t c current made is r h (grown-to (λ st. ends st on other) r (else-then-made made is P h .0) E) E)

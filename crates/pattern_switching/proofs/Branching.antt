@@ -69,9 +69,9 @@ else-then-made {t = t} {c = c} {c₁ = c₁} {current = current} {els = els} mad
     (S .goes .0, le-trans (h .start) (le-trans (F .goes .1 .blocks) (S .goes .1 .blocks)))
 
 -- an answer by how a step ended
-abbrev pub loweredBy : DiscrTemp → PatId → BasicBlockId → BasicBlockId → Stepped → Lowered
-loweredBy discr p then other (Stepped.Now c) = Lowered.Done c then (OptBlock.Some other)
-loweredBy discr p then other (Stepped.Refused e) = Lowered.Refused e p
+abbrev pub loweredBy : PatId → BasicBlockId → BasicBlockId → Stepped → Lowered
+loweredBy p then other (Stepped.Now c) = Lowered.Done c then (OptBlock.Some other)
+loweredBy p then other (Stepped.Refused e) = Lowered.Refused e p
 
 abbrev pub GrownTo : Counts → Stepped → Type 0
 GrownTo c (Stepped.Now c′) = Grown c c′
@@ -112,7 +112,7 @@ module _ (p : PatId) (end : State → BasicBlockId → BasicBlockId → Result S
 
   -- where it goes on
   end-onward : (c c₂ : Counts) (current then other : BasicBlockId) (r : Stepped) → Grown c c₂ → Onward c current els c₂ then (OptBlock.Some other) → GrownTo c₂ r →
-      OnwardBy c current els (loweredBy discr p then other r)
+      OnwardBy c current els (loweredBy p then other r)
   end-onward c c₂ current then other (Stepped.Now c₃) G O grown = onward-trans G O (onward-grown grown (O .begins))
   end-onward c c₂ current then other (Stepped.Refused e) G O grown = tt
 
@@ -163,7 +163,7 @@ module _ (p : PatId) (end : State → BasicBlockId → BasicBlockId → Result S
       module _ {c₂ : Counts} {other : BasicBlockId} (made : NewBlock.Block c₂ other ≡ elseMade c₁ els) where
         -- and the test ends
         pub then-else-ends : {t′ : Lent} (r : Stepped) → Begins c current els → GrownTo c₂ r → Steps (λ st. end st then other) c₂ current t r t′ →
-            Lowers thenElse c current els t (loweredBy discr p then other r) t′
+            Lowers thenElse c current els t (loweredBy p then other r) t′
         then-else-ends {t′ = t′} r h grown E =
             let new = block-onward c is h in
             let new₂ = else-onward c₁ els made (new .1 .begins) in
@@ -171,7 +171,7 @@ module _ (p : PatId) (end : State → BasicBlockId → BasicBlockId → Result S
               answers = λ scopes visits R.
                   let b = bodyOf t scopes in
                   let ctx = ctxOf b c visits in
-                  then-answers (loweredBy discr p then other r) t′ scopes visits R (λ Q.
+                  then-answers (loweredBy p then other r) t′ scopes visits R (λ Q.
                   let S = else-answers t scopes c₁ (current .0) els made Q in
                   answers-by (ap (λ (m : BasicBlockId). step (p .0) (elseState (decode b c₁) els) (ended ctx then m)) (else-number c₁ els made b))
                   (step-then (p .0) (ended ctx then other) S (inl refl) (end-answers (bodyOf t′ scopes) ctx then other r (E scopes (S .goes .0)))));
@@ -204,7 +204,7 @@ module _ (p : PatId) (end : State → BasicBlockId → BasicBlockId → Result S
       module _ {c₂ : Counts} {then : BasicBlockId} (is : NewBlock.Block c₂ then ≡ newBlock c₁) where
         -- and the test ends
         pub else-then-ends : {t′ : Lent} (r : Stepped) → Begins c current els → GrownTo c₂ r → Steps (λ st. end st then other) c₂ current t r t′ →
-            Lowers elseThen c current els t (loweredBy discr p then other r) t′
+            Lowers elseThen c current els t (loweredBy p then other r) t′
         else-then-ends {t′ = t′} r h grown E =
             let new = else-onward c els made h in
             let new₂ = block-onward c₁ is (new .1 .begins) in
@@ -212,7 +212,7 @@ module _ (p : PatId) (end : State → BasicBlockId → BasicBlockId → Result S
               answers = λ scopes visits R.
                   let b = bodyOf t scopes in
                   let ctx = ctxOf b c visits in
-                  elsewhere-answers (loweredBy discr p then other r) t′ scopes visits R (λ Q.
+                  elsewhere-answers (loweredBy p then other r) t′ scopes visits R (λ Q.
                   let S = block-answers t scopes c₁ (current .0) is Q in
                   answers-by (ap (λ (m : BasicBlockId). step (p .0) (tryBlock (decode b c₁)) (ended ctx m other)) (block-number c₁ is ∙ next-block b c₁))
                   (step-then (p .0) (ended ctx then other) S (inl refl) (end-answers (bodyOf t′ scopes) ctx then other r (E scopes (S .goes .0)))));
