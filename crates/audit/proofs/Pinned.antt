@@ -10,10 +10,8 @@ use lib.Dec.{leb, ltb}
 use lib.IntN.{ℤ, pos, negℤ}
 use lib.ListN.{length, getD, take, drop}
 use lib.Signed.{leZ, ltZ}
-use Rattle.place.specs.declared.LocalId.{LocalId}
 use Rattle.place.specs.declared.elems.ProjectionElem.{ProjectionElem}
 use Rattle.mir.specs.declared.rvalues.BinOp.{BinOp}
-use Rattle.lower.specs.declared.temps.DiscrTemp.{DiscrTemp}
 use Rattle.views.specs.Views.{Path, Mir}
 use Rattle.views.specs.Growing.{GoesOn}
 use Rattle.growth.proofs.Working.{goes-on-refl}
@@ -23,7 +21,7 @@ use Rattle.meaning.specs.Matching.{fromStart, toEnd}
 use Rattle.meaning.proofs.Laws as laws
 use Rattle.meaning.proofs.Crossing as crossing
 use Rattle.meaning.proofs.Behind as behind
-use Rattle.correctness.specs.Demand2.{IsNotDiscr, Distinct}
+use Rattle.correctness.specs.Demand2.{Distinct}
 use Rattle.correctness.proofs.Plain as plain
 use Rattle.called.specs.Call.{Call, HandedOut}
 use Rattle.called.specs.Runs.{FittingValue, matching, bound, FunctionComesToThen, FunctionComesToElse}
@@ -100,10 +98,6 @@ another-field-is-not-the-one-handed-in = behind.another-field
 -- "enters no block twice": of the blocks of a run, two at different places of its way differ.
 pub blocks-of-a-run-differ : (xs : List ℕ) → Distinct xs → (i j : ℕ) → i < j → j < length xs → getD xs i 0 ≡ getD xs j 0 → ⊥
 blocks-of-a-run-differ = plain.distinct-differ
-
--- The locals of which the page speaks: all where there is no discriminant's local, and else all others.
-pub locals-other-than-the-discriminant's : (d : LocalId) (l : ℕ) → IsNotDiscr DiscrTemp.None l × (IsNotDiscr (DiscrTemp.Some d) l ↔ (l ≡ d .0 → ⊥))
-locals-other-than-the-discriminant's = plain.other-than-discr
 
 -- Every body goes on from itself: what is said of bodies that go on is said of the one that is handed out.
 pub a-body-goes-on-from-itself : (m : Mir) → GoesOn m m

@@ -7,7 +7,6 @@ use Rattle.image.specs.Tables.{patternCount, bindingCount}
 use Rattle.image.specs.Tree.{Pat, tree}
 use Rattle.image.specs.Valid.{valid}
 use Rattle.lower.specs.declared.merging.OptBlock.{OptBlock}
-use Rattle.lower.specs.declared.temps.DiscrTemp.{DiscrTemp}
 use Rattle.views.specs.Views.{Mir, Path, mirOf}
 use Rattle.pattern_matching.specs.Walking.{Out, Walk, ok, refused, localPlace}
 use Rattle.meaning.specs.Values.{Value, nothing, valueFits}
@@ -36,14 +35,12 @@ triedValue (notOfType v) = v
 triedValue (unmatched v came) = v
 triedValue (matched v bound came) = v
 
--- an image, whether it is valid, the type of local 0, against which its last pattern is taken, the bindings' locals, the discriminant's local if there is one, whether
--- the pattern fits, and values
+-- an image, whether it is valid, the type of local 0, against which its last pattern is taken, the bindings' locals, whether the pattern fits, and values
 pub record Judgement : Type 0 where
   pub image : List ℕ
   pub holds : Bool
   pub ty : ℕ
   pub locals : List ℕ
-  pub discr : DiscrTemp
   pub fit : Bool
   pub tried : List Tried
 
@@ -82,7 +79,6 @@ judged row =
       holds = valid image;
       ty = row .ty;
       locals = row .locals;
-      discr = row .discr;
-      fit = fits image (row .locals) 0 (row .discr) (row .ty) pat;
+      fit = fits image (row .locals) 0 (row .ty) pat;
       tried = map (λ (x : Tried). try image (row .locals) (row .ty) pat lowered (triedValue x)) (row .tried);
     }

@@ -25,7 +25,7 @@ use Rattle.called.proofs.Bodies.{handed, gives, counted}
 
 -- a call that is taken comes to the walk
 walks : (call : Call) → Taken call →
-    patternMatchCall (call .image) (call .bindings) (call .body) (call .visits) (call .counts) (call .discr) (call .pattern) (call .start) (call .else) (call .place) ≡ walked (walkOf call)
+    patternMatchCall (call .image) (call .bindings) (call .body) (call .visits) (call .counts) (call .pattern) (call .start) (call .else) (call .place) ≡ walked (walkOf call)
 unfolding patternMatchCall calling
 walks call T = rw (T .image-valid, T .body, T .names)
 
@@ -41,8 +41,8 @@ pub fit-accepted : {call : Call} → FittingPattern call → Taken call → HasR
     IsAcceptance call r body visits
 fit-accepted {call} fit T room scope r body visits P =
     let (o, gave) = fit-lowered fit T room scope in
-    let is : r ≡ MatchCall.Matched (countsOf (o .ctx .state)) (o .ctx .discr) (o .then) (o .else) = P .gives .reply ∙ ap answer (walks call T) ∙ ap walkAnswer gave in
-    (record { counts = countsOf (o .ctx .state); discr = o .ctx .discr; then = o .then; else = o .else; body = body; visits = visits }, is, refl, refl, subst (λ (x : MatchCall). Promised call x body visits) is P)
+    let is : r ≡ MatchCall.Matched (countsOf (o .ctx .state)) (o .then) (o .else) = P .gives .reply ∙ ap answer (walks call T) ∙ ap walkAnswer gave in
+    (record { counts = countsOf (o .ctx .state); then = o .then; else = o .else; body = body; visits = visits }, is, refl, refl, subst (λ (x : MatchCall). Promised call x body visits) is P)
 
 -- a refusal by 11 names a limit that is passed, whether the pattern fits or not
 pub refused-limit : (call : Call) (p : PatId) → Refused call MirLowerError.Limit p → LimitPassed call
@@ -88,4 +88,4 @@ had-room call out accepted =
     ready : Ready (out .body) (countsOf (after out))
     ready =
         subst (λ (w : Walk Out). ReadyWalk w (out .body)) gave
-        (taken call (MatchCall.Matched (out .counts) (out .discr) (out .then) (out .else)) (out .body) (out .visits) tt accepted .1 .gives .ready)
+        (taken call (MatchCall.Matched (out .counts) (out .then) (out .else)) (out .body) (out .visits) tt accepted .1 .gives .ready)

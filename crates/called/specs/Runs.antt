@@ -38,7 +38,7 @@ pub record OfType (call : Call) (t : ℕ) : Type 0 where
 pub record FittingPattern (call : Call) : Type 0 where
   pub type : ℕ
   pub of-type : OfType call type
-  pub fitting : fits (call .image) (call .bindings) (call .place .local .0) (call .discr) type (patternOf call) ≡ true
+  pub fitting : fits (call .image) (call .bindings) (call .place .local .0) type (patternOf call) ≡ true
 
 -- the call is accepted, its pattern fits its place, and so does a value
 pub record FittingValue (call : Call) (out : HandedOut) : Type 0 where
@@ -61,7 +61,7 @@ module _ {call : Call} {out : HandedOut} (on : FittingValue call out) where
   abbrev pub StopsAt : Mir → Env → ℕ → List Line → Type 0
   StopsAt M env b lines = Stops (call .image) M (call .place) (on .value) (startOf call) (call .start) env b lines
 
-  -- and after it every local handed in, but the discriminant's, holds what is bound to it, or what it held
+  -- and after it every local handed in holds what is bound to it, or what it held
   abbrev pub ComesTo : Mir → Env → List Bound → ℕ → List Line → Type 0
   ComesTo M env bs b lines = Comes (call .image) (call .bindings) M (call .place) (on .value) (startOf call) (call .start) env bs b lines
 

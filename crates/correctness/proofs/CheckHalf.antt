@@ -51,7 +51,7 @@ module _ {image bindings : List ℕ} {ctx : Ctx} {current : BasicBlockId} {els :
 pub fitting-types : {image bindings : List ℕ} {ctx : Ctx} {place : Place} {t : ℕ} {pat : Pat} {v : Value} → Fitting image bindings ctx place t pat v → typesFit image pat (some t) ≡ true
 unfolding fits
 fitting-types {image} {bindings} {ctx} {place} {t} {pat} f =
-    all-true-at (typesFit image pat (some t) ∷ bindingsFit image pat ∷ nothingRefused image bindings pat ∷ localsDiffer bindings (place .local .0) (ctx .discr) ∷ []) 0 (f .pattern)
+    all-true-at (typesFit image pat (some t) ∷ bindingsFit image pat ∷ nothingRefused image bindings pat ∷ localsDiffer bindings (place .local .0) ∷ []) 0 (f .pattern)
 
 -- The walk in Check.
 pub check-half : (image bindings : List ℕ) (pat : Pat) (ctx : Ctx) (current : BasicBlockId) (els : OptBlock) (place : Place) (t : ℕ) (v : Value) (r : Out) (M : Mir) (env : Env) →

@@ -46,13 +46,13 @@ pub record Clauses (image bindings : List ℕ) (root : ℕ) (ctx : Ctx) (t : ℕ
   pub types : typesFit image pat (some t) ≡ true
   pub bindings-fit : bindingsFit image pat ≡ true
   pub reached : nothingRefused image bindings pat ≡ true
-  pub locals : localsDiffer bindings root (ctx .discr) ≡ true
+  pub locals : localsDiffer bindings root ≡ true
 
 -- each of them
-pub clauses : (image bindings : List ℕ) (root : ℕ) (ctx : Ctx) (t : ℕ) (pat : Pat) → fits image bindings root (ctx .discr) t pat ≡ true → Clauses image bindings root ctx t pat
+pub clauses : (image bindings : List ℕ) (root : ℕ) (ctx : Ctx) (t : ℕ) (pat : Pat) → fits image bindings root t pat ≡ true → Clauses image bindings root ctx t pat
 unfolding fits
 clauses image bindings root ctx t pat e =
-    let rules = typesFit image pat (some t) ∷ bindingsFit image pat ∷ nothingRefused image bindings pat ∷ localsDiffer bindings root (ctx .discr) ∷ [] in
+    let rules = typesFit image pat (some t) ∷ bindingsFit image pat ∷ nothingRefused image bindings pat ∷ localsDiffer bindings root ∷ [] in
     record { types = all-true-at rules 0 e; bindings-fit = all-true-at rules 1 e; reached = all-true-at rules 2 e; locals = all-true-at rules 3 e }
 
 module _ (image bindings : List ℕ) (pat : Pat) (ctx : Ctx) (current : BasicBlockId) (els : OptBlock) (place : Place) (t : ℕ) (v : Value)
@@ -69,7 +69,7 @@ module _ (image bindings : List ℕ) (pat : Pat) (ctx : Ctx) (current : BasicBlo
       let q : Leaves (ctx .state) current els r₁ = inner-leaves image bindings pat MatchingMode.Check ctx current els place r₁ (handed .starts) e₁ in
       let q′ : Leaves (r₁ .ctx .state) (r₁ .then) (r₁ .else) r = inner-leaves image bindings pat MatchingMode.Bind (r₁ .ctx) (r₁ .then) (r₁ .else) place r (q .ready) e₂ in
       let keep = inner-keeps image bindings pat MatchingMode.Bind (r₁ .ctx) (r₁ .then) (r₁ .else) place r tt e₂ in
-      let apart = fits-locals-apart bindings (place .local .0) (ctx .discr) (c .locals) in
+      let apart = fits-locals-apart bindings (place .local .0) (c .locals) in
       let can = bound scene word bindings M (fitting .image-valid) (fitting .image-bytes) apart pat (c .bindings-fit) (all-local image bindings pat (c .reached)) of in
       lands-bound r₁ r (handed .starts) q q′ (sharer image bindings pat MatchingMode.Check ctx current els place .shares r₁ e₁) keep
       (check-half image bindings pat ctx current els place t v r₁ M env handed fitting of e₁ (goes-on-trans (goes-on (q′ .worked) (q .ready .opened)) onward))

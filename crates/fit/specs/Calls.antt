@@ -1,18 +1,16 @@
 -- The public fit test: every image and every number is taken, or refused by document 01's number. Assumes nothing: these are definitions.
 use Prim.Native.Nat.{ℕ}
 use mathlib.Core.Path.{_≡_}
-use mathlib.Core.Bool.{Bool, true, false, cond, _&&_, not}
+use mathlib.Core.Bool.{Bool, true, false, cond, _&&_}
 use mathlib.Core.Option.{Option, none, some}
 use mathlib.Core.List.{List}
 use lib.Dec.{eqb, ltb}
 use lib.ListN.{length}
 use Rattle.refusals.specs.Refusals.{Refusal, breaksARule, namesNothing}
 use Rattle.image.specs.Tables.{typeCount, patternCount, bindingCount}
-use Rattle.image.specs.Lists.{member}
 use Rattle.image.specs.Tree.{tree}
 use Rattle.image.specs.Valid.{valid}
-use Rattle.lower.specs.declared.temps.DiscrTemp.{DiscrTemp}
-use Rattle.meaning.specs.Fits.{present, fits}
+use Rattle.meaning.specs.Fits.{fits}
 use Rattle.fit.specs.declared.FitCall.{FitCall}
 
 -- what a call gives: the image breaks a rule, a number of the call names nothing, or "a yes or no tells the fit"
@@ -26,10 +24,10 @@ unfoldable pub handed : ℕ → ℕ → ℕ → List ℕ → ℕ → ℕ → Boo
 handed bindingsThere patterns types bindings p t = eqb (length bindings) bindingsThere && ltb p patterns && ltb t types
 
 -- "1 is tried before 2"
-unfoldable pub fitCall : List ℕ → List ℕ → ℕ → DiscrTemp → ℕ → ℕ → Called
-fitCall image bindings root discr t p =
+unfoldable pub fitCall : List ℕ → List ℕ → ℕ → ℕ → ℕ → Called
+fitCall image bindings root t p =
     cond (valid image)
-    (cond (handed (bindingCount image) (patternCount image) (typeCount image) bindings p t) (tested (fits image bindings root discr t (tree image p))) badCall)
+    (cond (handed (bindingCount image) (patternCount image) (typeCount image) bindings p t) (tested (fits image bindings root t (tree image p))) badCall)
     badImage
 
 -- the answer
@@ -55,8 +53,3 @@ refusalOf (tested b) = none
 pub record Gives (defined : Called) (r : FitCall) : Type 0 where
   pub reply : r ≡ answer defined
   pub refusal : numbers r ≡ refusalOf defined
-
--- the discriminant local, where there is one, is neither the root nor a binding's local
-abbrev pub discrApart : List ℕ → ℕ → DiscrTemp → Bool
-discrApart bindings root DiscrTemp.None = true
-discrApart bindings root (DiscrTemp.Some l) = not (eqb root (l .0)) && not (member (l .0) (present bindings))

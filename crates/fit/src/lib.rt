@@ -1,5 +1,5 @@
 // The fit test: whether a pattern fits a place, for every image and every number of the call.
-pub mod locals; // locals.rt: the locals of the bindings, the place's root and the discriminant local differ
+pub mod locals; // locals.rt: the locals of the bindings and the place's root differ
 
 use fit_bindings::bindings_fit;
 use fit_reached::nothing_refused;
@@ -8,7 +8,6 @@ use fit_types::walk::types_fit;
 use image::PatId;
 use image::Tables;
 use locals::locals_differ;
-use lower::temps::DiscrTemp;
 use place::LocalId;
 use read_image::Read;
 use read_image::read_image;
@@ -49,12 +48,11 @@ fn pattern_fits(
     tables: Tables,
     bindings: &[u16],
     root: LocalId,
-    discr: DiscrTemp,
     t: u16,
     p: PatId,
 ) -> bool
     requires { ⌜ (valid (now image) ≡ true) × Whole (now image) tables × (length (now bindings) ≡ bindingCount (now image)) × (p .0 < patternCount (now image)) × (t < typeCount (now image)) ⌝ }
-    ensures { λ r. ⌜ r ≡ fits (now (image .entry)) (now (bindings .entry)) (root .0) discr t (tree (now (image .entry)) (p .0)) ⌝ }
+    ensures { λ r. ⌜ r ≡ fits (now (image .entry)) (now (bindings .entry)) (root .0) t (tree (now (image .entry)) (p .0)) ⌝ }
 {
     if !types_fit(image, tables, TypeNumber::Some(t), p) {
         return false;
@@ -65,19 +63,12 @@ fn pattern_fits(
     if !nothing_refused(image, tables, bindings, p) {
         return false;
     }
-    locals_differ(bindings, root, discr)
+    locals_differ(bindings, root)
 }
 
-// Whether the pattern p fits a place of the type t whose root is the local `root`, where the bindings and the discriminants have these locals.
-pub fn fit(
-    image: &[u8],
-    bindings: &[u16],
-    root: LocalId,
-    discr: DiscrTemp,
-    t: u16,
-    p: PatId,
-) -> FitCall
-    ensures { λ r. ⌜ Gives (fitCall (now (image .entry)) (now (bindings .entry)) (root .0) discr t (p .0)) r ⌝ }
+// Whether the pattern p fits a place of the type t whose root is the local `root`, where the bindings have these locals.
+pub fn fit(image: &[u8], bindings: &[u16], root: LocalId, t: u16, p: PatId) -> FitCall
+    ensures { λ r. ⌜ Gives (fitCall (now (image .entry)) (now (bindings .entry)) (root .0) t (p .0)) r ⌝ }
 {
     match read_image(image) {
         Read::Refused => FitCall::BadImage,
@@ -85,7 +76,7 @@ pub fn fit(
             if !call_names(tables, bindings, t, p) {
                 return FitCall::BadCall;
             }
-            if !pattern_fits(image, tables, bindings, root, discr, t, p) {
+            if !pattern_fits(image, tables, bindings, root, t, p) {
                 return FitCall::DoesNot;
             }
             FitCall::Fits

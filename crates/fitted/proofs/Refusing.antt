@@ -123,7 +123,7 @@ reached-by false rest g n k e = the-last g (n refl)
 -- a pattern that cannot fail leaves no block where it does not match
 never : (image bindings : List ℕ) (q : Pat) (ty : PlaceTy) → canFail image q ty ≡ false → Never image ty (patternMatchInner image bindings q)
 never image bindings q ty e c current place o =
-    holds-as (λ r a. subst (λ (f : Bool). ElseIs f OptBlock.None (r .else) (length (c .state .blocks)) (length (r .ctx .state .blocks))) e (a .steps .else)) (counts image bindings q .goes checks c current OptBlock.None place ty 0 false o tt)
+    holds-as (λ r a. subst (λ (f : Bool). ElseIs f OptBlock.None (r .else) (length (c .state .blocks)) (length (r .ctx .state .blocks))) e (a .steps .else)) (counts image bindings q .goes checks c current OptBlock.None place ty 0 false o)
 
 -- in a valid image
 module _ (image bindings : List ℕ) (v : valid image ≡ true) where
@@ -283,8 +283,8 @@ fitting-refused image bindings pat ctx current els place t e p v here typed root
 -- the same of a pattern that fits, by the numbers: a limit is passed, or no scope is open
 pub fit-refused : (image bindings : List ℕ) (pat : Pat) (ctx : Ctx) (current : BasicBlockId) (els : OptBlock) (place : Place) (t : ℕ) (e : MirLowerError) (p : ℕ) →
     valid image ≡ true → t < typeCount image → placeTy image (ctx .state) place ≡ PlaceTy.Ty t → place .local .0 < length (ctx .state .locals) → length (place .elems) ≡ 16 →
-    fits image bindings (place .local .0) (ctx .discr) t pat ≡ true → patternMatch image bindings pat ctx current els place ≡ refused e p → (numberOf e ≡ 11) ⊎ (numberOf e ≡ 14)
+    fits image bindings (place .local .0) t pat ≡ true → patternMatch image bindings pat ctx current els place ≡ refused e p → (numberOf e ≡ 11) ⊎ (numberOf e ≡ 14)
 unfolding fits
 fit-refused image bindings pat ctx current els place t e p v there placed rooted whole fit stopped =
-    let tests = typesFit image pat (some t) ∷ bindingsFit image pat ∷ nothingRefused image bindings pat ∷ localsDiffer bindings (place .local .0) (ctx .discr) ∷ [] in
+    let tests = typesFit image pat (some t) ∷ bindingsFit image pat ∷ nothingRefused image bindings pat ∷ localsDiffer bindings (place .local .0) ∷ [] in
     limit-numbers e (fitting-refused image bindings pat ctx current els place t e p v there placed rooted whole (all-true-at tests 0 fit) (all-true-at tests 2 fit) stopped)

@@ -15,10 +15,9 @@ use Rattle.mir.specs.declared.BasicBlockId.{BasicBlockId}
 use Rattle.mir.specs.declared.Counts.{Counts}
 use Rattle.mir.specs.Blocks.{isOpen}
 use Rattle.check_body.specs.Bodies.{isBlock, isLocal, elemHolds}
-use Rattle.lower.specs.declared.temps.DiscrTemp.{DiscrTemp}
 use Rattle.lower.specs.declared.merging.OptBlock.{OptBlock}
 use Rattle.lower.specs.Promises.{Within}
-use Rattle.handed.specs.Handed.{startHolds, elseHolds, placeHolds, bindingHolds, bindingsHold, discrHolds, patternHanded, Named, matchHolds, selfHolds}
+use Rattle.handed.specs.Handed.{startHolds, elseHolds, placeHolds, bindingHolds, bindingsHold, patternHanded, Named, matchHolds, selfHolds}
 
 -- the start is a block that there is
 start-of : (blocks : List ℕ) (c : Counts) (current : BasicBlockId) → startHolds blocks c current ≡ true → current .0 < c .blocks
@@ -40,13 +39,12 @@ bindings-of count c bindings e = eqb-true _ _ (and-left (eqb (length bindings) c
 abbrev elemsHold : ℕ → Place → Bool
 elemsHold variants place = allBelow (λ i. elemHolds variants (elemOf (getD (place .elems) i 0))) (place .len)
 
-module _ (named : Named) (bindings blocks visits : List ℕ) (c : Counts) (discr : DiscrTemp) (p : ℕ) (current : BasicBlockId) (els : OptBlock) (place : Place) where
+module _ (named : Named) (bindings blocks visits : List ℕ) (c : Counts) (p : ℕ) (current : BasicBlockId) (els : OptBlock) (place : Place) where
   -- the tests
   abbrev rules : List Bool
   rules =
       patternHanded (named .patterns) visits p
       ∷ bindingsHold (named .bindings) c bindings
-      ∷ discrHolds c discr
       ∷ startHolds blocks c current
       ∷ elseHolds c current els
       ∷ placeHolds (named .variants) c place
@@ -54,7 +52,7 @@ module _ (named : Named) (bindings blocks visits : List ℕ) (c : Counts) (discr
 
   -- all that a call of `pattern_match` is handed names something
   abbrev pub Handed : Type 0
-  Handed = matchHolds named bindings blocks visits c discr p current els place ≡ true
+  Handed = matchHolds named bindings blocks visits c p current els place ≡ true
 
   -- each test is passed
   rule : Handed → (k : ℕ) → getD rules k true ≡ true
@@ -75,10 +73,10 @@ module _ (named : Named) (bindings blocks visits : List ℕ) (c : Counts) (discr
   bindings-sized h = bindings-of (named .bindings) c bindings (rule h 1)
 
   pub start-there : Handed → current .0 < c .blocks
-  start-there h = start-of blocks c current (rule h 3)
+  start-there h = start-of blocks c current (rule h 2)
 
   pub else-there : Handed → Within c els
-  else-there h = else-of c current els (rule h 4)
+  else-there h = else-of c current els (rule h 3)
 
   -- the place's root is there
   pub root-there : Handed → place .local .0 < c .locals
@@ -86,7 +84,7 @@ module _ (named : Named) (bindings blocks visits : List ℕ) (c : Counts) (discr
   root-there h =
       ltb-true _ _
       (and-left (isLocal c (place .local .0)) (leb (place .len) 16)
-      (and-left (isLocal c (place .local .0) && leb (place .len) 16) (elemsHold (named .variants) place) (rule h 5)))
+      (and-left (isLocal c (place .local .0) && leb (place .len) 16) (elemsHold (named .variants) place) (rule h 4)))
 
   -- the place has at most 16 elements
   pub elems-within : Handed → place .len ≤ 16
@@ -94,7 +92,7 @@ module _ (named : Named) (bindings blocks visits : List ℕ) (c : Counts) (discr
   elems-within h =
       leb-true _ _
       (and-right (isLocal c (place .local .0)) (leb (place .len) 16)
-      (and-left (isLocal c (place .local .0) && leb (place .len) 16) (elemsHold (named .variants) place) (rule h 5)))
+      (and-left (isLocal c (place .local .0) && leb (place .len) 16) (elemsHold (named .variants) place) (rule h 4)))
 
 module _ (named : Named) (bindings blocks : List ℕ) (c : Counts) (b : ℕ) (current : BasicBlockId) (l : ℕ) where
   -- the tests

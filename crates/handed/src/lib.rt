@@ -4,7 +4,6 @@ use image::BindingId;
 use image::PatId;
 use image::Tables;
 use lower::merging::OptBlock;
-use lower::temps::DiscrTemp;
 use mir::BasicBlockId;
 use mir::Counts;
 use mir::blocks::is_unterminated;
@@ -14,7 +13,7 @@ use place::elems::elem_of;
 ghost use mathlib.Core.Path.{_≡_};
 ghost use Prim.Native.Nat.{_≤_};
 ghost use lib.ListN.{length};
-ghost use Rattle.handed.specs.Handed.{startHolds, elseHolds, placeHolds, bindingHolds, bindingsHold, discrHolds, patternHanded, matchHolds, selfHolds, isBlockOrNone, mergeHolds};
+ghost use Rattle.handed.specs.Handed.{startHolds, elseHolds, placeHolds, bindingHolds, bindingsHold, patternHanded, matchHolds, selfHolds, isBlockOrNone, mergeHolds};
 
 pub fn start_holds(blocks: &[u16], counts: Counts, current: BasicBlockId) -> bool
     requires { ⌜ (length (now blocks) ≡ 6144) × (counts .blocks ≤ 512) ⌝ }
@@ -86,15 +85,6 @@ pub fn bindings_hold(count: u16, counts: Counts, bindings: &[u16]) -> bool
     true
 }
 
-pub fn discr_holds(counts: Counts, discr: DiscrTemp) -> bool
-    ensures { λ r. ⌜ r ≡ discrHolds counts discr ⌝ }
-{
-    match discr {
-        DiscrTemp::None => true,
-        DiscrTemp::Some(l) => l.0 < counts.locals,
-    }
-}
-
 fn pattern_handed(count: u16, visits: &[u16], p: PatId) -> bool
     ensures { λ r. ⌜ r ≡ patternHanded count (now (visits .entry)) (p .0) ⌝ }
 {
@@ -111,22 +101,18 @@ pub fn match_holds(
     blocks: &[u16],
     visits: &[u16],
     counts: Counts,
-    discr: DiscrTemp,
     p: PatId,
     current: BasicBlockId,
     els: OptBlock,
     place: Place,
 ) -> bool
     requires { ⌜ (length (now blocks) ≡ 6144) × (counts .blocks ≤ 512) ⌝ }
-    ensures { λ r. ⌜ r ≡ matchHolds (record { variants = tables .variants .count; patterns = tables .patterns .count; bindings = tables .bindings .count }) (now (bindings .entry)) (now (blocks .entry)) (now (visits .entry)) counts discr (p .0) current els place ⌝ }
+    ensures { λ r. ⌜ r ≡ matchHolds (record { variants = tables .variants .count; patterns = tables .patterns .count; bindings = tables .bindings .count }) (now (bindings .entry)) (now (blocks .entry)) (now (visits .entry)) counts (p .0) current els place ⌝ }
 {
     if !pattern_handed(tables.patterns.count, visits, p) {
         return false;
     }
     if !bindings_hold(tables.bindings.count, counts, bindings) {
-        return false;
-    }
-    if !discr_holds(counts, discr) {
         return false;
     }
     if !start_holds(blocks, counts, current) {

@@ -10,7 +10,6 @@ use Rattle.place.specs.declared.Place.{Place}
 use Rattle.mir.specs.declared.BasicBlockId.{BasicBlockId}
 use Rattle.mir.specs.declared.Counts.{Counts}
 use Rattle.state.specs.State.{Body}
-use Rattle.lower.specs.declared.temps.DiscrTemp.{DiscrTemp}
 use Rattle.lower.specs.declared.merging.OptBlock.{OptBlock}
 use Rattle.lower_calls.specs.declared.opening.Opened.{Opened}
 use Rattle.lower_calls.specs.Calls.{bodyTaken, openedOf}
@@ -18,9 +17,8 @@ use Rattle.lower_calls.proofs.Prologue.{not-valid, not-taken, taken}
 use Rattle.pattern_matching.specs.Walking.{Out, Walk}
 use Rattle.handed.specs.Handed.{Named, matchHolds, selfHolds}
 use Rattle.match_calls.specs.declared.MatchCall.{MatchCall}
-use Rattle.match_calls.specs.declared.SelfCall.{SelfCall}
-use Rattle.match_calls.specs.Calls.{badImage, badCall, walked, call, namedIn, Visits, GivesSelf}
-use Rattle.match_calls.proofs.Stepping.{visits-by, self-gives, self-gives-by}
+use Rattle.match_calls.specs.Calls.{badImage, badCall, walked, call, namedIn, Gives, Visits}
+use Rattle.match_calls.proofs.Stepping.{gives-by, visits-by}
 
 -- how many variants, patterns and bindings the tables have
 abbrev pub namedBy : Tables → Named
@@ -31,10 +29,10 @@ named-same : {image : List ℕ} {tables : Tables} → Whole image tables → nam
 named-same W = λ i. record { variants = W .variant-count i; patterns = W .pattern-count i; bindings = W .binding-count i }
 
 -- the test of what the call is handed, by the tables
-pub handed-by : {image : List ℕ} {tables : Tables} (bindings blocks visits : List ℕ) (c : Counts) (discr : DiscrTemp) (p : ℕ) (current : BasicBlockId) (els : OptBlock) (place : Place) {r : Bool} →
-    Whole image tables → r ≡ matchHolds (namedBy tables) bindings blocks visits c discr p current els place → matchHolds (namedIn image) bindings blocks visits c discr p current els place ≡ r
-handed-by bindings blocks visits c discr p current els place W is =
-    sym (is ∙ ap (λ (n : Named). matchHolds n bindings blocks visits c discr p current els place) (named-same W))
+pub handed-by : {image : List ℕ} {tables : Tables} (bindings blocks visits : List ℕ) (c : Counts) (p : ℕ) (current : BasicBlockId) (els : OptBlock) (place : Place) {r : Bool} →
+    Whole image tables → r ≡ matchHolds (namedBy tables) bindings blocks visits c p current els place → matchHolds (namedIn image) bindings blocks visits c p current els place ≡ r
+handed-by bindings blocks visits c p current els place W is =
+    sym (is ∙ ap (λ (n : Named). matchHolds n bindings blocks visits c p current els place) (named-same W))
 
 pub self-by : {image : List ℕ} {tables : Tables} (bindings blocks : List ℕ) (c : Counts) (binding : ℕ) (current : BasicBlockId) (l : ℕ) {r : Bool} →
     Whole image tables → r ≡ selfHolds (namedBy tables) bindings blocks c binding current l → selfHolds (namedIn image) bindings blocks c binding current l ≡ r
@@ -80,15 +78,15 @@ module _ (image : List ℕ) (b : Body) (c : Counts) (names : Bool) (walk : Walk 
     goes-on e n G = visits-by (walks e n) G
 
   -- the call that visits none
-  pub self-bad-image : Opened.BadImage ≡ openedOf image b c → GivesSelf b c (call image b c names walk) SelfCall.BadImage b
-  self-bad-image e = self-gives MatchCall.BadImage (bad-image {v = []} e .gives)
+  pub self-bad-image : Opened.BadImage ≡ openedOf image b c → Gives b c (call image b c names walk) MatchCall.BadImage b
+  self-bad-image e = bad-image {v = []} e .gives
 
-  pub self-bad-body : Opened.BadCall ≡ openedOf image b c → GivesSelf b c (call image b c names walk) SelfCall.BadCall b
-  self-bad-body e = self-gives MatchCall.BadCall (bad-body {v = []} e .gives)
+  pub self-bad-body : Opened.BadCall ≡ openedOf image b c → Gives b c (call image b c names walk) MatchCall.BadCall b
+  self-bad-body e = bad-body {v = []} e .gives
 
-  pub self-bad-number : {tables : Tables} → Opened.Image tables ≡ openedOf image b c → names ≡ false → GivesSelf b c (call image b c names walk) SelfCall.BadCall b
-  self-bad-number e n = self-gives MatchCall.BadCall (bad-number {v = []} e n .gives)
+  pub self-bad-number : {tables : Tables} → Opened.Image tables ≡ openedOf image b c → names ≡ false → Gives b c (call image b c names walk) MatchCall.BadCall b
+  self-bad-number e n = bad-number {v = []} e n .gives
 
-  pub self-goes-on : {tables : Tables} {r : SelfCall} {b₁ : Body} → Opened.Image tables ≡ openedOf image b c → names ≡ true → GivesSelf b c (walked walk) r b₁ →
-      GivesSelf b c (call image b c names walk) r b₁
-  self-goes-on e n G = self-gives-by (walks e n) G
+  pub self-goes-on : {tables : Tables} {r : MatchCall} {b₁ : Body} → Opened.Image tables ≡ openedOf image b c → names ≡ true → Gives b c (walked walk) r b₁ →
+      Gives b c (call image b c names walk) r b₁
+  self-goes-on e n G = gives-by (walks e n) G

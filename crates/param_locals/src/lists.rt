@@ -1,10 +1,8 @@
 // Whether what a call on parameters is handed is taken: document 01's numbers 1 and 2.
 use check_body::check_body;
 use handed::bindings_hold;
-use handed::discr_holds;
 use handed::start_holds;
 use image::Tables;
-use lower::temps::DiscrTemp;
 use lower_calls::opening::Opened;
 use lowered_params::SelfParam;
 use mir::BasicBlockId;
@@ -45,19 +43,15 @@ fn params_hold(
     blocks: &[u16],
     visits: &[u16],
     counts: Counts,
-    discr: DiscrTemp,
     current: BasicBlockId,
 ) -> bool
     requires { ⌜ Whole (now image) tables × (length (now blocks) ≡ 6144) × (counts .blocks ≤ 512) ⌝ }
-    ensures { λ r. ⌜ r ≡ paramsHold (now (image .entry)) receiver (now (bindings .entry)) (now (blocks .entry)) (now (visits .entry)) counts discr current ⌝ }
+    ensures { λ r. ⌜ r ≡ paramsHold (now (image .entry)) receiver (now (bindings .entry)) (now (blocks .entry)) (now (visits .entry)) counts current ⌝ }
 {
     if !self_named(image, tables, receiver) {
         return false;
     }
     if !bindings_hold(tables.bindings.count, counts, bindings) {
-        return false;
-    }
-    if !discr_holds(counts, discr) {
         return false;
     }
     if !start_holds(blocks, counts, current) {
@@ -79,10 +73,9 @@ pub fn open_params(
     entries: &[u16],
     visits: &[u16],
     counts: Counts,
-    discr: DiscrTemp,
     current: BasicBlockId,
 ) -> Opened
-    ensures { λ r. ⌜ r ≡ openedParams (now (image .entry)) (now (words .entry)) receiver (now (bindings .entry)) (body (now (blocks .entry)) (now (statements .entry)) (now (locals .entry)) (now (scopes .entry)) (now (entries .entry))) (now (visits .entry)) counts discr current ⌝ }
+    ensures { λ r. ⌜ r ≡ openedParams (now (image .entry)) (now (words .entry)) receiver (now (bindings .entry)) (body (now (blocks .entry)) (now (statements .entry)) (now (locals .entry)) (now (scopes .entry)) (now (entries .entry))) (now (visits .entry)) counts current ⌝ }
 {
     match read_image(image) {
         Read::Refused => Opened::BadImage,
@@ -110,7 +103,6 @@ pub fn open_params(
                 blocks,
                 visits,
                 counts,
-                discr,
                 current,
             ) {
                 return Opened::BadCall;

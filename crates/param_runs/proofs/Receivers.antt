@@ -3,15 +3,13 @@ use Prim.Native.Nat.{ℕ, _+_, _<_}
 use native.Mathlib.Omega.{arith}
 use mathlib.Core.Path.{_≡_, refl, sym, ap, _∙_}
 use mathlib.Core.Bool.{Bool, true, false, cond, _&&_}
-use mathlib.Core.List.{List, []}
+use mathlib.Core.List.{List}
 use borrow.Author.Tests.{eqb-true, eq-eqb, ne-eqb, ltb-true}
 use lib.Dec.{eqb, ltb}
 use lib.ListN.{length, getD}
-use Rattle.refusals.specs.declared.MirLowerError.{MirLowerError}
 use Rattle.refusals.specs.Refusals.{Result, noPattern}
 use Rattle.refusals.specs.Refusals.{ok as done, refused as stopped}
 use Rattle.row_tables.specs.Rows.{zeros}
-use Rattle.image.specs.declared.BindingId.{BindingId}
 use Rattle.image.specs.Lists.{allTrue, allIn}
 use Rattle.image.specs.Tables.{typeCount, bindingCount}
 use Rattle.image.specs.Valid.{valid}
@@ -19,7 +17,6 @@ use Rattle.image.proofs.Bools.{and-left, and-right}
 use Rattle.mir.specs.declared.BasicBlockId.{BasicBlockId}
 use Rattle.mir.specs.declared.Counts.{Counts}
 use Rattle.state.specs.State.{Body, decode}
-use Rattle.lower.specs.declared.temps.DiscrTemp.{DiscrTemp}
 use Rattle.lower.specs.declared.merging.OptBlock.{OptBlock}
 use Rattle.lower.specs.Temps.{bindingLocal}
 use Rattle.lower_calls.specs.Calls.{bodyTaken}
@@ -27,11 +24,11 @@ use Rattle.pattern_matching.specs.Walking.{Ctx, Out, Walk, next, step, out, wit
 use Rattle.pattern_matching.specs.Walking.{ok as gives}
 use Rattle.pattern_matching.specs.Patterns.{matchSelfParam}
 use Rattle.walks.specs.Answers.{ctxOf}
-use Rattle.handed.specs.Handed.{bindingHolds, bindingsHold, discrHolds, startHolds}
+use Rattle.handed.specs.Handed.{bindingHolds, bindingsHold}
 use Rattle.lowered_params.specs.declared.SelfParam.{SelfParam}
 use Rattle.lowered_params.specs.Params.{Param, Declared, ParamsOut, declare, shut, unlessBound, lowerParams, selfCount, lowerAll, lowerParamsAndBindings}
 use Rattle.lowered_params.specs.Calls.{ParamsCalled, badImage, badCall, walked, paramsOf, listFormed, receiverApart, listHolds, selfNamed, paramsHold, paramsCall}
-use Rattle.param_runs.proofs.Declaring.{selfTypes, paramTypes, makes-count, all-made}
+use Rattle.param_runs.proofs.Declaring.{makes-count, all-made}
 
 -- self, whose local is l, from the block `current` on: a binding with another local is filled by `match_self_param`
 unfoldable pub lowerSelf : List ℕ → List ℕ → SelfParam → ℕ → Ctx → BasicBlockId → Walk Out
@@ -53,11 +50,11 @@ lowerWithSelf image self params bindings ctx current =
     lowerAllWithSelf image (d .bindings) self params (length (ctx .state .locals)) (withState ctx (d .state)) current)
 
 -- the call with that step
-unfoldable pub callWithSelf : List ℕ → List ℕ → SelfParam → List ℕ → Body → List ℕ → Counts → DiscrTemp → BasicBlockId → ParamsCalled
-callWithSelf image words self bindings b visits c discr current =
+unfoldable pub callWithSelf : List ℕ → List ℕ → SelfParam → List ℕ → Body → List ℕ → Counts → BasicBlockId → ParamsCalled
+callWithSelf image words self bindings b visits c current =
     cond (valid image && listHolds image self words)
-    (cond (bodyTaken image b c && paramsHold image self bindings (b .blocks) visits c discr current)
-    (walked (lowerWithSelf image self (paramsOf words) bindings (ctxOf b c discr (zeros 512)) current)) badCall) badImage
+    (cond (bodyTaken image b c && paramsHold image self bindings (b .blocks) visits c current)
+    (walked (lowerWithSelf image self (paramsOf words) bindings (ctxOf b c (zeros 512)) current)) badCall) badImage
 
 -- self's binding has the local l
 abbrev pub SelfHas : SelfParam → List ℕ → ℕ → Type 0
@@ -111,8 +108,8 @@ module _ (image : List ℕ) (self : SelfParam) (params : List Param) (bindings :
       (self-idle image (d .bindings) self (length (ctx .state .locals)) (withState ctx (d .state)) current (self-has ctx d e)))
 
 -- what a call is handed that is taken
-module _ (image words : List ℕ) (self : SelfParam) (bindings : List ℕ) (b : Body) (visits : List ℕ) (c : Counts) (discr : DiscrTemp) (current : BasicBlockId)
-    (list : listHolds image self words ≡ true) (call : paramsHold image self bindings (b .blocks) visits c discr current ≡ true) where
+module _ (image words : List ℕ) (self : SelfParam) (bindings : List ℕ) (b : Body) (visits : List ℕ) (c : Counts) (current : BasicBlockId)
+    (list : listHolds image self words ≡ true) (call : paramsHold image self bindings (b .blocks) visits c current ≡ true) where
   taken-apart : receiverApart image self (paramsOf words) ≡ true
   unfolding listHolds
   taken-apart = and-right (listFormed image words) (receiverApart image self (paramsOf words)) list
@@ -130,11 +127,11 @@ module _ (image words : List ℕ) (self : SelfParam) (bindings : List ℕ) (b : 
   -- When all locals are made, self's binding has self's own local.
   pub self-has-its-own-local : (made : Declared) → declare image self (paramsOf words) (record { state = decode b c; bindings = bindings }) ≡ done made →
       SelfHas self (made .bindings) (length (decode b c .locals))
-  self-has-its-own-local made e = self-has image self (paramsOf words) bindings taken-named taken-long taken-apart (ctxOf b c discr (zeros 512)) made e .0
+  self-has-its-own-local made e = self-has image self (paramsOf words) bindings taken-named taken-long taken-apart (ctxOf b c (zeros 512)) made e .0
 
   -- the walk with the step for self is the one without it
-  same-walk : lowerWithSelf image self (paramsOf words) bindings (ctxOf b c discr (zeros 512)) current ≡ lowerParamsAndBindings image self (paramsOf words) bindings (ctxOf b c discr (zeros 512)) current
-  same-walk = same-lowering image self (paramsOf words) bindings taken-named taken-long taken-apart (ctxOf b c discr (zeros 512)) current
+  same-walk : lowerWithSelf image self (paramsOf words) bindings (ctxOf b c (zeros 512)) current ≡ lowerParamsAndBindings image self (paramsOf words) bindings (ctxOf b c (zeros 512)) current
+  same-walk = same-lowering image self (paramsOf words) bindings taken-named taken-long taken-apart (ctxOf b c (zeros 512)) current
 
 -- two tests before what is the same where both hold
 guarded : {A : Type 0} (s t u v : Bool) (x y z w : A) → (t ≡ true → v ≡ true → x ≡ y) → cond (s && t) (cond (u && v) x z) w ≡ cond (s && t) (cond (u && v) y z) w
@@ -145,9 +142,9 @@ guarded true false u v x y z w f = refl
 guarded false t u v x y z w f = refl
 
 -- The call with that step is the call without it, whatever it is handed.
-pub the-step-for-self-has-no-input : (image words : List ℕ) (self : SelfParam) (bindings : List ℕ) (b : Body) (visits : List ℕ) (c : Counts) (discr : DiscrTemp) (current : BasicBlockId) →
-    callWithSelf image words self bindings b visits c discr current ≡ paramsCall image words self bindings b visits c discr current
+pub the-step-for-self-has-no-input : (image words : List ℕ) (self : SelfParam) (bindings : List ℕ) (b : Body) (visits : List ℕ) (c : Counts) (current : BasicBlockId) →
+    callWithSelf image words self bindings b visits c current ≡ paramsCall image words self bindings b visits c current
 unfolding callWithSelf paramsCall
-the-step-for-self-has-no-input image words self bindings b visits c discr current =
-    guarded (valid image) (listHolds image self words) (bodyTaken image b c) (paramsHold image self bindings (b .blocks) visits c discr current) _ _ badCall badImage (λ list call.
-    ap walked (same-walk image words self bindings b visits c discr current list call))
+the-step-for-self-has-no-input image words self bindings b visits c current =
+    guarded (valid image) (listHolds image self words) (bodyTaken image b c) (paramsHold image self bindings (b .blocks) visits c current) _ _ badCall badImage (λ list call.
+    ap walked (same-walk image words self bindings b visits c current list call))
