@@ -1,0 +1,4 @@
+mod Rows
+pub mod Keeping
+mod Testing
+pub mod Walks
