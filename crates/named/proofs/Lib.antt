@@ -2,3 +2,4 @@ mod Rows
 pub mod Keeping
 mod Testing
 pub mod Walks
+pub mod Taken
