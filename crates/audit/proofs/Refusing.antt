@@ -16,8 +16,7 @@ use Rattle.lower_calls.specs.declared.ScopeCall.{ScopeCall}
 use Rattle.lower_calls.specs.declared.DropCall.{DropCall}
 use Rattle.lower_calls.specs.Answers.{tempRefusal, mergeRefusal, scopeRefusal, dropRefusal}
 use Rattle.match_calls.specs.declared.MatchCall.{MatchCall}
-use Rattle.match_calls.specs.declared.SelfCall.{SelfCall}
-use Rattle.match_calls.specs.Calls.{numbers, selfNumbers}
+use Rattle.match_calls.specs.Calls.{numbers}
 use Rattle.lowered_params.specs.declared.ParamsCall.{ParamsCall}
 use Rattle.lowered_params.specs.Calls.{numbers as paramsNumbers}
 use Rattle.called.specs.Call.{Call, Promised}
@@ -37,7 +36,7 @@ module _ (call : Call) (answer : MatchCall) (body : Body) (visits : List ℕ) (r
   a-refused-assignment-leaves-all-as-found promised = restored.assignment-left call answer body visits refusal promised is-refused
 
 -- `match_self_param`
-pub a-refused-match-self-param-leaves-all-as-found : (call : SelfHanded) (answer : SelfCall) (body : Body) (refusal : Refusal) → PromisedSelf call answer body → selfNumbers answer ≡ some refusal →
+pub a-refused-match-self-param-leaves-all-as-found : (call : SelfHanded) (answer : MatchCall) (body : Body) (refusal : Refusal) → PromisedSelf call answer body → numbers answer ≡ some refusal →
     AsFound (call .body) (call .counts) refusal body
 a-refused-match-self-param-leaves-all-as-found = restored.self-left
 

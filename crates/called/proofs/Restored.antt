@@ -27,8 +27,7 @@ use Rattle.lower_calls.specs.Answers.{Gives, tempRefusal, mergeRefusal, scopeRe
 use Rattle.lower_calls.proofs.Clearing.{clears}
 use Rattle.pattern_matching.specs.Walking.{Out, Walk, ok, refused}
 use Rattle.match_calls.specs.declared.MatchCall.{MatchCall}
-use Rattle.match_calls.specs.declared.SelfCall.{SelfCall}
-use Rattle.match_calls.specs.Calls.{badImage, badCall, walked, numbers, selfNumbers, refusalOf, bodyAfter, visitsAfter, patternMatchCall, patternMatchAssignmentCall, matchSelfParamCall}
+use Rattle.match_calls.specs.Calls.{badImage, badCall, walked, numbers, refusalOf, bodyAfter, visitsAfter, patternMatchCall, patternMatchAssignmentCall, matchSelfParamCall}
 use Rattle.match_calls.specs.Calls.{call as calling}
 use Rattle.lowered_params.specs.declared.ParamsCall.{ParamsCall}
 use Rattle.lowered_params.specs.Params.{ParamsOut}
@@ -173,7 +172,7 @@ assignment-left call answer body visits refusal P is =
     (sym (P .gives .refusal) ∙ is) (P .gives .tables) (P .visits)
 
 -- `match_self_param`
-pub self-left : (call : SelfHanded) (answer : SelfCall) (body : Body) (refusal : Refusal) → PromisedSelf call answer body → selfNumbers answer ≡ some refusal →
+pub self-left : (call : SelfHanded) (answer : MatchCall) (body : Body) (refusal : Refusal) → PromisedSelf call answer body → numbers answer ≡ some refusal →
     AsFound (call .body) (call .counts) refusal body
 unfolding matchSelfParamCall calling
 self-left call answer body refusal P is =

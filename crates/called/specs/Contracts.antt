@@ -13,8 +13,8 @@ use Rattle.lower_calls.specs.declared.DropCall.{DropCall}
 use Rattle.lower_calls.specs.Calls.{tempCall, mergeBlocksCall, pushDropScopeCall, popAssumeDroppedCall, popAndDropCall, dropUntilScopeCall}
 use Rattle.lower_calls.specs.Answers.{Gives, tempAnswer, mergeAnswer, scopeAnswer, dropAnswer, tempRefusal, mergeRefusal, scopeRefusal, dropRefusal}
 use Rattle.match_calls.specs.declared.MatchCall.{MatchCall}
-use Rattle.match_calls.specs.declared.SelfCall.{SelfCall}
-use Rattle.match_calls.specs.Calls.{patternMatchAssignmentCall, matchSelfParamCall, Visits, GivesSelf}
+use Rattle.match_calls.specs.Calls.{patternMatchAssignmentCall, matchSelfParamCall, Visits}
+use Rattle.match_calls.specs.Calls.{Gives as GivesWalk}
 use Rattle.called.specs.Call.{Call}
 
 -- `pattern_match_assignment` (crates/pattern_calls/src/lib.rt), of a call, its answer, and the tables' words when it returns. It is handed what `pattern_match` is but the
@@ -37,9 +37,9 @@ pub record SelfHanded : Type 0 where
   pub local : LocalId
 
 -- its contract, of a call, its answer, and the tables' words when it returns
-abbrev pub PromisedSelf : SelfHanded → SelfCall → Body → Type 0
+abbrev pub PromisedSelf : SelfHanded → MatchCall → Body → Type 0
 PromisedSelf call answer body =
-    GivesSelf (call .body) (call .counts) (matchSelfParamCall (call .image) (call .bindings) (call .body) (call .counts) (call .binding) (call .start) (call .local)) answer body
+    GivesWalk (call .body) (call .counts) (matchSelfParamCall (call .image) (call .bindings) (call .body) (call .counts) (call .binding) (call .start) (call .local)) answer body
 
 -- what every call on a body is handed, beside its own numbers: the image, the words of the five tables, and the counts
 pub record OnBody : Type 0 where

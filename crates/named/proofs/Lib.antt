@@ -1,0 +1,5 @@
+mod Rows
+pub mod Keeping
+mod Testing
+pub mod Walks
+pub mod Taken
