@@ -4,7 +4,7 @@ use mathlib.Core.Bool.{Bool, true, false, cond}
 use mathlib.Core.Option.{Option, none, some}
 use mathlib.Core.List.{List, [], _∷_}
 use Rattle.pattern_grammar.specs.Lexemes.{Spot}
-use Rattle.pattern_grammar.specs.Trees.{NamePath, segment, inside, LiteralPattern, yes, no, character, whole, negative, RangeBound, constant, place, RangeDots, exclusive, inclusive, BoundName, Ampersand, single, double, ListHead, tupleAt, structAt, sliceAt, RecordHead, FieldKey, index, label, Pattern, alone, or, NoTopAlt, plain, between, upward, upTo, WithoutRange, literal, ident, identAt, wild, rest, reference, path, list, listTo, recordOf, recordTo, recordDots, ListItems, noItem, item, RecordFields, noField, field, RecordField, keyed, short}
+use Rattle.pattern_grammar.specs.Trees.{NamePath, segment, inside, LiteralPattern, trueAt, falseAt, character, whole, negative, RangeBound, constant, place, RangeDots, exclusive, inclusive, BoundName, Ampersand, single, double, ListHead, tupleAt, structAt, sliceAt, RecordHead, FieldKey, index, label, Pattern, alone, or, NoTopAlt, plain, between, upward, upTo, WithoutRange, literal, ident, identAt, wild, rest, reference, path, list, listTo, recordOf, recordTo, recordDots, ListItems, noItem, item, RecordFields, noField, field, RecordField, keyed, short}
 use Rattle.pattern_grammar.specs.Admitted.{pathAt, literalAt, boundAt, isRest}
 use Rattle.pattern_grammar.specs.Machine.{Reading, begin, expect, readAmp, readRef, readMut, readName, readBound, readPath, readSep, readMinus, readLiteral, readDots, readFrom, readTo, readToPath, readAlt, readBrace, readLabel, readIndex, readField, readEtc, done, failed}
 use Rattle.pattern_grammar.specs.Parsed.{parsed}
@@ -17,8 +17,8 @@ unfoldable pub flags : BoundName → ℕ
 flags b = given01 (b .byRef) + (given01 (b .mutable) + given01 (b .mutable))
 
 unfoldable pub literalTo : LiteralPattern → ℕ
-literalTo (yes q) = q .to
-literalTo (no q) = q .to
+literalTo (trueAt q) = q .to
+literalTo (falseAt q) = q .to
 literalTo (character v q) = q .to
 literalTo (whole q) = q .to
 literalTo (negative c q) = q .to
@@ -93,7 +93,7 @@ unfoldable mutual
 
 -- 0 and the position, 1 and the tree; no text leaves the machine in between
 unfoldable pub answerOf : Reading → List ℕ
-answerOf (done p) = 1 ∷ patternO p []
+answerOf (done p e) = 1 ∷ patternO p []
 answerOf (failed at) = 0 ∷ at ∷ []
 answerOf (begin o) = 2 ∷ []
 answerOf (expect s) = 2 ∷ []

@@ -5,7 +5,7 @@ use mathlib.Core.Bool.{Bool, true, false, not, cond, _&&_, _||_}
 use mathlib.Core.Option.{Option, none, some}
 use mathlib.Core.List.{List}
 use Rattle.pattern_grammar.specs.Lexemes.{Spot, Identifier, wide}
-use Rattle.pattern_grammar.specs.Trees.{NamePath, segment, inside, LiteralPattern, yes, no, character, whole, negative, RangeBound, constant, place, RangeDots, BoundName, Ampersand, ListHead, tupleAt, structAt, sliceAt, RecordHead, FieldKey, index, label, Pattern, alone, or, NoTopAlt, plain, between, upward, upTo, WithoutRange, literal, ident, identAt, wild, rest, reference, path, list, listTo, recordOf, recordTo, recordDots, ListItems, noItem, item, RecordFields, noField, field, RecordField, keyed, short}
+use Rattle.pattern_grammar.specs.Trees.{NamePath, segment, inside, LiteralPattern, trueAt, falseAt, character, whole, negative, RangeBound, constant, place, RangeDots, BoundName, Ampersand, ListHead, tupleAt, structAt, sliceAt, RecordHead, FieldKey, index, label, Pattern, alone, or, NoTopAlt, plain, between, upward, upTo, WithoutRange, literal, ident, identAt, wild, rest, reference, path, list, listTo, recordOf, recordTo, recordDots, ListItems, noItem, item, RecordFields, noField, field, RecordField, keyed, short}
 
 -- the first byte of a path, of a literal and of a bound
 unfoldable pub pathAt : NamePath → ℕ
@@ -13,8 +13,8 @@ pathAt (segment n) = n .spot .from
 pathAt (inside p c n) = pathAt p
 
 unfoldable pub literalAt : LiteralPattern → ℕ
-literalAt (yes q) = q .from
-literalAt (no q) = q .from
+literalAt (trueAt q) = q .from
+literalAt (falseAt q) = q .from
 literalAt (character v q) = q .from
 literalAt (whole q) = q .from
 literalAt (negative c q) = c .from
@@ -135,8 +135,8 @@ mutIsOwn (some q) w = true
 
 -- integers in 16 bytes
 unfoldable pub literalFits : List ℕ → LiteralPattern → Bool
-literalFits text (yes q) = true
-literalFits text (no q) = true
+literalFits text (trueAt q) = true
+literalFits text (falseAt q) = true
 literalFits text (character v q) = true
 literalFits text (whole q) = not (wide text false q)
 literalFits text (negative c q) = not (wide text true q)

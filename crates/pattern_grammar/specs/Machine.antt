@@ -5,7 +5,7 @@ use mathlib.Core.Option.{Option, none, some}
 use mathlib.Core.List.{List, [], _∷_}
 use lib.Dec.{eqb}
 use Rattle.pattern_grammar.specs.Lexemes.{Spot, Identifier, Lexeme, name, scalar, mark, endMark, commaMark, orMark, closeBraceMark, refMark, mutMark, trueMark, falseMark, underscoreMark, integerMark, minusMark, openParenMark, openBracketMark, openBraceMark, andMark, andAndMark, bindMark, colonMark, pathSepMark, dotDotMark, dotDotEqMark, follows, lexemeAt, wide}
-use Rattle.pattern_grammar.specs.Trees.{NamePath, segment, inside, LiteralPattern, yes, no, character, whole, negative, RangeBound, constant, place, RangeDots, exclusive, inclusive, BoundName, bareName, Ampersand, single, double, ListHead, tupleAt, structAt, sliceAt, closer, RecordHead, FieldKey, index, label, Pattern, alone, or, NoTopAlt, plain, between, upward, upTo, WithoutRange, literal, ident, identAt, wild, rest, reference, path, list, listTo, recordOf, recordTo, recordDots, ListItems, noItem, item, RecordFields, noField, field, RecordField, keyed, short}
+use Rattle.pattern_grammar.specs.Trees.{NamePath, segment, inside, LiteralPattern, trueAt, falseAt, character, whole, negative, RangeBound, constant, place, RangeDots, exclusive, inclusive, BoundName, bareName, Ampersand, single, double, ListHead, tupleAt, structAt, sliceAt, closer, RecordHead, FieldKey, index, label, Pattern, alone, or, NoTopAlt, plain, between, upward, upTo, WithoutRange, literal, ident, identAt, wild, rest, reference, path, list, listTo, recordOf, recordTo, recordDots, ListItems, noItem, item, RecordFields, noField, field, RecordField, keyed, short}
 use Rattle.pattern_grammar.specs.Admitted.{RestRoom, noRest, fitsRest, behindName, behindBar, itemRoom, openItemAt}
 
 -- What is open, by what it waits for. Each constructor is a frame, the last argument what is below it
@@ -86,8 +86,8 @@ pub data Reading : Type 0 where
   readIndex : Spot → RecordHead → RecordFields → ForPlain → Reading
   readField : RecordField → RecordHead → RecordFields → ForPlain → Reading
   readEtc : Spot → RecordHead → RecordFields → ForPlain → Reading
-  -- the whole text; or it has failed, with 19's position
-  done : Pattern → Reading
+  -- the whole text, with its end; or it has failed, with 19's position
+  done : Pattern → Spot → Reading
   failed : ℕ → Reading
 
 -- an alternative closes, and with it each `@` and `&` that waits for it
@@ -136,8 +136,8 @@ unfoldable pub starts : List ℕ → ForPlain → ℕ → Spot → Reading
 starts text s m q =
     cond (eqb m refMark) (readRef (inPattern s) q)
     (cond (eqb m mutMark) (readMut (inPattern s) none q)
-    (cond (eqb m trueMark) (readLiteral (yes q) s)
-    (cond (eqb m falseMark) (readLiteral (no q) s)
+    (cond (eqb m trueMark) (readLiteral (trueAt q) s)
+    (cond (eqb m falseMark) (readLiteral (falseAt q) s)
     (cond (eqb m underscoreMark) (readAlt (closePlain (wild q) s))
     (cond (eqb m integerMark) (fitting text false q (readLiteral (whole q) s))
     (cond (eqb m minusMark) (readMinus q (atStart s))
@@ -152,8 +152,8 @@ starts text s m q =
 -- a mark with which the upper bound of a range begins, or what comes of another
 unfoldable pub bounds : List ℕ → RangeHead → ForAlt → ℕ → Spot → Reading → Reading
 bounds text h l m q other =
-    cond (eqb m trueMark) (readAlt (closeAlt (rangeOf h (constant (yes q))) l))
-    (cond (eqb m falseMark) (readAlt (closeAlt (rangeOf h (constant (no q))) l))
+    cond (eqb m trueMark) (readAlt (closeAlt (rangeOf h (constant (trueAt q))) l))
+    (cond (eqb m falseMark) (readAlt (closeAlt (rangeOf h (constant (falseAt q))) l))
     (cond (eqb m integerMark) (fitting text false q (readAlt (closeAlt (rangeOf h (constant (whole q))) l)))
     (cond (eqb m minusMark) (readMinus q (atEnd h l))
     other)))
@@ -162,7 +162,7 @@ bounds text h l m q other =
 unfoldable pub behind : Pattern → ForPattern → ℕ → Spot → Reading
 behind p wholeText m q =
     cond (eqb m orMark) (expect (anyAlt (nextAlt p q wholeText)))
-    (cond (eqb m endMark) (done p)
+    (cond (eqb m endMark) (done p q)
     (failed (q .from)))
 behind p (forItem h is s) m q =
     cond (eqb m orMark) (expect (anyAlt (nextAlt p q (forItem h is s))))
@@ -265,7 +265,7 @@ onMark text (readLabel n h fs s) m q =
 onMark text (readIndex i h fs s) m q = cond (eqb m colonMark) (begin (forField h fs (index i) q s)) (failed (q .from))
 onMark text (readField f h fs s) m q = behindField f h fs s m q
 onMark text (readEtc d h fs s) m q = cond (eqb m closeBraceMark) (readAlt (closePlain (recordDots h fs d q) s)) (failed (q .from))
-onMark text (done p) m q = failed (q .from)
+onMark text (done p e) m q = failed (q .from)
 onMark text (failed at) m q = failed at
 
 -- a name
@@ -291,7 +291,7 @@ onName (readLabel x h fs s) n = failed (n .spot .from)
 onName (readIndex i h fs s) n = failed (n .spot .from)
 onName (readField f h fs s) n = failed (n .spot .from)
 onName (readEtc d h fs s) n = failed (n .spot .from)
-onName (done p) n = failed (n .spot .from)
+onName (done p e) n = failed (n .spot .from)
 onName (failed at) n = failed at
 
 -- a char
@@ -317,7 +317,7 @@ onScalar (readLabel n h fs s) v q = failed (q .from)
 onScalar (readIndex i h fs s) v q = failed (q .from)
 onScalar (readField f h fs s) v q = failed (q .from)
 onScalar (readEtc d h fs s) v q = failed (q .from)
-onScalar (done p) v q = failed (q .from)
+onScalar (done p e) v q = failed (q .from)
 onScalar (failed at) v q = failed at
 
 -- one token
@@ -334,3 +334,29 @@ feed text (t ∷ ts) r = feed text ts (step text r t)
 -- before the first token
 abbrev pub fresh : Reading
 fresh = begin wholeText
+
+-- it has failed
+unfoldable pub isFailed : Reading → Bool
+isFailed (begin o) = false
+isFailed (expect s) = false
+isFailed (readAmp a s) = false
+isFailed (readRef i r) = false
+isFailed (readMut i r u) = false
+isFailed (readName n s) = false
+isFailed (readBound b s) = false
+isFailed (readPath p c n s) = false
+isFailed (readSep p c i) = false
+isFailed (readMinus c i) = false
+isFailed (readLiteral v s) = false
+isFailed (readDots d l) = false
+isFailed (readFrom a d l) = false
+isFailed (readTo h l) = false
+isFailed (readToPath p h l) = false
+isFailed (readAlt c) = false
+isFailed (readBrace h fs s) = false
+isFailed (readLabel n h fs s) = false
+isFailed (readIndex i h fs s) = false
+isFailed (readField f h fs s) = false
+isFailed (readEtc d h fs s) = false
+isFailed (done p e) = false
+isFailed (failed at) = true

@@ -13,8 +13,8 @@ pub data NamePath : Type 0 where
 
 -- LiteralPattern (patterns.literal.syntax): `true`, `false`, a char, an integer, `-` and an integer
 pub data LiteralPattern : Type 0 where
-  yes : Spot → LiteralPattern
-  no : Spot → LiteralPattern
+  trueAt : Spot → LiteralPattern
+  falseAt : Spot → LiteralPattern
   character : ℕ → Spot → LiteralPattern
   whole : Spot → LiteralPattern
   negative : Spot → Spot → LiteralPattern
@@ -118,8 +118,8 @@ pathT (segment n) k = name n ∷ k
 pathT (inside p c n) k = pathT p (mark pathSepMark c ∷ name n ∷ k)
 
 unfoldable pub literalT : LiteralPattern → List Lexeme → List Lexeme
-literalT (yes q) k = mark trueMark q ∷ k
-literalT (no q) k = mark falseMark q ∷ k
+literalT (trueAt q) k = mark trueMark q ∷ k
+literalT (falseAt q) k = mark falseMark q ∷ k
 literalT (character v q) k = scalar v q ∷ k
 literalT (whole q) k = mark integerMark q ∷ k
 literalT (negative c q) k = mark minusMark c ∷ mark integerMark q ∷ k
