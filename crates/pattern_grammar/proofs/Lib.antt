@@ -1,3 +1,5 @@
 pub mod Beginnings
 pub mod Pieces
 pub mod Complete
+pub mod Said
+pub mod Sound
