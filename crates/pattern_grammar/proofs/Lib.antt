@@ -3,3 +3,4 @@ pub mod Pieces
 pub mod Complete
 pub mod Said
 pub mod Sound
+pub mod Viable
