@@ -4,3 +4,5 @@ pub mod Complete
 pub mod Said
 pub mod Sound
 pub mod Viable
+pub mod Fine
+pub mod Kept
