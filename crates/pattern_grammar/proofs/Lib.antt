@@ -6,3 +6,4 @@ pub mod Sound
 pub mod Viable
 pub mod Fine
 pub mod Kept
+pub mod Positions
