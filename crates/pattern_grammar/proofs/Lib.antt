@@ -7,3 +7,4 @@ pub mod Viable
 pub mod Fine
 pub mod Kept
 pub mod Positions
+pub mod Verdicts

@@ -165,7 +165,7 @@ unfolding feed
 feed-join [] us text r = refl
 feed-join (t ∷ ts) us text r = feed-join ts us text (step text r t)
 
-goes-or-not : (r : Reading) → (isFailed r ≡ false) ⊎ ((at : ℕ) × (r ≡ failed at))
+pub goes-or-not : (r : Reading) → (isFailed r ≡ false) ⊎ ((at : ℕ) × (r ≡ failed at))
 unfolding isFailed
 goes-or-not (begin o) = inl refl
 goes-or-not (expect s) = inl refl

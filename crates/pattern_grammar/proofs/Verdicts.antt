@@ -1,0 +1,116 @@
+-- What the machine's answer means: the one admitted tree that is written as the tokens, or the first token with which none begins. Assumes
+-- nothing.
+use Prim.Native.Nat.{ℕ}
+use mathlib.Core.Path.{_≡_, refl, sym, ap, _∙_}
+use mathlib.Core.Bool.{Bool, true, false, true≢false, false≢true}
+use mathlib.Core.Logic.{_⊎_, inl, inr, _↔_}
+use mathlib.Core.Option.{Option, some}
+use mathlib.Core.List.{List, [], _∷_, _++_}
+use Rattle.pattern_grammar.specs.Lexemes.{Spot, Lexeme, mark, endMark, lexemeAt}
+use Rattle.pattern_grammar.specs.Trees.{Pattern, patternT}
+use Rattle.pattern_grammar.specs.Admitted.{admitted}
+use Rattle.pattern_grammar.specs.Machine.{Reading, begin, wholeText, done, failed, step, feed, fresh, isFailed}
+use Rattle.pattern_grammar.proofs.Complete.{complete}
+use Rattle.pattern_grammar.proofs.Sound.{goes-or-not, feed-failed, feed-join, sound, none-begins}
+use Rattle.pattern_grammar.proofs.Viable.{Finishes, completion, viable}
+use Rattle.pattern_grammar.proofs.Kept.{read-admitted}
+use Rattle.pattern_grammar.proofs.Positions.{ownAt, failing-at}
+
+-- a whole text in tokens: a tree, and the text's end
+abbrev pub writtenAs : Pattern → Spot → List Lexeme
+writtenAs p e = patternT p (mark endMark e ∷ [])
+
+-- the tokens are read as a tree where they are what it is written as, and it is admitted
+pub read-iff :
+    (text : List ℕ) (ts : List Lexeme) (p : Pattern) (e : Spot) → (feed text ts fresh ≡ done p e) ↔ ((writtenAs p e ≡ ts) × (admitted text p ≡ true))
+read-iff text ts p e =
+    (λ h. (sound text ts p e h, read-admitted text ts p e h), λ w. sym (ap (λ x. feed text x fresh) (w .0)) ∙ complete text p e (w .1))
+
+-- tokens with which the text of an admitted tree begins
+pub record Beginning (text : List ℕ) (ts : List Lexeme) : Type 0 where
+  pub tree : Pattern
+  pub end : Spot
+  pub more : List Lexeme
+  pub written : writtenAs tree end ≡ ts ++ more
+  pub sure : admitted text tree ≡ true
+
+-- what has not failed is such a beginning
+pub goes-begins : (text : List ℕ) (ts : List Lexeme) → isFailed (feed text ts fresh) ≡ false → Beginning text ts
+goes-begins text ts e =
+    let f = viable (feed text ts fresh) text e in
+    let whole : feed text (ts ++ completion (feed text ts fresh)) fresh ≡ done (f .tree) (f .end) = feed-join ts (completion (feed text ts fresh)) text fresh ∙ f .reads in
+    record {
+      tree = f .tree;
+      end = f .end;
+      more = completion (feed text ts fresh);
+      written = sound text (ts ++ completion (feed text ts fresh)) (f .tree) (f .end) whole;
+      sure = read-admitted text (ts ++ completion (feed text ts fresh)) (f .tree) (f .end) whole;
+    }
+
+-- the token that fails: what is before it begins the text of an admitted tree, with it none begins so, and the position is its own, or that of
+-- the rest or the `a..` before it
+pub record Refused (text : List ℕ) (ts : List Lexeme) (at : ℕ) : Type 0 where
+  pub before : List Lexeme
+  pub token : Lexeme
+  pub behind : List Lexeme
+  pub split : ts ≡ before ++ token ∷ behind
+  pub begun : Beginning text before
+  pub none : (p : Pattern) (e : Spot) (us : List Lexeme) → admitted text p ≡ true → ¬ (writtenAs p e ≡ before ++ token ∷ us)
+  pub position : (at ≡ lexemeAt token) ⊎ (ownAt (feed text before fresh) ≡ some at)
+
+-- where a reading fails
+record FailsAt (text : List ℕ) (ts : List Lexeme) (r : Reading) (at : ℕ) : Type 0 where
+  before : List Lexeme
+  token : Lexeme
+  behind : List Lexeme
+  split : ts ≡ before ++ token ∷ behind
+  goes : isFailed (feed text before r) ≡ false
+  fails : step text (feed text before r) token ≡ failed at
+
+same : (a b : ℕ) → failed a ≡ failed b → a ≡ b
+same a b e = cc
+
+fails-at : (ts : List Lexeme) (text : List ℕ) (r : Reading) (at : ℕ) → isFailed r ≡ false → feed text ts r ≡ failed at → FailsAt text ts r at
+unfolding feed isFailed
+fails-at [] text r at g e = absurd (false≢true (sym g ∙ ap isFailed e))
+fails-at (t ∷ ts) text r at g e = go (λ h. fails-at ts text (step text r t) at h e) (goes-or-not (step text r t))
+  where
+    later : FailsAt text ts (step text r t) at → FailsAt text (t ∷ ts) r at
+    later f = record {
+      before = t ∷ f .before;
+      token = f .token;
+      behind = f .behind;
+      split = ap (t ∷_) (f .split);
+      goes = f .goes;
+      fails = f .fails;
+    }
+
+    go : (isFailed (step text r t) ≡ false → FailsAt text ts (step text r t) at) → ((isFailed (step text r t) ≡ false) ⊎ ((a : ℕ) × (step text r t ≡ failed a))) → FailsAt text (t ∷ ts) r at
+    go down (inl h) = later (down h)
+    go down (inr f) = record {
+      before = [];
+      token = t;
+      behind = ts;
+      split = refl;
+      goes = g;
+      fails = f .1 ∙ ap failed (same (f .0) at (sym (feed-failed ts text (f .0)) ∙ (sym (ap (feed text ts) (f .1)) ∙ e)));
+    }
+
+-- a refusal is at the first token with which no admitted text begins
+pub refused : (text : List ℕ) (ts : List Lexeme) (at : ℕ) → feed text ts fresh ≡ failed at → Refused text ts at
+unfolding feed isFailed
+refused text ts at e =
+    let f = fails-at ts text fresh at refl e in
+    record {
+      before = f .before;
+      token = f .token;
+      behind = f .behind;
+      split = f .split;
+      begun = goes-begins text (f .before) (f .goes);
+      none = λ p end us a w. none-begins text (f .before ++ f .token ∷ []) us at p end (feed-join (f .before) (f .token ∷ []) text fresh ∙ f .fails) a (w ∙ sym (joined (f .before) (f .token) us));
+      position = failing-at (f .token) text (feed text (f .before) fresh) at (f .fails);
+    }
+  where
+    joined : (xs : List Lexeme) (t : Lexeme) (us : List Lexeme) → (xs ++ t ∷ []) ++ us ≡ xs ++ t ∷ us
+    joined [] t us = refl
+    joined (x ∷ xs) t us = ap (x ∷_) (joined xs t us)
