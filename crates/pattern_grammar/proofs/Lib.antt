@@ -8,3 +8,5 @@ pub mod Fine
 pub mod Kept
 pub mod Positions
 pub mod Verdicts
+pub mod Progress
+pub mod Endings

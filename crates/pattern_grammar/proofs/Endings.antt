@@ -1,0 +1,162 @@
+-- Every text is read to its end or to a failure. Assumes nothing.
+use Prim.Native.Nat.{ℕ, zero, suc, _+_, _<_, _≤_}
+use mathlib.Core.Path.{_≡_, refl, sym, ap, subst, _∙_}
+use mathlib.Core.Bool.{Bool, true, false, not, cond, _&&_, _||_, true≢false, false≢true}
+use mathlib.Core.Logic.{_⊎_, inl, inr, _↔_}
+use mathlib.Core.List.{List, [], _∷_}
+use native.Mathlib.Omega.{arith}
+use borrow.Author.Tests.{eqb-true, lt-ltb, le-ltb}
+use lib.Dec.{eqb, ltb}
+use lib.ListN.{length}
+use Rattle.pattern_words.proofs.Spelling.{either}
+use Rattle.pattern_tokens.specs.Tokens.{tokenAt}
+use Rattle.pattern_grammar.specs.Lexemes.{Spot, Lexeme, name, scalar, mark, endMark, failsMark, lexeme}
+use Rattle.pattern_grammar.specs.Trees.{Pattern, ListHead, tupleAt, structAt, sliceAt, closer, plain, rest}
+use Rattle.pattern_grammar.specs.Admitted.{fitsRest, admitted}
+use Rattle.pattern_grammar.specs.Machine.{ForPlain, anyAlt, behindAmp, ForPattern, wholeText, forItem, forField, Closed, Reading, begin, expect, readAmp, readRef, readMut, readName, readBound, readPath, readSep, readMinus, readLiteral, readDots, readFrom, readTo, readToPath, readAlt, readBrace, readLabel, readIndex, readField, readEtc, done, failed, closeAlt, after, roomIn, starts, bounds, behind, ends, behindPath, behindField, onMark, step, feed, fresh}
+use Rattle.pattern_grammar.specs.Parsed.{isLast, lexemesFrom, lexemes, parsed}
+use Rattle.pattern_grammar.proofs.Sound.{feed-failed}
+use Rattle.pattern_grammar.proofs.Verdicts.{writtenAs, read-iff, Refused, refused}
+use Rattle.pattern_grammar.proofs.Progress.{advances}
+
+-- a reading is over
+pub data Over : Reading → Type 0 where
+  whole : (p : Pattern) (e : Spot) → Over (done p e)
+  broken : (at : ℕ) → Over (failed at)
+
+over-if : {x y : Reading} (b : Bool) → Over x → Over y → Over (cond b x y)
+over-if true h g = h
+over-if false h g = g
+
+behind-end : (o : ForPattern) (p : Pattern) (q : Spot) → Over (behind p o endMark q)
+unfolding behind closer
+behind-end wholeText p q = whole p q
+behind-end (forItem (tupleAt c) is s) p q = broken (q .from)
+behind-end (forItem (structAt n c) is s) p q = broken (q .from)
+behind-end (forItem (sliceAt c) is s) p q = broken (q .from)
+behind-end (forField h fs key c s) p q = broken (q .from)
+
+behind-fails : (o : ForPattern) (p : Pattern) (q : Spot) → Over (behind p o failsMark q)
+unfolding behind closer
+behind-fails wholeText p q = broken (q .from)
+behind-fails (forItem (tupleAt c) is s) p q = broken (q .from)
+behind-fails (forItem (structAt n c) is s) p q = broken (q .from)
+behind-fails (forItem (sliceAt c) is s) p q = broken (q .from)
+behind-fails (forField h fs key c s) p q = broken (q .from)
+
+ends-end : (o : ForPattern) (q : Spot) → Over (ends o endMark q)
+unfolding ends closer
+ends-end wholeText q = broken (q .from)
+ends-end (forItem (tupleAt c) is s) q = broken (q .from)
+ends-end (forItem (structAt n c) is s) q = broken (q .from)
+ends-end (forItem (sliceAt c) is s) q = broken (q .from)
+ends-end (forField h fs key c s) q = broken (q .from)
+
+-- the end of the text
+end-over : (r : Reading) (text : List ℕ) (q : Spot) → Over (onMark text r endMark q)
+unfolding onMark starts bounds behindField
+end-over (begin o) text q = ends-end o q
+end-over (expect s) text q = broken (q .from)
+end-over (readAmp a s) text q = broken (q .from)
+end-over (readRef i r) text q = broken (q .from)
+end-over (readMut i r u) text q = broken (q .from)
+end-over (readName n s) text q = behind-end _ _ q
+end-over (readBound b s) text q = behind-end _ _ q
+end-over (readPath p c n s) text q = behind-end _ _ q
+end-over (readSep p c i) text q = broken (q .from)
+end-over (readMinus c i) text q = broken (q .from)
+end-over (readLiteral v s) text q = behind-end _ _ q
+end-over (readDots d l) text q = over-if (fitsRest (roomIn l) && true) (behind-end _ _ q) (broken (d .from))
+end-over (readFrom a d l) text q = behind-end _ _ q
+end-over (readTo h l) text q = broken (q .from)
+end-over (readToPath p h l) text q = behind-end _ _ q
+end-over (readAlt c) text q = behind-end (c .waiting) (c .pattern) q
+end-over (readBrace h fs s) text q = broken (q .from)
+end-over (readLabel n h fs s) text q = broken (q .from)
+end-over (readIndex i h fs s) text q = broken (q .from)
+end-over (readField f h fs s) text q = broken (q .from)
+end-over (readEtc d h fs s) text q = broken (q .from)
+end-over (done p e) text q = broken (q .from)
+end-over (failed at) text q = broken at
+
+-- what is no token
+fails-over : (r : Reading) (text : List ℕ) (q : Spot) → Over (onMark text r failsMark q)
+unfolding onMark starts bounds behindPath behindField
+fails-over (begin o) text q = broken (q .from)
+fails-over (expect s) text q = broken (q .from)
+fails-over (readAmp a s) text q = broken (q .from)
+fails-over (readRef i r) text q = broken (q .from)
+fails-over (readMut i r u) text q = broken (q .from)
+fails-over (readName n s) text q = broken (q .from)
+fails-over (readBound b s) text q = broken (q .from)
+fails-over (readPath p c n s) text q = broken (q .from)
+fails-over (readSep p c i) text q = broken (q .from)
+fails-over (readMinus c i) text q = broken (q .from)
+fails-over (readLiteral v s) text q = broken (q .from)
+fails-over (readDots d l) text q = over-if (fitsRest (roomIn l) && true) (behind-fails _ _ q) (broken (d .from))
+fails-over (readFrom a d l) text q = broken (q .from)
+fails-over (readTo h l) text q = broken (q .from)
+fails-over (readToPath p h l) text q = broken (q .from)
+fails-over (readAlt c) text q = behind-fails (c .waiting) (c .pattern) q
+fails-over (readBrace h fs s) text q = broken (q .from)
+fails-over (readLabel n h fs s) text q = broken (q .from)
+fails-over (readIndex i h fs s) text q = broken (q .from)
+fails-over (readField f h fs s) text q = broken (q .from)
+fails-over (readEtc d h fs s) text q = broken (q .from)
+fails-over (done p e) text q = broken (q .from)
+fails-over (failed at) text q = broken at
+
+last-over : (t : Lexeme) (text : List ℕ) (r : Reading) → isLast t ≡ true → Over (step text r t)
+unfolding isLast step
+last-over (name n) text r e = absurd (false≢true e)
+last-over (scalar v q) text r e = absurd (false≢true e)
+last-over (mark m q) text r e = by (either (eqb m endMark) (eqb m failsMark) e)
+  where
+    by : ((eqb m endMark ≡ true) ⊎ (eqb m failsMark ≡ true)) → Over (onMark text r m q)
+    by (inl h) = subst (λ x. Over (onMark text r x q)) (sym (eqb-true m endMark h)) (end-over r text q)
+    by (inr h) = subst (λ x. Over (onMark text r x q)) (sym (eqb-true m failsMark h)) (fails-over r text q)
+
+-- with so many tokens a text is read from a position on
+read-over :
+    (n : ℕ) (text : List ℕ) (at : ℕ) (r : Reading) → length text < n + at → at ≤ length text → Over (feed text (lexemesFrom n text at) r)
+unfolding lexemesFrom feed
+read-over zero text at r h g = absurd (omega arith)
+read-over (suc n) text at r h g = by (isLast (lexeme (tokenAt text at))) refl (λ l m. read-over n text (tokenAt text at .to) _ l m) (advances text at)
+  where
+    by :
+        (b : Bool) → isLast (lexeme (tokenAt text at)) ≡ b
+        → (length text < n + tokenAt text at .to → tokenAt text at .to ≤ length text
+        → Over (feed text (lexemesFrom n text (tokenAt text at .to)) (step text r (lexeme (tokenAt text at)))))
+        → ((isLast (lexeme (tokenAt text at)) ≡ true) ⊎ ((at < tokenAt text at .to) × (tokenAt text at .to ≤ length text)))
+        → Over (feed text (cond b [] (lexemesFrom n text (tokenAt text at .to))) (step text r (lexeme (tokenAt text at))))
+    by true e down a = last-over (lexeme (tokenAt text at)) text r e
+    by false e down (inl l) = absurd (false≢true (sym e ∙ l))
+    by false e down (inr a) =
+        let l = a .0 in
+        let m = a .1 in
+        down (omega arith) m
+
+-- every text has a tree or a position
+pub text-over : (text : List ℕ) → Over (parsed text)
+unfolding parsed lexemes
+text-over text = over-if (ltb 16384 (length text)) (broken 16384) (read-over (suc (length text)) text 0 fresh (omega arith) (omega arith))
+
+-- a text of more than 16,384 bytes is refused there, whatever is in it
+pub text-long : (text : List ℕ) → 16384 < length text → parsed text ≡ failed 16384
+unfolding parsed
+text-long text h = rw (lt-ltb 16384 (length text) h) refl
+
+short-text : (text : List ℕ) → length text ≤ 16384 → parsed text ≡ feed text (lexemes text) fresh
+unfolding parsed
+short-text text h = rw (le-ltb 16384 (length text) h) refl
+
+-- another is read as a tree where its tokens are what the tree is written as, and the tree is admitted: no other tree is, by `one-tree`
+pub text-read :
+    (text : List ℕ) (p : Pattern) (e : Spot) → length text ≤ 16384 → (parsed text ≡ done p e) ↔ ((writtenAs p e ≡ lexemes text) × (admitted text p ≡ true))
+text-read text p e h =
+    let both = read-iff text (lexemes text) p e in
+    (λ r. both .0 (sym (short-text text h) ∙ r), λ w. short-text text h ∙ both .1 w)
+
+-- or refused at the first token with which no admitted text begins
+pub text-refused : (text : List ℕ) (at : ℕ) → length text ≤ 16384 → parsed text ≡ failed at → Refused text (lexemes text) at
+text-refused text at h e = refused text (lexemes text) at (sym (short-text text h) ∙ e)
