@@ -14,7 +14,9 @@ from tokens import tokens
 
 
 class Failed(Exception):
-    pass
+    """where a text fails, at which token that is known, and whether the grammar alone knows it"""
+    def __init__(self, at, known, grammar):
+        self.at, self.known, self.grammar = at, known, grammar
 
 
 LITERALS = ('true', 'false', 'char', 'integer', 'minus')
@@ -30,7 +32,7 @@ class Parser:
         return self.tokens[self.at][0]
 
     def fail(self, at=None):
-        raise Failed(self.tokens[self.at][1] if at is None else at)
+        raise Failed(self.tokens[self.at][1] if at is None else at, self.at, at is None)
 
     def take(self, *kinds):
         if self.kind() not in kinds:
@@ -224,7 +226,7 @@ def verdict(text):
     try:
         return [1] + outline(Parser(text).whole())
     except Failed as failed:
-        return [0, failed.args[0]]
+        return [0, failed.at]
 
 
 NAMES = ['x', 'y', 'A', 'r#if', 'Foo', '__', 'gen']
