@@ -3,21 +3,22 @@ use Prim.Native.Nat.{ℕ, zero, suc, _+_, _<_, _≤_}
 use mathlib.Core.Path.{_≡_, refl, sym, ap, subst, _∙_}
 use mathlib.Core.Bool.{Bool, true, false, not, cond, _&&_, _||_, true≢false, false≢true}
 use mathlib.Core.Logic.{_⊎_, inl, inr, _↔_}
-use mathlib.Core.List.{List, [], _∷_}
+use mathlib.Core.List.{List, [], _∷_, _++_}
 use native.Mathlib.Omega.{arith}
 use borrow.Author.Tests.{eqb-true, lt-ltb, le-ltb}
 use lib.Dec.{eqb, ltb}
 use lib.ListN.{length}
+use Rattle.pattern_words.specs.declared.Kind.{Kind}
 use Rattle.pattern_words.proofs.Spelling.{either}
 use Rattle.pattern_tokens.specs.Tokens.{tokenAt}
-use Rattle.pattern_grammar.specs.Lexemes.{Spot, Lexeme, name, scalar, mark, endMark, failsMark, lexeme}
+use Rattle.pattern_grammar.specs.Lexemes.{Spot, Lexeme, name, scalar, mark, endMark, failsMark, lexemeAt, ofKind, lexeme}
 use Rattle.pattern_grammar.specs.Trees.{Pattern, ListHead, tupleAt, structAt, sliceAt, closer, plain, rest}
 use Rattle.pattern_grammar.specs.Admitted.{fitsRest, admitted}
 use Rattle.pattern_grammar.specs.Machine.{ForPlain, anyAlt, behindAmp, ForPattern, wholeText, forItem, forField, Closed, Reading, begin, expect, readAmp, readRef, readMut, readName, readBound, readPath, readSep, readMinus, readLiteral, readDots, readFrom, readTo, readToPath, readAlt, readBrace, readLabel, readIndex, readField, readEtc, done, failed, closeAlt, after, roomIn, starts, bounds, behind, ends, behindPath, behindField, onMark, step, feed, fresh}
 use Rattle.pattern_grammar.specs.Parsed.{isLast, lexemesFrom, lexemes, parsed}
 use Rattle.pattern_grammar.proofs.Sound.{feed-failed}
 use Rattle.pattern_grammar.proofs.Verdicts.{writtenAs, read-iff, Refused, refused}
-use Rattle.pattern_grammar.proofs.Progress.{advances}
+use Rattle.pattern_grammar.proofs.Progress.{isEnd, advances, end-there}
 
 -- a reading is over
 pub data Over : Reading → Type 0 where
@@ -160,3 +161,76 @@ text-read text p e h =
 -- or refused at the first token with which no admitted text begins
 pub text-refused : (text : List ℕ) (at : ℕ) → length text ≤ 16384 → parsed text ≡ failed at → Refused text (lexemes text) at
 text-refused text at h e = refused text (lexemes text) at (sym (short-text text h) ∙ e)
+
+same-head : (x y : Lexeme) (xs ys : List Lexeme) → x ∷ xs ≡ y ∷ ys → (x ≡ y) × (xs ≡ ys)
+same-head x y xs ys e = (ap (headOr x) e, ap tail e)
+  where
+    headOr : Lexeme → List Lexeme → Lexeme
+    headOr d [] = d
+    headOr d (z ∷ zs) = z
+
+    tail : List Lexeme → List Lexeme
+    tail [] = []
+    tail (z ∷ zs) = zs
+
+none-in : (xs ys : List Lexeme) (t : Lexeme) → [] ≡ xs ++ t ∷ ys → ⊥
+none-in [] ys t e =
+    let z : _≡_ {A = ℕ} 0 1 = cc in
+    omega arith
+none-in (x ∷ xs) ys t e =
+    let z : _≡_ {A = ℕ} 0 1 = cc in
+    omega arith
+
+kind-from : (k : Kind) (s : Spot) → lexemeAt (ofKind k s) ≡ s .from
+unfolding lexemeAt ofKind
+kind-from (Kind.Name at) s = refl
+kind-from (Kind.Char v) s = refl
+kind-from Kind.Ref s = refl
+kind-from Kind.Mut s = refl
+kind-from Kind.True s = refl
+kind-from Kind.False s = refl
+kind-from Kind.Underscore s = refl
+kind-from Kind.Integer s = refl
+kind-from Kind.OpenParen s = refl
+kind-from Kind.CloseParen s = refl
+kind-from Kind.OpenBracket s = refl
+kind-from Kind.CloseBracket s = refl
+kind-from Kind.OpenBrace s = refl
+kind-from Kind.CloseBrace s = refl
+kind-from Kind.Comma s = refl
+kind-from Kind.Or s = refl
+kind-from Kind.And s = refl
+kind-from Kind.AndAnd s = refl
+kind-from Kind.Bind s = refl
+kind-from Kind.Minus s = refl
+kind-from Kind.Colon s = refl
+kind-from Kind.PathSep s = refl
+kind-from Kind.DotDot s = refl
+kind-from Kind.DotDotEq s = refl
+kind-from Kind.End s = refl
+kind-from Kind.Fails s = refl
+
+end-from :
+    (n : ℕ) (xs ys : List Lexeme) (text : List ℕ) (at : ℕ) (q : Spot)
+    → at ≤ length text → lexemesFrom n text at ≡ xs ++ mark endMark q ∷ ys → q .from ≡ length text
+unfolding lexemesFrom lexeme isEnd lexemeAt
+end-from zero xs ys text at q h e = absurd (none-in xs ys (mark endMark q) e)
+end-from (suc n) [] ys text at q h e =
+    let t = same-head _ _ _ _ e .0 in
+    sym (ap lexemeAt t) ∙ (kind-from (tokenAt text at .kind) _ ∙ end-there text at h (ap isEnd t))
+end-from (suc n) (x ∷ xs) ys text at q h e = by (isLast (lexeme (tokenAt text at))) refl (λ m f. end-from n xs ys text (tokenAt text at .to) q m f) (advances text at) (same-head _ _ _ _ e .1)
+  where
+    by :
+        (b : Bool) → isLast (lexeme (tokenAt text at)) ≡ b
+        → (tokenAt text at .to ≤ length text → lexemesFrom n text (tokenAt text at .to) ≡ xs ++ mark endMark q ∷ ys → q .from ≡ length text)
+        → ((isLast (lexeme (tokenAt text at)) ≡ true) ⊎ ((at < tokenAt text at .to) × (tokenAt text at .to ≤ length text)))
+        → cond b [] (lexemesFrom n text (tokenAt text at .to)) ≡ xs ++ mark endMark q ∷ ys
+        → q .from ≡ length text
+    by true l down a f = absurd (none-in xs ys (mark endMark q) f)
+    by false l down (inl m) f = absurd (false≢true (sym l ∙ m))
+    by false l down (inr m) f = down (m .1) f
+
+-- the end among a text's tokens is at the text's length
+pub end-position : (text : List ℕ) (xs ys : List Lexeme) (q : Spot) → lexemes text ≡ xs ++ mark endMark q ∷ ys → q .from ≡ length text
+unfolding lexemes
+end-position text xs ys q e = end-from (suc (length text)) xs ys text 0 q (omega arith) e

@@ -36,7 +36,8 @@ openAt (alone none a) = upwardAt a
 openAt (alone (some q) a) = none
 openAt (or p c a) = none
 
--- and of such an item in a slice: "`[a..]` .. must be parenthesized" (patterns.range.constraint-slice)
+-- and of such an item in a slice: "RangeFromPattern cannot be used as a top-level pattern for subpatterns in slice patterns"
+-- (patterns.range.constraint-slice)
 unfoldable pub openItemAt : ListHead → Pattern → Option ℕ
 openItemAt (tupleAt q) p = none
 openItemAt (structAt n q) p = none
@@ -65,7 +66,8 @@ unfoldable pub behindBar : Option Spot → RestRoom → RestRoom
 behindBar none room = room
 behindBar (some q) room = noRest
 
--- "It may only be used in tuple, tuple struct, and slice patterns" (patterns.rest.allowed-patterns), in a slice behind a name too
+-- "It may only be used in tuple, tuple struct, and slice patterns", and "in an identifier pattern for slice patterns only"
+-- (patterns.rest.allowed-patterns)
 unfoldable pub listRoom : ListHead → RestRoom
 listRoom (tupleAt q) = bareRest
 listRoom (structAt n q) = bareRest

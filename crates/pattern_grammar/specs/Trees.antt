@@ -70,8 +70,9 @@ mutual
     upward : RangeBound → Spot → NoTopAlt
     upTo : RangeDots → RangeBound → NoTopAlt
 
-  -- PatternWithoutRange. A name alone is an IdentifierPattern, a path has two names or more. A list has its items, each with the `,` behind
-  -- it, and the bracket that closes it; in `listTo` an item with no `,` stands before that. A record is alike, and in `recordDots` it is a
+  -- PatternWithoutRange. A name alone is an IdentifierPattern, until it is looked up (patterns.ident.precedent); a path has two names or more.
+  -- A list has its items, each with the `,` behind it, and the bracket that closes it; in `listTo` an item with no `,` stands before that: so
+  -- `(p)` is a GroupedPattern, and `(..)` a TuplePattern (patterns.tuple.rest-syntax). A record is alike, and in `recordDots` it is a
   -- StructPatternEtCetera that stands there
   pub data WithoutRange : Type 0 where
     literal : LiteralPattern → WithoutRange
