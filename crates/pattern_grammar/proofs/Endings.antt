@@ -11,10 +11,10 @@ use lib.ListN.{length}
 use Rattle.pattern_words.specs.declared.Kind.{Kind}
 use Rattle.pattern_words.proofs.Spelling.{either}
 use Rattle.pattern_tokens.specs.Tokens.{tokenAt}
-use Rattle.pattern_grammar.specs.Lexemes.{Spot, Lexeme, name, scalar, mark, endMark, failsMark, lexemeAt, ofKind, lexeme}
+use Rattle.pattern_grammar.specs.Lexemes.{Spot, Lexeme, name, scalar, mark, endMark, failsMark, lexemeAt, ofKind, lexeme, Source, strictly}
 use Rattle.pattern_grammar.specs.Trees.{Pattern, ListHead, tupleAt, structAt, sliceAt, closer, plain, rest}
 use Rattle.pattern_grammar.specs.Admitted.{fitsRest, admitted}
-use Rattle.pattern_grammar.specs.Machine.{ForPlain, anyAlt, behindAmp, ForPattern, wholeText, forItem, forField, Closed, Reading, begin, expect, readAmp, readRef, readMut, readName, readBound, readPath, readSep, readMinus, readLiteral, readDots, readFrom, readTo, readToPath, readAlt, readBrace, readLabel, readIndex, readField, readEtc, done, failed, closeAlt, after, roomIn, starts, bounds, behind, ends, behindPath, behindField, onMark, step, feed, fresh}
+use Rattle.pattern_grammar.specs.Machine.{ForPlain, anyAlt, behindAmp, ForPattern, wholeText, forItem, forField, Closed, Reading, begin, expect, readAmp, readRef, readMut, readName, readBound, readPath, readSep, readMinus, readLiteral, readDots, readFrom, readTo, readToPath, readAlt, readBrace, readLabel, readIndex, readField, readEtc, done, failed, closeAlt, after, roomIn, starts, bounds, behind, ends, behindPath, behindField, onMark, step, feed, fresh, restStands}
 use Rattle.pattern_grammar.specs.Parsed.{isLast, lexemesFrom, lexemes, parsed}
 use Rattle.pattern_grammar.proofs.Sound.{feed-failed}
 use Rattle.pattern_grammar.proofs.Verdicts.{writtenAs, read-iff, Refused, refused}
@@ -29,21 +29,21 @@ over-if : {x y : Reading} (b : Bool) → Over x → Over y → Over (cond b x y)
 over-if true h g = h
 over-if false h g = g
 
-behind-end : (o : ForPattern) (p : Pattern) (q : Spot) → Over (behind p o endMark q)
+behind-end : (o : ForPattern) (text : Source) (p : Pattern) (q : Spot) → Over (behind text p o endMark q)
 unfolding behind closer
-behind-end wholeText p q = whole p q
-behind-end (forItem (tupleAt c) is s) p q = broken (q .from)
-behind-end (forItem (structAt n c) is s) p q = broken (q .from)
-behind-end (forItem (sliceAt c) is s) p q = broken (q .from)
-behind-end (forField h fs key c s) p q = broken (q .from)
+behind-end wholeText text p q = whole p q
+behind-end (forItem (tupleAt c) is s) text p q = broken (q .from)
+behind-end (forItem (structAt n c) is s) text p q = broken (q .from)
+behind-end (forItem (sliceAt c) is s) text p q = broken (q .from)
+behind-end (forField h fs key c s) text p q = broken (q .from)
 
-behind-fails : (o : ForPattern) (p : Pattern) (q : Spot) → Over (behind p o failsMark q)
+behind-fails : (o : ForPattern) (text : Source) (p : Pattern) (q : Spot) → Over (behind text p o failsMark q)
 unfolding behind closer
-behind-fails wholeText p q = broken (q .from)
-behind-fails (forItem (tupleAt c) is s) p q = broken (q .from)
-behind-fails (forItem (structAt n c) is s) p q = broken (q .from)
-behind-fails (forItem (sliceAt c) is s) p q = broken (q .from)
-behind-fails (forField h fs key c s) p q = broken (q .from)
+behind-fails wholeText text p q = broken (q .from)
+behind-fails (forItem (tupleAt c) is s) text p q = broken (q .from)
+behind-fails (forItem (structAt n c) is s) text p q = broken (q .from)
+behind-fails (forItem (sliceAt c) is s) text p q = broken (q .from)
+behind-fails (forField h fs key c s) text p q = broken (q .from)
 
 ends-end : (o : ForPattern) (q : Spot) → Over (ends o endMark q)
 unfolding ends closer
@@ -54,24 +54,24 @@ ends-end (forItem (sliceAt c) is s) q = broken (q .from)
 ends-end (forField h fs key c s) q = broken (q .from)
 
 -- the end of the text
-end-over : (r : Reading) (text : List ℕ) (q : Spot) → Over (onMark text r endMark q)
+end-over : (r : Reading) (text : Source) (q : Spot) → Over (onMark text r endMark q)
 unfolding onMark starts bounds behindField
 end-over (begin o) text q = ends-end o q
 end-over (expect s) text q = broken (q .from)
 end-over (readAmp a s) text q = broken (q .from)
 end-over (readRef i r) text q = broken (q .from)
 end-over (readMut i r u) text q = broken (q .from)
-end-over (readName n s) text q = behind-end _ _ q
-end-over (readBound b s) text q = behind-end _ _ q
-end-over (readPath p c n s) text q = behind-end _ _ q
+end-over (readName n s) text q = behind-end _ text _ q
+end-over (readBound b s) text q = behind-end _ text _ q
+end-over (readPath p c n s) text q = behind-end _ text _ q
 end-over (readSep p c i) text q = broken (q .from)
 end-over (readMinus c i) text q = broken (q .from)
-end-over (readLiteral v s) text q = behind-end _ _ q
-end-over (readDots d l) text q = over-if (fitsRest (roomIn l) && true) (behind-end _ _ q) (broken (d .from))
-end-over (readFrom a d l) text q = behind-end _ _ q
+end-over (readLiteral v s) text q = behind-end _ text _ q
+end-over (readDots d l) text q = over-if (restStands text l endMark) (behind-end _ text _ q) (broken (d .from))
+end-over (readFrom a d l) text q = behind-end _ text _ q
 end-over (readTo h l) text q = broken (q .from)
-end-over (readToPath p h l) text q = behind-end _ _ q
-end-over (readAlt c) text q = behind-end (c .waiting) (c .pattern) q
+end-over (readToPath p h l) text q = behind-end _ text _ q
+end-over (readAlt c) text q = behind-end (c .waiting) text (c .pattern) q
 end-over (readBrace h fs s) text q = broken (q .from)
 end-over (readLabel n h fs s) text q = broken (q .from)
 end-over (readIndex i h fs s) text q = broken (q .from)
@@ -81,7 +81,7 @@ end-over (done p e) text q = broken (q .from)
 end-over (failed at) text q = broken at
 
 -- what is no token
-fails-over : (r : Reading) (text : List ℕ) (q : Spot) → Over (onMark text r failsMark q)
+fails-over : (r : Reading) (text : Source) (q : Spot) → Over (onMark text r failsMark q)
 unfolding onMark starts bounds behindPath behindField
 fails-over (begin o) text q = broken (q .from)
 fails-over (expect s) text q = broken (q .from)
@@ -94,11 +94,11 @@ fails-over (readPath p c n s) text q = broken (q .from)
 fails-over (readSep p c i) text q = broken (q .from)
 fails-over (readMinus c i) text q = broken (q .from)
 fails-over (readLiteral v s) text q = broken (q .from)
-fails-over (readDots d l) text q = over-if (fitsRest (roomIn l) && true) (behind-fails _ _ q) (broken (d .from))
+fails-over (readDots d l) text q = over-if (restStands text l failsMark) (behind-fails _ text _ q) (broken (d .from))
 fails-over (readFrom a d l) text q = broken (q .from)
 fails-over (readTo h l) text q = broken (q .from)
 fails-over (readToPath p h l) text q = broken (q .from)
-fails-over (readAlt c) text q = behind-fails (c .waiting) (c .pattern) q
+fails-over (readAlt c) text q = behind-fails (c .waiting) text (c .pattern) q
 fails-over (readBrace h fs s) text q = broken (q .from)
 fails-over (readLabel n h fs s) text q = broken (q .from)
 fails-over (readIndex i h fs s) text q = broken (q .from)
@@ -107,7 +107,7 @@ fails-over (readEtc d h fs s) text q = broken (q .from)
 fails-over (done p e) text q = broken (q .from)
 fails-over (failed at) text q = broken at
 
-last-over : (t : Lexeme) (text : List ℕ) (r : Reading) → isLast t ≡ true → Over (step text r t)
+last-over : (t : Lexeme) (text : Source) (r : Reading) → isLast t ≡ true → Over (step text r t)
 unfolding isLast step
 last-over (name n) text r e = absurd (false≢true e)
 last-over (scalar v q) text r e = absurd (false≢true e)
@@ -119,7 +119,7 @@ last-over (mark m q) text r e = by (either (eqb m endMark) (eqb m failsMark) e)
 
 -- with so many tokens a text is read from a position on
 read-over :
-    (n : ℕ) (text : List ℕ) (at : ℕ) (r : Reading) → length text < n + at → at ≤ length text → Over (feed text (lexemesFrom n text at) r)
+    (n : ℕ) (text : List ℕ) (at : ℕ) (r : Reading) → length text < n + at → at ≤ length text → Over (feed (strictly text) (lexemesFrom n text at) r)
 unfolding lexemesFrom feed
 read-over zero text at r h g = absurd (omega arith)
 read-over (suc n) text at r h g = by (isLast (lexeme (tokenAt text at))) refl (λ l m. read-over n text (tokenAt text at .to) _ l m) (advances text at)
@@ -127,10 +127,10 @@ read-over (suc n) text at r h g = by (isLast (lexeme (tokenAt text at))) refl (�
     by :
         (b : Bool) → isLast (lexeme (tokenAt text at)) ≡ b
         → (length text < n + tokenAt text at .to → tokenAt text at .to ≤ length text
-        → Over (feed text (lexemesFrom n text (tokenAt text at .to)) (step text r (lexeme (tokenAt text at)))))
+        → Over (feed (strictly text) (lexemesFrom n text (tokenAt text at .to)) (step (strictly text) r (lexeme (tokenAt text at)))))
         → ((isLast (lexeme (tokenAt text at)) ≡ true) ⊎ ((at < tokenAt text at .to) × (tokenAt text at .to ≤ length text)))
-        → Over (feed text (cond b [] (lexemesFrom n text (tokenAt text at .to))) (step text r (lexeme (tokenAt text at))))
-    by true e down a = last-over (lexeme (tokenAt text at)) text r e
+        → Over (feed (strictly text) (cond b [] (lexemesFrom n text (tokenAt text at .to))) (step (strictly text) r (lexeme (tokenAt text at))))
+    by true e down a = last-over (lexeme (tokenAt text at)) (strictly text) r e
     by false e down (inl l) = absurd (false≢true (sym e ∙ l))
     by false e down (inr a) =
         let l = a .0 in
@@ -147,15 +147,15 @@ pub text-long : (text : List ℕ) → 16384 < length text → parsed text ≡ fa
 unfolding parsed
 text-long text h = rw (lt-ltb 16384 (length text) h) refl
 
-short-text : (text : List ℕ) → length text ≤ 16384 → parsed text ≡ feed text (lexemes text) fresh
+short-text : (text : List ℕ) → length text ≤ 16384 → parsed text ≡ feed (strictly text) (lexemes text) fresh
 unfolding parsed
 short-text text h = rw (le-ltb 16384 (length text) h) refl
 
 -- another is read as a tree where its tokens are what the tree is written as, and the tree is admitted: no other tree is, by `one-tree`
 pub text-read :
-    (text : List ℕ) (p : Pattern) (e : Spot) → length text ≤ 16384 → (parsed text ≡ done p e) ↔ ((writtenAs p e ≡ lexemes text) × (admitted text p ≡ true))
+    (text : List ℕ) (p : Pattern) (e : Spot) → length text ≤ 16384 → (parsed text ≡ done p e) ↔ ((writtenAs p e ≡ lexemes text) × (admitted (strictly text) p ≡ true))
 text-read text p e h =
-    let both = read-iff text (lexemes text) p e in
+    let both = read-iff (strictly text) (lexemes text) p e in
     (λ r. both .0 (sym (short-text text h) ∙ r), λ w. short-text text h ∙ both .1 w)
 
 -- or refused at the first token with which no admitted text begins

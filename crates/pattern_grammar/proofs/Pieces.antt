@@ -6,7 +6,7 @@ use mathlib.Core.Option.{Option, none, some}
 use mathlib.Core.List.{List, [], _∷_}
 use lib.Dec.{eqb, ltb}
 use borrow.Author.Tests.{ne-eqb, not-true}
-use Rattle.pattern_grammar.specs.Lexemes.{Spot, Identifier, Lexeme, name, scalar, mark, orMark, refMark, mutMark, trueMark, falseMark, integerMark, minusMark, pathSepMark, openBraceMark, openParenMark, openBracketMark, dotDotMark, dotDotEqMark, bindMark, follows, wide}
+use Rattle.pattern_grammar.specs.Lexemes.{Spot, Identifier, Lexeme, name, scalar, mark, orMark, refMark, mutMark, trueMark, falseMark, integerMark, minusMark, pathSepMark, openBraceMark, openParenMark, openBracketMark, dotDotMark, dotDotEqMark, bindMark, follows, wide, Source}
 use Rattle.pattern_grammar.specs.Trees.{NamePath, segment, inside, LiteralPattern, trueAt, falseAt, character, whole, negative, RangeBound, constant, place, RangeDots, exclusive, inclusive, BoundName, bareName, ListHead, tupleAt, structAt, sliceAt, noItem, noField, RecordHead, NoTopAlt, ident, path, literal, pathT, literalT, boundT, dotsT, optionalT, headT, recordT}
 use Rattle.pattern_grammar.specs.Admitted.{literalFits, boundFits}
 use Rattle.pattern_grammar.specs.Machine.{ForPlain, anyAlt, ForAlt, ForPattern, forItem, RangeHead, upToHead, fromHead, rangeOf, BoundPlace, atStart, atEnd, Reading, begin, expect, readName, readBound, readPath, readSep, readMinus, readLiteral, readDots, readFrom, readTo, readToPath, readAlt, readBrace, closeAlt, closePlain, after, ranged, fitting, starts, bounds, behindPath, namedIn, pathIn, negativeIn, onMark, onName, onScalar, step, feed}
@@ -16,7 +16,7 @@ use Rattle.pattern_grammar.proofs.Beginnings.{cond-false, cond-true}
 pub apart : (m c : ℕ) → follows m ≡ true → follows c ≡ false → eqb m c ≡ false
 apart m c f g = ne-eqb m c (λ e. true≢false (sym f ∙ (ap (λ x. ltb x 6) e ∙ g)))
 
-pub fits-goes : (text : List ℕ) (minus : Bool) (q : Spot) (go : Reading) → not (wide text minus q) ≡ true → fitting text minus q go ≡ go
+pub fits-goes : (text : Source) (minus : Bool) (q : Spot) (go : Reading) → not (wide text minus q) ≡ true → fitting text minus q go ≡ go
 unfolding fitting
 fits-goes text minus q go e = rw (not-true (wide text minus q) e) refl
 
@@ -26,13 +26,13 @@ atPath (segment n) s = readName n s
 atPath (inside p c n) s = readPath p c n s
 
 pub path-mark :
-    (p : NamePath) (text : List ℕ) (s : ForPlain) (m : ℕ) (q : Spot)
+    (p : NamePath) (text : Source) (s : ForPlain) (m : ℕ) (q : Spot)
     → follows m ≡ false → eqb m bindMark ≡ false → onMark text (atPath p s) m q ≡ behindPath p s m q
 unfolding atPath onMark
 path-mark (segment n) text s m q f b = rw f (rw b refl)
 path-mark (inside p c n) text s m q f b = rw f refl
 
-pub path-read : (p : NamePath) (text : List ℕ) (s : ForPlain) (k : List Lexeme) → feed text (pathT p k) (expect s) ≡ feed text k (atPath p s)
+pub path-read : (p : NamePath) (text : Source) (s : ForPlain) (k : List Lexeme) → feed text (pathT p k) (expect s) ≡ feed text k (atPath p s)
 unfolding pathT feed step atPath onName behindPath pathIn
 path-read (segment n) text s k = refl
 path-read (inside p c n) text s k =
@@ -40,7 +40,7 @@ path-read (inside p c n) text s k =
     ∙ ap (λ r. feed text k (onName r n)) (path-mark p text s pathSepMark c refl refl)
 
 pub literal-read :
-    (v : LiteralPattern) (text : List ℕ) (s : ForPlain) (k : List Lexeme)
+    (v : LiteralPattern) (text : Source) (s : ForPlain) (k : List Lexeme)
     → literalFits text v ≡ true → feed text (literalT v k) (expect s) ≡ feed text k (readLiteral v s)
 unfolding literalT literalFits feed step starts onMark onScalar negativeIn
 literal-read (trueAt q) text s k e = refl
@@ -55,26 +55,26 @@ atBound (constant v) s = readLiteral v s
 atBound (place p) s = atPath p s
 
 pub bound-read :
-    (b : RangeBound) (text : List ℕ) (s : ForPlain) (k : List Lexeme)
+    (b : RangeBound) (text : Source) (s : ForPlain) (k : List Lexeme)
     → boundFits text b ≡ true → feed text (boundT b k) (expect s) ≡ feed text k (atBound b s)
 unfolding boundT boundFits atBound
 bound-read (constant v) text s k e = literal-read v text s k e
 bound-read (place p) text s k e = path-read p text s k
 
-pub from-dots : (b : RangeBound) (text : List ℕ) (l : ForAlt) (q : Spot) → onMark text (atBound b (anyAlt l)) dotDotMark q ≡ readFrom b q l
+pub from-dots : (b : RangeBound) (text : Source) (l : ForAlt) (q : Spot) → onMark text (atBound b (anyAlt l)) dotDotMark q ≡ readFrom b q l
 unfolding atBound onMark behindPath ranged
 from-dots (constant v) text l q = refl
 from-dots (place p) text l q = path-mark p text (anyAlt l) dotDotMark q refl refl
 
 pub from-equals :
-    (b : RangeBound) (text : List ℕ) (l : ForAlt) (q : Spot)
+    (b : RangeBound) (text : Source) (l : ForAlt) (q : Spot)
     → onMark text (atBound b (anyAlt l)) dotDotEqMark q ≡ readTo (fromHead b (inclusive q)) l
 unfolding atBound onMark behindPath ranged
 from-equals (constant v) text l q = refl
 from-equals (place p) text l q = path-mark p text (anyAlt l) dotDotEqMark q refl refl
 
 -- a reading that takes the upper bound of a range
-pub record Awaits (text : List ℕ) (h : RangeHead) (l : ForAlt) (r : Reading) : Type 0 where
+pub record Awaits (text : Source) (h : RangeHead) (l : ForAlt) (r : Reading) : Type 0 where
   pub names : (n : Identifier) → onName r n ≡ readToPath (segment n) h l
   pub scalars : (v : ℕ) (q : Spot) → onScalar r v q ≡ readAlt (closeAlt (rangeOf h (constant (character v q))) l)
   pub truths : (q : Spot) → onMark text r trueMark q ≡ readAlt (closeAlt (rangeOf h (constant (trueAt q))) l)
@@ -82,7 +82,7 @@ pub record Awaits (text : List ℕ) (h : RangeHead) (l : ForAlt) (r : Reading) :
   pub integers : (q : Spot) → onMark text r integerMark q ≡ fitting text false q (readAlt (closeAlt (rangeOf h (constant (whole q))) l))
   pub minuses : (q : Spot) → onMark text r minusMark q ≡ readMinus q (atEnd h l)
 
-pub dots-await : (text : List ℕ) (d : Spot) (l : ForAlt) → Awaits text (upToHead (exclusive d)) l (readDots d l)
+pub dots-await : (text : Source) (d : Spot) (l : ForAlt) → Awaits text (upToHead (exclusive d)) l (readDots d l)
 unfolding onName onScalar onMark bounds rangeOf
 dots-await text d l = record {
   names = λ n. refl;
@@ -93,7 +93,7 @@ dots-await text d l = record {
   minuses = λ q. refl;
 }
 
-pub from-awaits : (text : List ℕ) (a : RangeBound) (d : Spot) (l : ForAlt) → Awaits text (fromHead a (exclusive d)) l (readFrom a d l)
+pub from-awaits : (text : Source) (a : RangeBound) (d : Spot) (l : ForAlt) → Awaits text (fromHead a (exclusive d)) l (readFrom a d l)
 unfolding onName onScalar onMark bounds rangeOf
 from-awaits text a d l = record {
   names = λ n. refl;
@@ -104,7 +104,7 @@ from-awaits text a d l = record {
   minuses = λ q. refl;
 }
 
-pub to-awaits : (text : List ℕ) (h : RangeHead) (l : ForAlt) → Awaits text h l (readTo h l)
+pub to-awaits : (text : Source) (h : RangeHead) (l : ForAlt) → Awaits text h l (readTo h l)
 unfolding onName onScalar onMark bounds
 to-awaits text h l = record {
   names = λ n. refl;
@@ -116,14 +116,14 @@ to-awaits text h l = record {
 }
 
 upper-path :
-    (p : NamePath) (text : List ℕ) (h : RangeHead) (l : ForAlt) (r : Reading) (k : List Lexeme)
+    (p : NamePath) (text : Source) (h : RangeHead) (l : ForAlt) (r : Reading) (k : List Lexeme)
     → Awaits text h l r → feed text (pathT p k) r ≡ feed text k (readToPath p h l)
 unfolding pathT feed step onMark onName pathIn
 upper-path (segment n) text h l r k a = ap (feed text k) (a .names n)
 upper-path (inside p c n) text h l r k a = upper-path p text h l r (mark pathSepMark c ∷ name n ∷ k) a
 
 upper-literal :
-    (v : LiteralPattern) (text : List ℕ) (h : RangeHead) (l : ForAlt) (r : Reading) (k : List Lexeme)
+    (v : LiteralPattern) (text : Source) (h : RangeHead) (l : ForAlt) (r : Reading) (k : List Lexeme)
     → Awaits text h l r → literalFits text v ≡ true → feed text (literalT v k) r ≡ feed text k (readAlt (closeAlt (rangeOf h (constant v)) l))
 unfolding literalT literalFits feed step onMark negativeIn
 upper-literal (trueAt q) text h l r k a e = ap (feed text k) (a .truths q)
@@ -137,7 +137,7 @@ upper-literal (negative c q) text h l r k a e =
 
 -- an upper bound closes the range, at the latest before a mark that can stand behind a pattern
 pub upper-read :
-    (b : RangeBound) (text : List ℕ) (h : RangeHead) (l : ForAlt) (r : Reading) (m : ℕ) (q : Spot) (k : List Lexeme)
+    (b : RangeBound) (text : Source) (h : RangeHead) (l : ForAlt) (r : Reading) (m : ℕ) (q : Spot) (k : List Lexeme)
     → Awaits text h l r → boundFits text b ≡ true → follows m ≡ true
     → feed text (boundT b (mark m q ∷ k)) r ≡ feed text (mark m q ∷ k) (readAlt (closeAlt (rangeOf h b) l))
 unfolding boundT boundFits feed step onMark
@@ -153,7 +153,7 @@ atName none (some q) n s = readBound (record { byRef = none; mutable = some q; c
 atName (some c) m n s = readBound (record { byRef = some c; mutable = m; called = n }) s
 
 pub name-read :
-    (byRef mutable : Option Spot) (n : Identifier) (text : List ℕ) (s : ForPlain) (k : List Lexeme)
+    (byRef mutable : Option Spot) (n : Identifier) (text : Source) (s : ForPlain) (k : List Lexeme)
     → feed text (optionalT byRef refMark (optionalT mutable mutMark (name n ∷ k))) (expect s) ≡ feed text k (atName byRef mutable n s)
 unfolding optionalT feed step onMark onName starts atName namedIn
 name-read none none n text s k = refl
@@ -162,7 +162,7 @@ name-read (some c) none n text s k = refl
 name-read (some c) (some q) n text s k = refl
 
 pub head-read :
-    (h : ListHead) (text : List ℕ) (s : ForPlain) (k : List Lexeme) → feed text (headT h k) (expect s) ≡ feed text k (begin (forItem h noItem s))
+    (h : ListHead) (text : Source) (s : ForPlain) (k : List Lexeme) → feed text (headT h k) (expect s) ≡ feed text k (begin (forItem h noItem s))
 unfolding headT feed step onMark starts behindPath
 head-read (tupleAt q) text s k = refl
 head-read (structAt p q) text s k =
@@ -171,7 +171,7 @@ head-read (structAt p q) text s k =
 head-read (sliceAt q) text s k = refl
 
 pub record-read :
-    (h : RecordHead) (text : List ℕ) (s : ForPlain) (k : List Lexeme) → feed text (recordT h k) (expect s) ≡ feed text k (readBrace h noField s)
+    (h : RecordHead) (text : Source) (s : ForPlain) (k : List Lexeme) → feed text (recordT h k) (expect s) ≡ feed text k (readBrace h noField s)
 unfolding recordT feed step behindPath
 record-read h text s k =
     path-read (h .path) text s (mark openBraceMark (h .brace) ∷ k)

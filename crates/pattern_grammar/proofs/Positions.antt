@@ -1,15 +1,17 @@
--- Where a step fails: at its token, or at the rest or the `a..` before it. Assumes nothing.
+-- Where a step fails, and why: its token is none that the grammar has there, or an integer over 16 bytes, or a rest behind `&`; or the rest or
+-- the `a..` before it may not stand there. Assumes nothing.
 use Prim.Native.Nat.{ℕ}
 use mathlib.Core.Path.{_≡_, refl, sym, ap, _∙_}
-use mathlib.Core.Bool.{Bool, true, false, not, cond, _&&_, true≢false, false≢true}
+use mathlib.Core.Bool.{Bool, true, false, not, cond, _&&_, _||_, true≢false, false≢true}
 use mathlib.Core.Logic.{_⊎_, inl, inr}
 use mathlib.Core.Option.{Option, none, some, Option·none-ne-some}
 use mathlib.Core.List.{List, [], _∷_}
 use lib.Dec.{eqb}
-use Rattle.pattern_grammar.specs.Lexemes.{Spot, Identifier, Lexeme, name, scalar, mark, endMark, commaMark, orMark, closeBraceMark, refMark, mutMark, trueMark, falseMark, underscoreMark, integerMark, minusMark, openParenMark, openBracketMark, openBraceMark, andMark, andAndMark, bindMark, colonMark, pathSepMark, dotDotMark, dotDotEqMark, follows, lexemeAt, wide}
-use Rattle.pattern_grammar.specs.Trees.{NamePath, segment, inside, LiteralPattern, trueAt, falseAt, character, whole, negative, RangeBound, constant, place, exclusive, inclusive, BoundName, bareName, ListHead, tupleAt, structAt, sliceAt, closer, RecordHead, index, label, Pattern, alone, or, NoTopAlt, plain, between, upward, upTo, WithoutRange, literal, ident, identAt, wild, rest, reference, path, list, listTo, recordOf, recordTo, recordDots, RecordFields, RecordField, keyed, short}
-use Rattle.pattern_grammar.specs.Admitted.{boundAt, upwardAt, openAt, openItemAt, fitsRest}
-use Rattle.pattern_grammar.specs.Machine.{ForPlain, anyAlt, behindAmp, ForAlt, firstAlt, nextAlt, behindAt, ForPattern, wholeText, forItem, forField, Closed, RangeHead, upToHead, fromHead, rangeOf, BoundPlace, atStart, atEnd, NamePlace, inPattern, inRecord, Reading, begin, expect, readAmp, readRef, readMut, readName, readBound, readPath, readSep, readMinus, readLiteral, readDots, readFrom, readTo, readToPath, readAlt, readBrace, readLabel, readIndex, readField, readEtc, done, failed, closeAlt, closePlain, after, roomIn, ranged, fitting, unlessOpen, starts, bounds, behind, ends, namedIn, pathIn, negativeIn, behindPath, behindField, onMark, onName, onScalar, step, isFailed}
+use Rattle.decimal_values.specs.Values.{integerValue}
+use Rattle.pattern_grammar.specs.Lexemes.{Spot, Identifier, Lexeme, name, scalar, mark, endMark, commaMark, orMark, closeBraceMark, refMark, mutMark, trueMark, falseMark, underscoreMark, integerMark, minusMark, openParenMark, openBracketMark, openBraceMark, andMark, andAndMark, bindMark, colonMark, pathSepMark, dotDotMark, dotDotEqMark, follows, lexemeAt, wide, Source, over, strictly, loosely}
+use Rattle.pattern_grammar.specs.Trees.{NamePath, segment, inside, LiteralPattern, trueAt, falseAt, character, whole, negative, RangeBound, constant, place, exclusive, inclusive, BoundName, bareName, ListHead, tupleAt, structAt, sliceAt, closer, RecordHead, index, label, Pattern, alone, or, NoTopAlt, plain, between, upward, upTo, WithoutRange, literal, ident, identAt, wild, rest, reference, path, list, listTo, recordOf, recordTo, recordDots, item, RecordFields, RecordField, keyed, short}
+use Rattle.pattern_grammar.specs.Admitted.{boundAt, upwardAt, openAt, whenStrict, openItemAt, fitsRest}
+use Rattle.pattern_grammar.specs.Machine.{ForPlain, anyAlt, behindAmp, ForAlt, firstAlt, nextAlt, behindAt, ForPattern, wholeText, forItem, forField, Closed, RangeHead, upToHead, fromHead, rangeOf, BoundPlace, atStart, atEnd, NamePlace, inPattern, inRecord, Reading, begin, expect, readAmp, readRef, readMut, readName, readBound, readPath, readSep, readMinus, readLiteral, readDots, readFrom, readTo, readToPath, readAlt, readBrace, readLabel, readIndex, readField, readEtc, done, failed, closeAlt, closePlain, after, roomIn, ranged, fitting, unlessOpen, starts, bounds, behind, ends, namedIn, pathIn, negativeIn, behindPath, behindField, onMark, onName, onScalar, step, isFailed, dotsIn, restStands}
 
 -- where what is read last stands, if it is `..`, or may be an `a..` that is a whole item; what has failed has its place
 unfoldable pub ownAt : Reading → Option ℕ
@@ -37,49 +39,93 @@ ownAt (readEtc d h fs s) = none
 ownAt (done p e) = none
 ownAt (failed at) = some at
 
--- a reading has not failed, or here, or at that place of its own
-pub record Places (here : ℕ) (own : Option ℕ) (z : Reading) : Type 0 where
-  pub place : (at : ℕ) → z ≡ failed at → (at ≡ here) ⊎ (own ≡ some at)
+-- what a token may be
+unfoldable pub isInteger : Lexeme → Bool
+isInteger (name n) = false
+isInteger (scalar v q) = false
+isInteger (mark m q) = eqb m integerMark
 
-goes : {here : ℕ} {own : Option ℕ} {z : Reading} → isFailed z ≡ false → Places here own z
+unfoldable pub isDots : Lexeme → Bool
+isDots (name n) = false
+isDots (scalar v q) = false
+isDots (mark m q) = eqb m dotDotMark
+
+-- why a step fails at a position: here, where it fails by the grammar alone too; here, at an integer; here, at a `..`; or at that place of its own
+pub data Why (here : ℕ) (own : Option ℕ) (int dots : Bool) (u : Reading) (at : ℕ) : Type 0 where
+  byGrammar : at ≡ here → isFailed u ≡ true → Why here own int dots u at
+  overWide : at ≡ here → int ≡ true → Why here own int dots u at
+  restBehind : at ≡ here → dots ≡ true → Why here own int dots u at
+  ofOwn : own ≡ some at → Why here own int dots u at
+
+-- one reading, and the same by the grammar alone: where the first has not failed, they are alike
+pub record Judges (here : ℕ) (own : Option ℕ) (int dots : Bool) (z u : Reading) : Type 0 where
+  pub agree : isFailed z ≡ false → u ≡ z
+  pub place : (at : ℕ) → z ≡ failed at → Why here own int dots u at
+
+goes : {here : ℕ} {own : Option ℕ} {int dots : Bool} {z : Reading} → isFailed z ≡ false → Judges here own int dots z z
 unfolding isFailed
-goes e = record { place = λ at f. absurd (false≢true (sym e ∙ ap isFailed f)) }
+goes e = record { agree = λ _. refl; place = λ at f. absurd (false≢true (sym e ∙ ap isFailed f)) }
 
 same : (a b : ℕ) → failed a ≡ failed b → b ≡ a
 same a b e = cc
 
-stops : {here : ℕ} {own : Option ℕ} → Places here own (failed here)
-stops {here} = record { place = λ at f. inl (same here at f) }
+fails : (at : ℕ) → isFailed (failed at) ≡ false → ⊥
+unfolding isFailed
+fails at e = true≢false e
 
-at-own : {here at : ℕ} → Places here (some at) (failed at)
-at-own {here} {at} = record { place = λ b f. inr (ap some (sym (same at b f))) }
+stops : {here : ℕ} {own : Option ℕ} {int dots : Bool} → Judges here own int dots (failed here) (failed here)
+unfolding isFailed
+stops {here} = record { agree = λ e. absurd (fails here e); place = λ at f. byGrammar (same here at f) refl }
 
-if : {here : ℕ} {own : Option ℕ} {x y : Reading} (b : Bool) → Places here own x → Places here own y → Places here own (cond b x y)
-if true h g = h
-if false h g = g
+at-own : {here : ℕ} {own : Option ℕ} {int dots : Bool} (at : ℕ) (u : Reading) → own ≡ some at → Judges here own int dots (failed at) u
+at-own at u e = record { agree = λ f. absurd (fails at f); place = λ b f. ofOwn (e ∙ ap some (sym (same at b f))) }
 
-fits : {own : Option ℕ} {go : Reading} (text : List ℕ) (minus : Bool) (q : Spot) → Places (q .from) own go → Places (q .from) own (fitting text minus q go)
-unfolding fitting
-fits text minus q h = if (wide text minus q) stops h
+if :
+    {here : ℕ} {own : Option ℕ} {int dots : Bool} {x y u v : Reading} (b : Bool)
+    → (b ≡ true → Judges here own int dots x u) → (b ≡ false → Judges here own int dots y v)
+    → Judges here own int dots (cond b x y) (cond b u v)
+if true h g = h refl
+if false h g = g refl
 
-ranges : {own : Option ℕ} (s : ForPlain) (q : Spot) (go : ForAlt → Reading) → ((l : ForAlt) → Places (q .from) own (go l)) → Places (q .from) own (ranged s q go)
+fits :
+    {own : Option ℕ} {int dots : Bool} {z u : Reading} (text : List ℕ) (minus : Bool) (q : Spot)
+    → int ≡ true → Judges (q .from) own int dots z u
+    → Judges (q .from) own int dots (fitting (strictly text) minus q z) (fitting (loosely text) minus q u)
+unfolding fitting wide
+fits {own} {int} {dots} {z} {u} text minus q e h = by (over minus (integerValue text (q .from) (q .to)))
+  where
+    by : (b : Bool) → Judges (q .from) own int dots (cond (b && true) (failed (q .from)) z) (cond (b && false) (failed (q .from)) u)
+    by true = record { agree = λ f. absurd (fails (q .from) f); place = λ at f. overWide (same (q .from) at f) e }
+    by false = h
+
+ranges :
+    {own : Option ℕ} {int dots : Bool} (s : ForPlain) (q : Spot) (go : ForAlt → Reading)
+    → ((l : ForAlt) → isFailed (go l) ≡ false) → Judges (q .from) own int dots (ranged s q go) (ranged s q go)
 unfolding ranged
-ranges (anyAlt l) q go h = h l
+ranges (anyAlt l) q go h = goes (h l)
 ranges (behindAmp a m s) q go h = stops
 
-unless :
-    {here : ℕ} {own : Option ℕ} {go : Reading} (o : Option ℕ)
-    → ((at : ℕ) → o ≡ some at → own ≡ some at) → Places here own go → Places here own (unlessOpen o go)
-unfolding unlessOpen
-unless none f h = h
-unless (some a) f h = record { place = λ at e. inr (f a refl ∙ ap some (sym (same a at e))) }
+dotted :
+    {own : Option ℕ} {int dots : Bool} (s : ForPlain) (text : List ℕ) (q : Spot)
+    → dots ≡ true → Judges (q .from) own int dots (dotsIn (strictly text) s q) (dotsIn (loosely text) s q)
+unfolding dotsIn isFailed
+dotted (anyAlt l) text q e = goes refl
+dotted (behindAmp a m s) text q e = record { agree = λ f. absurd (fails (q .from) f); place = λ at f. restBehind (same (q .from) at f) e }
 
--- an item that is open is an `a..`
-open-item : (h : ListHead) (p : Pattern) (at : ℕ) → openItemAt h p ≡ some at → openAt p ≡ some at
-unfolding openItemAt
-open-item (tupleAt q) p at e = absurd (Option·none-ne-some at e)
-open-item (structAt n q) p at e = absurd (Option·none-ne-some at e)
-open-item (sliceAt q) p at e = e
+unless :
+    {here : ℕ} {own : Option ℕ} {int dots : Bool} (h : ListHead) (p : Pattern) (text : List ℕ) (z : Reading)
+    → ((at : ℕ) → openAt p ≡ some at → own ≡ some at) → isFailed z ≡ false
+    → Judges here own int dots (unlessOpen (openItemAt (strictly text) h p) z) (unlessOpen (openItemAt (loosely text) h p) z)
+unfolding unlessOpen openItemAt whenStrict
+unless (tupleAt q) p text z f e = goes e
+unless (structAt n q) p text z f e = goes e
+unless {here} {own} {int} {dots} (sliceAt q) p text z f e = by (openAt p) f
+  where
+    by :
+        (o : Option ℕ) → ((at : ℕ) → o ≡ some at → own ≡ some at)
+        → Judges here own int dots (unlessOpen (whenStrict (strictly text) o) z) (unlessOpen (whenStrict (loosely text) o) z)
+    by none g = goes e
+    by (some a) g = at-own a z (g a refl)
 
 -- what closes with another last part is none
 mutual
@@ -104,71 +150,81 @@ open-upward (nextAlt p c o) a d at e = absurd (Option·none-ne-some at e)
 open-upward (behindAt b c s) a d at e = absurd (Option·none-ne-some at (sym (shut-plain s (identAt b c (upward a d))) ∙ e))
 
 behinds :
-    (o : ForPattern) (p : Pattern) (own : Option ℕ) (m : ℕ) (q : Spot)
-    → ((at : ℕ) → openAt p ≡ some at → own ≡ some at) → Places (q .from) own (behind p o m q)
+    {int dots : Bool} (o : ForPattern) (text : List ℕ) (p : Pattern) (own : Option ℕ) (m : ℕ) (q : Spot)
+    → ((at : ℕ) → openAt p ≡ some at → own ≡ some at)
+    → Judges (q .from) own int dots (behind (strictly text) p o m q) (behind (loosely text) p o m q)
 unfolding behind isFailed
-behinds wholeText p own m q f = if (eqb m orMark) (goes refl) (if (eqb m endMark) (goes refl) stops)
-behinds (forItem h is s) p own m q f =
-    if (eqb m orMark) (goes refl)
-    (if (eqb m commaMark) (unless (openItemAt h p) (λ at e. f at (open-item h p at e)) (goes refl))
-    (if (eqb m (closer h)) (unless (openItemAt h p) (λ at e. f at (open-item h p at e)) (goes refl))
-    stops))
-behinds (forField h fs key c s) p own m q f =
-    if (eqb m orMark) (goes refl) (if (eqb m commaMark) (goes refl) (if (eqb m closeBraceMark) (goes refl) stops))
+behinds wholeText text p own m q f = if (eqb m orMark) (λ _. goes refl) (λ _. if (eqb m endMark) (λ _. goes refl) (λ _. stops))
+behinds (forItem h is s) text p own m q f =
+    if (eqb m orMark) (λ _. goes refl) (λ _.
+    if (eqb m commaMark) (λ _. unless h p text (begin (forItem h (item is p q) s)) f refl) (λ _.
+    if (eqb m (closer h)) (λ _. unless h p text (readAlt (closePlain (listTo h is p q) s)) f refl) (λ _.
+    stops)))
+behinds (forField h fs key c s) text p own m q f =
+    if (eqb m orMark) (λ _. goes refl) (λ _. if (eqb m commaMark) (λ _. goes refl) (λ _. if (eqb m closeBraceMark) (λ _. goes refl) (λ _. stops)))
 
-closes : (c : Closed) (own : Option ℕ) (m : ℕ) (q : Spot) → openAt (c .pattern) ≡ none → Places (q .from) own (after c m q)
-closes c own m q e = behinds (c .waiting) (c .pattern) own m q (λ at f. absurd (Option·none-ne-some at (sym e ∙ f)))
+closes :
+    {int dots : Bool} (c : Closed) (text : List ℕ) (own : Option ℕ) (m : ℕ) (q : Spot)
+    → openAt (c .pattern) ≡ none → Judges (q .from) own int dots (after (strictly text) c m q) (after (loosely text) c m q)
+closes c text own m q e = behinds (c .waiting) text (c .pattern) own m q (λ at f. absurd (Option·none-ne-some at (sym e ∙ f)))
 
-begins : (text : List ℕ) (own : Option ℕ) (s : ForPlain) (m : ℕ) (q : Spot) → Places (q .from) own (starts text s m q)
+begins :
+    (text : List ℕ) (own : Option ℕ) (s : ForPlain) (m : ℕ) (q : Spot)
+    → Judges (q .from) own (eqb m integerMark) (eqb m dotDotMark) (starts (strictly text) s m q) (starts (loosely text) s m q)
 unfolding starts isFailed
 begins text own s m q =
-    if (eqb m refMark) (goes refl)
-    (if (eqb m mutMark) (goes refl)
-    (if (eqb m trueMark) (goes refl)
-    (if (eqb m falseMark) (goes refl)
-    (if (eqb m underscoreMark) (goes refl)
-    (if (eqb m integerMark) (fits text false q (goes refl))
-    (if (eqb m minusMark) (goes refl)
-    (if (eqb m openParenMark) (goes refl)
-    (if (eqb m openBracketMark) (goes refl)
-    (if (eqb m andMark) (goes refl)
-    (if (eqb m andAndMark) (goes refl)
-    (if (eqb m dotDotMark) (ranges s q (readDots q) (λ l. goes refl))
-    (if (eqb m dotDotEqMark) (ranges s q (readTo (upToHead (inclusive q))) (λ l. goes refl))
-    stops))))))))))))
+    if (eqb m refMark) (λ _. goes refl) (λ _.
+    if (eqb m mutMark) (λ _. goes refl) (λ _.
+    if (eqb m trueMark) (λ _. goes refl) (λ _.
+    if (eqb m falseMark) (λ _. goes refl) (λ _.
+    if (eqb m underscoreMark) (λ _. goes refl) (λ _.
+    if (eqb m integerMark) (λ e. fits text false q e (goes refl)) (λ _.
+    if (eqb m minusMark) (λ _. goes refl) (λ _.
+    if (eqb m openParenMark) (λ _. goes refl) (λ _.
+    if (eqb m openBracketMark) (λ _. goes refl) (λ _.
+    if (eqb m andMark) (λ _. goes refl) (λ _.
+    if (eqb m andAndMark) (λ _. goes refl) (λ _.
+    if (eqb m dotDotMark) (λ e. dotted s text q e) (λ _.
+    if (eqb m dotDotEqMark) (λ _. ranges s q (readTo (upToHead (inclusive q))) (λ l. refl)) (λ _.
+    stops)))))))))))))
 
 uppers :
-    (text : List ℕ) (own : Option ℕ) (h : RangeHead) (l : ForAlt) (m : ℕ) (q : Spot) (other : Reading)
-    → Places (q .from) own other → Places (q .from) own (bounds text h l m q other)
+    {dots : Bool} (text : List ℕ) (own : Option ℕ) (h : RangeHead) (l : ForAlt) (m : ℕ) (q : Spot) (z u : Reading)
+    → Judges (q .from) own (eqb m integerMark) dots z u
+    → Judges (q .from) own (eqb m integerMark) dots (bounds (strictly text) h l m q z) (bounds (loosely text) h l m q u)
 unfolding bounds isFailed
-uppers text own h l m q other o =
-    if (eqb m trueMark) (goes refl)
-    (if (eqb m falseMark) (goes refl)
-    (if (eqb m integerMark) (fits text false q (goes refl))
-    (if (eqb m minusMark) (goes refl)
-    o)))
+uppers text own h l m q z u o =
+    if (eqb m trueMark) (λ _. goes refl) (λ _.
+    if (eqb m falseMark) (λ _. goes refl) (λ _.
+    if (eqb m integerMark) (λ e. fits text false q e (goes refl)) (λ _.
+    if (eqb m minusMark) (λ _. goes refl) (λ _.
+    o))))
 
-paths : (own : Option ℕ) (p : NamePath) (s : ForPlain) (m : ℕ) (q : Spot) → Places (q .from) own (behindPath p s m q)
+paths :
+    {int dots : Bool} (own : Option ℕ) (p : NamePath) (s : ForPlain) (m : ℕ) (q : Spot)
+    → Judges (q .from) own int dots (behindPath p s m q) (behindPath p s m q)
 unfolding behindPath isFailed
 paths own p s m q =
-    if (eqb m pathSepMark) (goes refl)
-    (if (eqb m openParenMark) (goes refl)
-    (if (eqb m openBraceMark) (goes refl)
-    (if (eqb m dotDotMark) (ranges s q (readFrom (place p) q) (λ l. goes refl))
-    (if (eqb m dotDotEqMark) (ranges s q (readTo (fromHead (place p) (inclusive q))) (λ l. goes refl))
-    stops))))
+    if (eqb m pathSepMark) (λ _. goes refl) (λ _.
+    if (eqb m openParenMark) (λ _. goes refl) (λ _.
+    if (eqb m openBraceMark) (λ _. goes refl) (λ _.
+    if (eqb m dotDotMark) (λ _. ranges s q (readFrom (place p) q) (λ l. refl)) (λ _.
+    if (eqb m dotDotEqMark) (λ _. ranges s q (readTo (fromHead (place p) (inclusive q))) (λ l. refl)) (λ _.
+    stops)))))
 
-fields : (own : Option ℕ) (f : RecordField) (h : RecordHead) (fs : RecordFields) (s : ForPlain) (m : ℕ) (q : Spot) → Places (q .from) own (behindField f h fs s m q)
+fields :
+    {int dots : Bool} (own : Option ℕ) (f : RecordField) (h : RecordHead) (fs : RecordFields) (s : ForPlain) (m : ℕ) (q : Spot)
+    → Judges (q .from) own int dots (behindField f h fs s m q) (behindField f h fs s m q)
 unfolding behindField isFailed
-fields own f h fs s m q = if (eqb m commaMark) (goes refl) (if (eqb m closeBraceMark) (goes refl) stops)
+fields own f h fs s m q = if (eqb m commaMark) (λ _. goes refl) (λ _. if (eqb m closeBraceMark) (λ _. goes refl) (λ _. stops))
 
-finishes : (own : Option ℕ) (o : ForPattern) (m : ℕ) (q : Spot) → Places (q .from) own (ends o m q)
+finishes : {int dots : Bool} (own : Option ℕ) (o : ForPattern) (m : ℕ) (q : Spot) → Judges (q .from) own int dots (ends o m q) (ends o m q)
 unfolding ends isFailed
 finishes own wholeText m q = stops
-finishes own (forItem h is s) m q = if (eqb m (closer h)) (goes refl) stops
+finishes own (forItem h is s) m q = if (eqb m (closer h)) (λ _. goes refl) (λ _. stops)
 finishes own (forField h fs key c s) m q = stops
 
-negatives : (own : Option ℕ) (i : BoundPlace) (v : LiteralPattern) (here : ℕ) → Places here own (negativeIn i v)
+negatives : {int dots : Bool} (own : Option ℕ) (i : BoundPlace) (v : LiteralPattern) (here : ℕ) → Judges here own int dots (negativeIn i v) (negativeIn i v)
 unfolding negativeIn isFailed
 negatives own (atStart s) v here = goes refl
 negatives own (atEnd h l) v here = goes refl
@@ -178,59 +234,80 @@ unfolding rangeOf upwardAt
 not-upward (upToHead d) b = refl
 not-upward (fromHead a d) b = refl
 
-on-mark : (r : Reading) (text : List ℕ) (m : ℕ) (q : Spot) → Places (q .from) (ownAt r) (onMark text r m q)
+-- a rest that may not stand has the place
+rests :
+    {int dots : Bool} (d : Spot) (l : ForAlt) (text : List ℕ) (m : ℕ) (q : Spot)
+    → Judges (q .from) (some (d .from)) int dots
+    (cond (restStands (strictly text) l m) (after (strictly text) (closeAlt (plain (rest d)) l) m q) (failed (d .from)))
+    (cond (restStands (loosely text) l m) (after (loosely text) (closeAlt (plain (rest d)) l) m q) (failed (d .from)))
+unfolding restStands upwardAt
+rests {int} {dots} d l text m q = by (fitsRest (roomIn l) && not (eqb m orMark))
+  where
+    by :
+        (b : Bool) → Judges (q .from) (some (d .from)) int dots
+        (cond (b || false) (after (strictly text) (closeAlt (plain (rest d)) l) m q) (failed (d .from)))
+        (cond (b || true) (after (loosely text) (closeAlt (plain (rest d)) l) m q) (failed (d .from)))
+    by true = closes _ text (some (d .from)) m q (shut-alt l (plain (rest d)) refl)
+    by false = at-own (d .from) _ refl
+
+on-mark :
+    (r : Reading) (text : List ℕ) (m : ℕ) (q : Spot)
+    → Judges (q .from) (ownAt r) (eqb m integerMark) (eqb m dotDotMark) (onMark (strictly text) r m q) (onMark (loosely text) r m q)
 unfolding onMark ownAt isFailed upwardAt
-on-mark (begin o) text m q = if (eqb m orMark) (goes refl) (if (follows m) (finishes none o m q) (begins text none (anyAlt (firstAlt none o)) m q))
+on-mark (begin o) text m q =
+    if (eqb m orMark) (λ _. goes refl) (λ _. if (follows m) (λ _. finishes none o m q) (λ _. begins text none (anyAlt (firstAlt none o)) m q))
 on-mark (expect s) text m q = begins text none s m q
-on-mark (readAmp a s) text m q = if (eqb m mutMark) (goes refl) (begins text none (behindAmp a none s) m q)
-on-mark (readRef i r) text m q = if (eqb m mutMark) (goes refl) stops
+on-mark (readAmp a s) text m q = if (eqb m mutMark) (λ _. goes refl) (λ _. begins text none (behindAmp a none s) m q)
+on-mark (readRef i r) text m q = if (eqb m mutMark) (λ _. goes refl) (λ _. stops)
 on-mark (readMut i r u) text m q = stops
 on-mark (readName n s) text m q =
-    if (follows m) (closes _ none m q (shut-plain s (ident (bareName n)))) (if (eqb m bindMark) (goes refl) (paths none (segment n) s m q))
-on-mark (readBound b s) text m q = if (follows m) (closes _ none m q (shut-plain s (ident b))) (if (eqb m bindMark) (goes refl) stops)
-on-mark (readPath p c n s) text m q = if (follows m) (closes _ none m q (shut-plain s (path p c n))) (paths none (inside p c n) s m q)
+    if (follows m) (λ _. closes _ text none m q (shut-plain s (ident (bareName n)))) (λ _.
+    if (eqb m bindMark) (λ _. goes refl) (λ _. paths none (segment n) s m q))
+on-mark (readBound b s) text m q =
+    if (follows m) (λ _. closes _ text none m q (shut-plain s (ident b))) (λ _. if (eqb m bindMark) (λ _. goes refl) (λ _. stops))
+on-mark (readPath p c n s) text m q = if (follows m) (λ _. closes _ text none m q (shut-plain s (path p c n))) (λ _. paths none (inside p c n) s m q)
 on-mark (readSep p c i) text m q = stops
-on-mark (readMinus c i) text m q = if (eqb m integerMark) (fits text true q (negatives none i (negative c q) (q .from))) stops
+on-mark (readMinus c i) text m q =
+    if (eqb m integerMark) (λ e. fits text true q e (negatives none i (negative c q) (q .from))) (λ _. stops)
 on-mark (readLiteral v s) text m q =
-    if (follows m) (closes _ none m q (shut-plain s (literal v)))
-    (if (eqb m dotDotMark) (ranges s q (readFrom (constant v) q) (λ l. goes refl))
-    (if (eqb m dotDotEqMark) (ranges s q (readTo (fromHead (constant v) (inclusive q))) (λ l. goes refl))
-    stops))
-on-mark (readDots d l) text m q =
-    uppers text (some (d .from)) (upToHead (exclusive d)) l m q _
-    (if (fitsRest (roomIn l) && not (eqb m orMark)) (closes _ (some (d .from)) m q (shut-alt l (plain (rest d)) refl)) at-own)
+    if (follows m) (λ _. closes _ text none m q (shut-plain s (literal v))) (λ _.
+    if (eqb m dotDotMark) (λ _. ranges s q (readFrom (constant v) q) (λ l. refl)) (λ _.
+    if (eqb m dotDotEqMark) (λ _. ranges s q (readTo (fromHead (constant v) (inclusive q))) (λ l. refl)) (λ _.
+    stops)))
+on-mark (readDots d l) text m q = uppers text (some (d .from)) (upToHead (exclusive d)) l m q _ _ (rests d l text m q)
 on-mark (readFrom a d l) text m q =
-    uppers text (some (boundAt a)) (fromHead a (exclusive d)) l m q _
-    (if (follows m) (behinds _ _ (some (boundAt a)) m q (λ at e. open-upward l a d at e)) stops)
-on-mark (readTo h l) text m q = uppers text none h l m q _ stops
+    uppers text (some (boundAt a)) (fromHead a (exclusive d)) l m q _ _
+    (if (follows m) (λ _. behinds _ text _ (some (boundAt a)) m q (λ at e. open-upward l a d at e)) (λ _. stops))
+on-mark (readTo h l) text m q = uppers text none h l m q _ _ stops
 on-mark (readToPath p h l) text m q =
-    if (follows m) (closes _ none m q (shut-alt l (rangeOf h (place p)) (not-upward h (place p)))) (if (eqb m pathSepMark) (goes refl) stops)
-on-mark (readAlt c) text m q = behinds (c .waiting) (c .pattern) (openAt (c .pattern)) m q (λ at e. e)
+    if (follows m) (λ _. closes _ text none m q (shut-alt l (rangeOf h (place p)) (not-upward h (place p)))) (λ _.
+    if (eqb m pathSepMark) (λ _. goes refl) (λ _. stops))
+on-mark (readAlt c) text m q = behinds (c .waiting) text (c .pattern) (openAt (c .pattern)) m q (λ at e. e)
 on-mark (readBrace h fs s) text m q =
-    if (eqb m closeBraceMark) (goes refl)
-    (if (eqb m dotDotMark) (goes refl)
-    (if (eqb m integerMark) (fits text false q (goes refl))
-    (if (eqb m refMark) (goes refl)
-    (if (eqb m mutMark) (goes refl)
-    stops))))
-on-mark (readLabel n h fs s) text m q = if (eqb m colonMark) (goes refl) (fields none (short (bareName n)) h fs s m q)
-on-mark (readIndex i h fs s) text m q = if (eqb m colonMark) (goes refl) stops
+    if (eqb m closeBraceMark) (λ _. goes refl) (λ _.
+    if (eqb m dotDotMark) (λ _. goes refl) (λ _.
+    if (eqb m integerMark) (λ e. fits text false q e (goes refl)) (λ _.
+    if (eqb m refMark) (λ _. goes refl) (λ _.
+    if (eqb m mutMark) (λ _. goes refl) (λ _.
+    stops)))))
+on-mark (readLabel n h fs s) text m q = if (eqb m colonMark) (λ _. goes refl) (λ _. fields none (short (bareName n)) h fs s m q)
+on-mark (readIndex i h fs s) text m q = if (eqb m colonMark) (λ _. goes refl) (λ _. stops)
 on-mark (readField f h fs s) text m q = fields none f h fs s m q
-on-mark (readEtc d h fs s) text m q = if (eqb m closeBraceMark) (goes refl) stops
+on-mark (readEtc d h fs s) text m q = if (eqb m closeBraceMark) (λ _. goes refl) (λ _. stops)
 on-mark (done p e) text m q = stops
-on-mark (failed at) text m q = at-own
+on-mark (failed at) text m q = at-own at _ refl
 
-named-goes : (i : NamePlace) (b : BoundName) (own : Option ℕ) (here : ℕ) → Places here own (namedIn i b)
+named-goes : (i : NamePlace) (b : BoundName) (own : Option ℕ) (here : ℕ) → Judges here own false false (namedIn i b) (namedIn i b)
 unfolding namedIn isFailed
 named-goes (inPattern s) b own here = goes refl
 named-goes (inRecord h fs s) b own here = goes refl
 
-path-goes : (i : BoundPlace) (p : NamePath) (c : Spot) (n : Identifier) (own : Option ℕ) (here : ℕ) → Places here own (pathIn i p c n)
+path-goes : (i : BoundPlace) (p : NamePath) (c : Spot) (n : Identifier) (own : Option ℕ) (here : ℕ) → Judges here own false false (pathIn i p c n) (pathIn i p c n)
 unfolding pathIn isFailed
 path-goes (atStart s) p c n own here = goes refl
 path-goes (atEnd h l) p c n own here = goes refl
 
-on-name : (r : Reading) (n : Identifier) → Places (n .spot .from) (ownAt r) (onName r n)
+on-name : (r : Reading) (n : Identifier) → Judges (n .spot .from) (ownAt r) false false (onName r n) (onName r n)
 unfolding onName ownAt isFailed
 on-name (begin o) n = goes refl
 on-name (expect s) n = goes refl
@@ -254,9 +331,9 @@ on-name (readIndex i h fs s) n = stops
 on-name (readField x h fs s) n = stops
 on-name (readEtc d h fs s) n = stops
 on-name (done p e) n = stops
-on-name (failed at) n = at-own
+on-name (failed at) n = at-own at _ refl
 
-on-scalar : (r : Reading) (v : ℕ) (q : Spot) → Places (q .from) (ownAt r) (onScalar r v q)
+on-scalar : (r : Reading) (v : ℕ) (q : Spot) → Judges (q .from) (ownAt r) false false (onScalar r v q) (onScalar r v q)
 unfolding onScalar ownAt isFailed
 on-scalar (begin o) v q = goes refl
 on-scalar (expect s) v q = goes refl
@@ -280,11 +357,13 @@ on-scalar (readIndex i h fs s) v q = stops
 on-scalar (readField x h fs s) v q = stops
 on-scalar (readEtc d h fs s) v q = stops
 on-scalar (done p e) v q = stops
-on-scalar (failed at) v q = at-own
+on-scalar (failed at) v q = at-own at _ refl
 
--- a step fails at its token, or at the place of what is read last
-pub failing-at : (t : Lexeme) (text : List ℕ) (r : Reading) (at : ℕ) → step text r t ≡ failed at → (at ≡ lexemeAt t) ⊎ (ownAt r ≡ some at)
-unfolding step lexemeAt
-failing-at (name n) text r at e = on-name r n .place at e
-failing-at (scalar v q) text r at e = on-scalar r v q .place at e
-failing-at (mark m q) text r at e = on-mark r text m q .place at e
+-- a step, and the same by the grammar alone
+pub judged :
+    (t : Lexeme) (text : List ℕ) (r : Reading)
+    → Judges (lexemeAt t) (ownAt r) (isInteger t) (isDots t) (step (strictly text) r t) (step (loosely text) r t)
+unfolding step lexemeAt isInteger isDots
+judged (name n) text r = on-name r n
+judged (scalar v q) text r = on-scalar r v q
+judged (mark m q) text r = on-mark r text m q

@@ -6,10 +6,10 @@ use mathlib.Core.Option.{Option, none, some}
 use mathlib.Core.List.{List, [], _∷_}
 use lib.Dec.{eqb}
 use borrow.Author.Tests.{eqb-true}
-use Rattle.pattern_grammar.specs.Lexemes.{Spot, Identifier, Lexeme, name, scalar, mark, endMark, commaMark, orMark, closeBraceMark, refMark, mutMark, trueMark, falseMark, underscoreMark, integerMark, minusMark, openParenMark, openBracketMark, openBraceMark, andMark, andAndMark, bindMark, colonMark, pathSepMark, dotDotMark, dotDotEqMark, follows, wide}
+use Rattle.pattern_grammar.specs.Lexemes.{Spot, Identifier, Lexeme, name, scalar, mark, endMark, commaMark, orMark, closeBraceMark, refMark, mutMark, trueMark, falseMark, underscoreMark, integerMark, minusMark, openParenMark, openBracketMark, openBraceMark, andMark, andAndMark, bindMark, colonMark, pathSepMark, dotDotMark, dotDotEqMark, follows, wide, Source}
 use Rattle.pattern_grammar.specs.Trees.{NamePath, segment, inside, LiteralPattern, trueAt, falseAt, character, whole, negative, RangeBound, constant, place, RangeDots, exclusive, inclusive, BoundName, bareName, Ampersand, single, double, ListHead, tupleAt, structAt, sliceAt, closer, RecordHead, FieldKey, index, label, Pattern, alone, or, NoTopAlt, plain, between, upward, upTo, WithoutRange, literal, ident, identAt, wild, rest, reference, path, list, listTo, recordOf, recordTo, recordDots, noItem, item, RecordFields, noField, field, RecordField, keyed, short, pathT, literalT, boundT, dotsT, optionalT, nameT, ampersandT, headT, recordT, keyT, patternT, altT, plainT, itemsT, fieldsT, fieldT}
 use Rattle.pattern_grammar.specs.Admitted.{fitsRest, openItemAt}
-use Rattle.pattern_grammar.specs.Machine.{ForPlain, anyAlt, behindAmp, ForAlt, firstAlt, nextAlt, behindAt, ForPattern, wholeText, forItem, forField, Closed, RangeHead, upToHead, fromHead, rangeOf, BoundPlace, atStart, atEnd, NamePlace, inPattern, inRecord, Reading, begin, expect, readAmp, readRef, readMut, readName, readBound, readPath, readSep, readMinus, readLiteral, readDots, readFrom, readTo, readToPath, readAlt, readBrace, readLabel, readIndex, readField, readEtc, done, failed, closeAlt, closePlain, after, roomIn, ranged, fitting, unlessOpen, starts, bounds, behind, ends, namedIn, pathIn, negativeIn, behindPath, behindField, onMark, onName, onScalar, step, isFailed}
+use Rattle.pattern_grammar.specs.Machine.{ForPlain, anyAlt, behindAmp, ForAlt, firstAlt, nextAlt, behindAt, ForPattern, wholeText, forItem, forField, Closed, RangeHead, upToHead, fromHead, rangeOf, BoundPlace, atStart, atEnd, NamePlace, inPattern, inRecord, Reading, begin, expect, readAmp, readRef, readMut, readName, readBound, readPath, readSep, readMinus, readLiteral, readDots, readFrom, readTo, readToPath, readAlt, readBrace, readLabel, readIndex, readField, readEtc, done, failed, closeAlt, closePlain, after, roomIn, ranged, fitting, unlessOpen, starts, bounds, behind, ends, namedIn, pathIn, negativeIn, behindPath, behindField, onMark, onName, onScalar, step, isFailed, dotsIn}
 
 -- the tokens that what is open has taken, before others
 unfoldable mutual
@@ -116,7 +116,7 @@ pub close-range :
 close-range h b l k = close-alt l (rangeOf h b) k ∙ ap (saidAlt l) (range-written h b k)
 
 pub fitting-says :
-    {go : Reading} {k ts : List Lexeme} (text : List ℕ) (minus : Bool) (q : Spot) → Says go k ts → Says (fitting text minus q go) k ts
+    {go : Reading} {k ts : List Lexeme} (text : Source) (minus : Bool) (q : Spot) → Says go k ts → Says (fitting text minus q go) k ts
 unfolding fitting
 fitting-says text minus q h = by-test (wide text minus q) fails h
 
@@ -132,7 +132,12 @@ unfolding ranged
 ranged-says (anyAlt l) q go k w h = h l
 ranged-says (behindAmp a m s) q go k w h = fails
 
-pub starts-says : (text : List ℕ) (s : ForPlain) (m : ℕ) (q : Spot) (k : List Lexeme) → Says (starts text s m q) k (saidPlain s (mark m q ∷ k))
+dots-says : (s : ForPlain) (text : Source) (q : Spot) (k : List Lexeme) → Says (dotsIn text s q) k (saidPlain s (mark dotDotMark q ∷ k))
+unfolding dotsIn said saidPlain plainT
+dots-says (anyAlt l) text q k = so refl
+dots-says (behindAmp a m s) text q k = by-test (text .strict) fails (so (close-plain (behindAmp a m s) (rest q) k))
+
+pub starts-says : (text : Source) (s : ForPlain) (m : ℕ) (q : Spot) (k : List Lexeme) → Says (starts text s m q) k (saidPlain s (mark m q ∷ k))
 unfolding starts said saidName saidBound saidPlain rangeT ampersandT dotsT literalT headT itemsT optionalT plainT
 starts-says text s m q k =
     let w : Lexeme → List Lexeme = λ t. saidPlain s (t ∷ k) in
@@ -147,13 +152,13 @@ starts-says text s m q k =
     (by-mark m openBracketMark q w (so refl)
     (by-mark m andMark q w (so refl)
     (by-mark m andAndMark q w (so refl)
-    (by-mark m dotDotMark q w (ranged-says s q (readDots q) k (λ x. saidPlain x (mark dotDotMark q ∷ k)) (λ l. so refl))
+    (by-mark m dotDotMark q w (dots-says s text q k)
     (by-mark m dotDotEqMark q w
     (ranged-says s q (readTo (upToHead (inclusive q))) k (λ x. saidPlain x (mark dotDotEqMark q ∷ k)) (λ l. so refl))
     fails))))))))))))
 
 pub bounds-says :
-    (text : List ℕ) (h : RangeHead) (l : ForAlt) (m : ℕ) (q : Spot) (other : Reading) (k : List Lexeme)
+    (text : Source) (h : RangeHead) (l : ForAlt) (m : ℕ) (q : Spot) (other : Reading) (k : List Lexeme)
     → Says other k (saidAlt l (rangeT h (mark m q ∷ k))) → Says (bounds text h l m q other) k (saidAlt l (rangeT h (mark m q ∷ k)))
 unfolding bounds said saidBound boundT literalT
 bounds-says text h l m q other k o =
@@ -165,20 +170,20 @@ bounds-says text h l m q other k o =
     o)))
 
 pub behind-says :
-    (o : ForPattern) (p : Pattern) (m : ℕ) (q : Spot) (k : List Lexeme) → Says (behind p o m q) k (saidOpen o (patternT p (mark m q ∷ k)))
+    (o : ForPattern) (text : Source) (p : Pattern) (m : ℕ) (q : Spot) (k : List Lexeme) → Says (behind text p o m q) k (saidOpen o (patternT p (mark m q ∷ k)))
 unfolding behind said saidPlain saidRecord patternT
-behind-says wholeText p m q k =
+behind-says wholeText text p m q k =
     let w : Lexeme → List Lexeme = λ t. patternT p (t ∷ k) in
     by-mark m orMark q w (so refl)
     (by-mark m endMark q w (so refl)
     fails)
-behind-says (forItem h is s) p m q k =
+behind-says (forItem h is s) text p m q k =
     let w : Lexeme → List Lexeme = λ t. saidOpen (forItem h is s) (patternT p (t ∷ k)) in
     by-mark m orMark q w (so refl)
-    (by-mark m commaMark q w (unless-says (openItemAt h p) (so refl))
-    (by-mark m (closer h) q w (unless-says (openItemAt h p) (so (close-plain s (listTo h is p q) k)))
+    (by-mark m commaMark q w (unless-says (openItemAt text h p) (so refl))
+    (by-mark m (closer h) q w (unless-says (openItemAt text h p) (so (close-plain s (listTo h is p q) k)))
     fails))
-behind-says (forField h fs key c s) p m q k =
+behind-says (forField h fs key c s) text p m q k =
     let w : Lexeme → List Lexeme = λ t. saidOpen (forField h fs key c s) (patternT p (t ∷ k)) in
     by-mark m orMark q w (so refl)
     (by-mark m commaMark q w (so refl)
@@ -186,15 +191,15 @@ behind-says (forField h fs key c s) p m q k =
     fails))
 
 pub after-plain :
-    (w : WithoutRange) (s : ForPlain) (m : ℕ) (q : Spot) (k : List Lexeme) → Says (after (closePlain w s) m q) k (saidPlain s (plainT w (mark m q ∷ k)))
+    (text : Source) (w : WithoutRange) (s : ForPlain) (m : ℕ) (q : Spot) (k : List Lexeme) → Says (after text (closePlain w s) m q) k (saidPlain s (plainT w (mark m q ∷ k)))
 unfolding said
-after-plain w s m q k =
-    moved (close-plain s w (mark m q ∷ k)) (behind-says (closePlain w s .waiting) (closePlain w s .pattern) m q k)
+after-plain text w s m q k =
+    moved (close-plain s w (mark m q ∷ k)) (behind-says (closePlain w s .waiting) text (closePlain w s .pattern) m q k)
 
 pub after-alt :
-    (a : NoTopAlt) (l : ForAlt) (m : ℕ) (q : Spot) (k : List Lexeme) → Says (after (closeAlt a l) m q) k (saidAlt l (altT a (mark m q ∷ k)))
+    (text : Source) (a : NoTopAlt) (l : ForAlt) (m : ℕ) (q : Spot) (k : List Lexeme) → Says (after text (closeAlt a l) m q) k (saidAlt l (altT a (mark m q ∷ k)))
 unfolding said
-after-alt a l m q k = moved (close-alt l a (mark m q ∷ k)) (behind-says (closeAlt a l .waiting) (closeAlt a l .pattern) m q k)
+after-alt text a l m q k = moved (close-alt l a (mark m q ∷ k)) (behind-says (closeAlt a l .waiting) text (closeAlt a l .pattern) m q k)
 
 pub path-says :
     (p : NamePath) (s : ForPlain) (m : ℕ) (q : Spot) (k : List Lexeme) → Says (behindPath p s m q) k (saidPlain s (pathT p (mark m q ∷ k)))

@@ -6,10 +6,10 @@ use mathlib.Core.Logic.{_⊎_, inl, inr}
 use mathlib.Core.Option.{Option, none, some}
 use mathlib.Core.List.{List, [], _∷_, _++_}
 use lib.Dec.{eqb}
-use Rattle.pattern_grammar.specs.Lexemes.{Spot, Identifier, Lexeme, name, scalar, mark, endMark, commaMark, orMark, closeBraceMark, refMark, mutMark, trueMark, falseMark, underscoreMark, integerMark, minusMark, openParenMark, openBracketMark, openBraceMark, andMark, andAndMark, bindMark, colonMark, pathSepMark, dotDotMark, dotDotEqMark, follows, wide}
+use Rattle.pattern_grammar.specs.Lexemes.{Spot, Identifier, Lexeme, name, scalar, mark, endMark, commaMark, orMark, closeBraceMark, refMark, mutMark, trueMark, falseMark, underscoreMark, integerMark, minusMark, openParenMark, openBracketMark, openBraceMark, andMark, andAndMark, bindMark, colonMark, pathSepMark, dotDotMark, dotDotEqMark, follows, wide, Source}
 use Rattle.pattern_grammar.specs.Trees.{NamePath, segment, inside, LiteralPattern, trueAt, falseAt, character, whole, negative, RangeBound, constant, place, RangeDots, exclusive, inclusive, BoundName, bareName, Ampersand, single, double, ListHead, tupleAt, structAt, sliceAt, closer, RecordHead, FieldKey, index, label, Pattern, alone, or, NoTopAlt, plain, between, upward, upTo, WithoutRange, literal, ident, identAt, wild, rest, reference, path, list, listTo, recordOf, recordTo, recordDots, noItem, item, RecordFields, noField, field, RecordField, keyed, short, pathT, literalT, boundT, dotsT, optionalT, nameT, ampersandT, headT, recordT, keyT, patternT, altT, plainT, itemsT, fieldsT, fieldT}
 use Rattle.pattern_grammar.specs.Admitted.{fitsRest, admitted}
-use Rattle.pattern_grammar.specs.Machine.{ForPlain, anyAlt, behindAmp, ForAlt, firstAlt, nextAlt, behindAt, ForPattern, wholeText, forItem, forField, Closed, RangeHead, upToHead, fromHead, rangeOf, BoundPlace, atStart, atEnd, NamePlace, inPattern, inRecord, Reading, begin, expect, readAmp, readRef, readMut, readName, readBound, readPath, readSep, readMinus, readLiteral, readDots, readFrom, readTo, readToPath, readAlt, readBrace, readLabel, readIndex, readField, readEtc, done, failed, closeAlt, closePlain, after, roomIn, ranged, fitting, unlessOpen, starts, bounds, behind, ends, namedIn, pathIn, negativeIn, behindPath, behindField, onMark, onName, onScalar, step, feed, fresh, isFailed}
+use Rattle.pattern_grammar.specs.Machine.{ForPlain, anyAlt, behindAmp, ForAlt, firstAlt, nextAlt, behindAt, ForPattern, wholeText, forItem, forField, Closed, RangeHead, upToHead, fromHead, rangeOf, BoundPlace, atStart, atEnd, NamePlace, inPattern, inRecord, Reading, begin, expect, readAmp, readRef, readMut, readName, readBound, readPath, readSep, readMinus, readLiteral, readDots, readFrom, readTo, readToPath, readAlt, readBrace, readLabel, readIndex, readField, readEtc, done, failed, closeAlt, closePlain, after, roomIn, ranged, fitting, unlessOpen, starts, bounds, behind, ends, namedIn, pathIn, negativeIn, behindPath, behindField, onMark, onName, onScalar, step, feed, fresh, isFailed, restStands}
 use Rattle.pattern_grammar.proofs.Complete.{complete}
 use Rattle.pattern_grammar.proofs.Said.{saidPlain, saidAlt, saidOpen, rangeT, saidRecord, saidBound, saidName, said, Says, so, fails, by-test, by-mark, moved, close-alt, close-plain, range-written, close-range, fitting-says, ranged-says, starts-says, bounds-says, behind-says, after-plain, after-alt, path-says, field-says, ends-says}
 
@@ -30,7 +30,7 @@ unfolding pathIn said saidBound pathT
 inside-says (atStart s) p c n k = so refl
 inside-says (atEnd h l) p c n k = so refl
 
-pub mark-says : (r : Reading) (text : List ℕ) (m : ℕ) (q : Spot) (k : List Lexeme) → Says (onMark text r m q) k (said r (mark m q ∷ k))
+pub mark-says : (r : Reading) (text : Source) (m : ℕ) (q : Spot) (k : List Lexeme) → Says (onMark text r m q) k (said r (mark m q ∷ k))
 unfolding onMark said saidPlain saidName saidBound saidRecord rangeT plainT pathT literalT boundT dotsT nameT optionalT ampersandT keyT
 mark-says (begin o) text m q k =
     by-mark m orMark q (λ t. saidOpen o (t ∷ k)) (so refl)
@@ -41,11 +41,11 @@ mark-says (readAmp a s) text m q k =
 mark-says (readRef i r) text m q k = by-mark m mutMark q (λ t. saidName i (mark refMark r ∷ t ∷ k)) (so refl) fails
 mark-says (readMut i r u) text m q k = fails
 mark-says (readName n s) text m q k =
-    by-test (follows m) (after-plain (ident (bareName n)) s m q k)
+    by-test (follows m) (after-plain text (ident (bareName n)) s m q k)
     (by-mark m bindMark q (λ t. saidPlain s (name n ∷ t ∷ k)) (so refl) (path-says (segment n) s m q k))
 mark-says (readBound b s) text m q k =
-    by-test (follows m) (after-plain (ident b) s m q k) (by-mark m bindMark q (λ t. saidPlain s (nameT b (t ∷ k))) (so refl) fails)
-mark-says (readPath p c n s) text m q k = by-test (follows m) (after-plain (path p c n) s m q k) (path-says (inside p c n) s m q k)
+    by-test (follows m) (after-plain text (ident b) s m q k) (by-mark m bindMark q (λ t. saidPlain s (nameT b (t ∷ k))) (so refl) fails)
+mark-says (readPath p c n s) text m q k = by-test (follows m) (after-plain text (path p c n) s m q k) (path-says (inside p c n) s m q k)
 mark-says (readSep p c i) text m q k = fails
 mark-says (readMinus c i) text m q k =
     by-mark m integerMark q (λ t. saidBound i (mark minusMark c ∷ t ∷ k))
@@ -53,7 +53,7 @@ mark-says (readMinus c i) text m q k =
     fails
 mark-says (readLiteral v s) text m q k =
     let w : Lexeme → List Lexeme = λ t. saidPlain s (literalT v (t ∷ k)) in
-    by-test (follows m) (after-plain (literal v) s m q k)
+    by-test (follows m) (after-plain text (literal v) s m q k)
     (by-mark m dotDotMark q w
     (ranged-says s q (readFrom (constant v) q) k (λ x. saidPlain x (literalT v (mark dotDotMark q ∷ k))) (λ l. so refl))
     (by-mark m dotDotEqMark q w
@@ -61,17 +61,17 @@ mark-says (readLiteral v s) text m q k =
     fails))
 mark-says (readDots d l) text m q k =
     bounds-says text (upToHead (exclusive d)) l m q _ k
-    (by-test (fitsRest (roomIn l) && not (eqb m orMark)) (after-alt (plain (rest d)) l m q k) fails)
+    (by-test (restStands text l m) (after-alt text (plain (rest d)) l m q k) fails)
 mark-says (readFrom a d l) text m q k =
-    bounds-says text (fromHead a (exclusive d)) l m q _ k (by-test (follows m) (after-alt (upward a d) l m q k) fails)
+    bounds-says text (fromHead a (exclusive d)) l m q _ k (by-test (follows m) (after-alt text (upward a d) l m q k) fails)
 mark-says (readTo h l) text m q k = bounds-says text h l m q _ k fails
 mark-says (readToPath p h l) text m q k =
-    by-test (follows m) (moved (ap (saidAlt l) (written h)) (after-alt (rangeOf h (place p)) l m q k))
+    by-test (follows m) (moved (ap (saidAlt l) (written h)) (after-alt text (rangeOf h (place p)) l m q k))
     (by-mark m pathSepMark q (λ t. saidAlt l (rangeT h (pathT p (t ∷ k)))) (so refl) fails)
   where
     written : (g : RangeHead) → altT (rangeOf g (place p)) (mark m q ∷ k) ≡ rangeT g (pathT p (mark m q ∷ k))
     written g = range-written g (place p) (mark m q ∷ k)
-mark-says (readAlt c) text m q k = behind-says (c .waiting) (c .pattern) m q k
+mark-says (readAlt c) text m q k = behind-says (c .waiting) text (c .pattern) m q k
 mark-says (readBrace h fs s) text m q k =
     let w : Lexeme → List Lexeme = λ t. saidRecord h fs s (t ∷ k) in
     by-mark m closeBraceMark q w (so (close-plain s (recordOf h fs q) k))
@@ -142,25 +142,25 @@ scalar-says (done p e) v q k = fails
 scalar-says (failed at) v q k = fails
 
 -- a step that goes on adds its token
-pub step-says : (t : Lexeme) (text : List ℕ) (r : Reading) (k : List Lexeme) → Says (step text r t) k (said r (t ∷ k))
+pub step-says : (t : Lexeme) (text : Source) (r : Reading) (k : List Lexeme) → Says (step text r t) k (said r (t ∷ k))
 unfolding step
 step-says (name n) text r k = name-says r n k
 step-says (scalar v q) text r k = scalar-says r v q k
 step-says (mark m q) text r k = mark-says r text m q k
 
-step-failed : (t : Lexeme) (text : List ℕ) (at : ℕ) → step text (failed at) t ≡ failed at
+step-failed : (t : Lexeme) (text : Source) (at : ℕ) → step text (failed at) t ≡ failed at
 unfolding step onMark onName onScalar
 step-failed (name n) text at = refl
 step-failed (scalar v q) text at = refl
 step-failed (mark m q) text at = refl
 
 -- what has failed stays so
-pub feed-failed : (ts : List Lexeme) (text : List ℕ) (at : ℕ) → feed text ts (failed at) ≡ failed at
+pub feed-failed : (ts : List Lexeme) (text : Source) (at : ℕ) → feed text ts (failed at) ≡ failed at
 unfolding feed
 feed-failed [] text at = refl
 feed-failed (t ∷ ts) text at = ap (feed text ts) (step-failed t text at) ∙ feed-failed ts text at
 
-pub feed-join : (ts us : List Lexeme) (text : List ℕ) (r : Reading) → feed text (ts ++ us) r ≡ feed text us (feed text ts r)
+pub feed-join : (ts us : List Lexeme) (text : Source) (r : Reading) → feed text (ts ++ us) r ≡ feed text us (feed text ts r)
 unfolding feed
 feed-join [] us text r = refl
 feed-join (t ∷ ts) us text r = feed-join ts us text (step text r t)
@@ -192,7 +192,7 @@ goes-or-not (done p e) = inl refl
 goes-or-not (failed at) = inr (at, refl)
 
 -- what goes on in the end has not failed before
-pub feed-going : (ts : List Lexeme) (text : List ℕ) (r : Reading) → isFailed (feed text ts r) ≡ false → isFailed r ≡ false
+pub feed-going : (ts : List Lexeme) (text : Source) (r : Reading) → isFailed (feed text ts r) ≡ false → isFailed r ≡ false
 unfolding isFailed
 feed-going ts text r e = go (goes-or-not r)
   where
@@ -200,20 +200,20 @@ feed-going ts text r e = go (goes-or-not r)
     go (inl g) = g
     go (inr f) = absurd (true≢false (sym (ap isFailed (ap (feed text ts) (f .1) ∙ feed-failed ts text (f .0))) ∙ e))
 
-pub feed-says : (ts : List Lexeme) (text : List ℕ) (r : Reading) → isFailed (feed text ts r) ≡ false → said (feed text ts r) [] ≡ said r ts
+pub feed-says : (ts : List Lexeme) (text : Source) (r : Reading) → isFailed (feed text ts r) ≡ false → said (feed text ts r) [] ≡ said r ts
 unfolding feed
 feed-says [] text r e = refl
 feed-says (t ∷ ts) text r e =
     feed-says ts text (step text r t) e ∙ step-says t text r ts .written (feed-going ts text (step text r t) e)
 
 -- what is read is written as the tokens read
-pub sound : (text : List ℕ) (ts : List Lexeme) (p : Pattern) (e : Spot) → feed text ts fresh ≡ done p e → patternT p (mark endMark e ∷ []) ≡ ts
+pub sound : (text : Source) (ts : List Lexeme) (p : Pattern) (e : Spot) → feed text ts fresh ≡ done p e → patternT p (mark endMark e ∷ []) ≡ ts
 unfolding said saidPlain isFailed
 sound text ts p e h = sym (ap (λ r. said r []) h) ∙ feed-says ts text fresh (ap isFailed h)
 
 -- with a token that fails no admitted text begins as the text does so far
 pub none-begins :
-    (text : List ℕ) (ts us : List Lexeme) (at : ℕ) (p : Pattern) (e : Spot)
+    (text : Source) (ts us : List Lexeme) (at : ℕ) (p : Pattern) (e : Spot)
     → feed text ts fresh ≡ failed at → admitted text p ≡ true → ¬ (patternT p (mark endMark e ∷ []) ≡ ts ++ us)
 unfolding isFailed
 none-begins text ts us at p e f a w =

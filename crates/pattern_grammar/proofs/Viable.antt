@@ -5,9 +5,9 @@ use mathlib.Core.Bool.{Bool, true, false, true≢false}
 use mathlib.Core.Option.{Option, none, some}
 use mathlib.Core.List.{List, [], _∷_, _++_}
 use Rattle.decimal_values.specs.Values.{decimalFrom, inHalves, integerValue}
-use Rattle.pattern_grammar.specs.Lexemes.{Spot, Identifier, Lexeme, name, scalar, mark, endMark, orMark, closeBraceMark, trueMark, underscoreMark, integerMark, colonMark, wide, over}
+use Rattle.pattern_grammar.specs.Lexemes.{Spot, Identifier, Lexeme, name, scalar, mark, endMark, orMark, closeBraceMark, trueMark, underscoreMark, integerMark, colonMark, wide, over, Source}
 use Rattle.pattern_grammar.specs.Trees.{NamePath, inside, trueAt, negative, RangeBound, constant, place, exclusive, BoundName, bareName, ListHead, tupleAt, structAt, sliceAt, closer, index, Pattern, alone, or, NoTopAlt, plain, between, upward, upTo, WithoutRange, literal, ident, identAt, wild, reference, path, listTo, recordOf, recordTo, recordDots, ListItems, keyed, short, patternT}
-use Rattle.pattern_grammar.specs.Admitted.{openItemAt, openAt, admitted}
+use Rattle.pattern_grammar.specs.Admitted.{openItemAt, openAt, whenStrict, admitted}
 use Rattle.pattern_grammar.specs.Machine.{ForPlain, anyAlt, behindAmp, ForAlt, firstAlt, nextAlt, behindAt, ForPattern, wholeText, forItem, forField, closedIn, RangeHead, upToHead, fromHead, rangeOf, BoundPlace, atStart, atEnd, NamePlace, inPattern, inRecord, Reading, begin, expect, readAmp, readRef, readMut, readName, readBound, readPath, readSep, readMinus, readLiteral, readDots, readFrom, readTo, readToPath, readAlt, readBrace, readLabel, readIndex, readField, readEtc, done, failed, closeAlt, closePlain, fitting, unlessOpen, starts, bounds, behind, namedIn, pathIn, negativeIn, behindField, onMark, onName, step, feed, fresh, isFailed}
 use Rattle.pattern_grammar.proofs.Sound.{feed-join, sound}
 
@@ -35,20 +35,20 @@ unfoldable mutual
   endOpen (forField h fs key c s) = mark closeBraceMark nowhere ∷ endPlain s
 
 -- the tokens lead a reading to the whole text
-pub record Finishes (text : List ℕ) (ts : List Lexeme) (r : Reading) : Type 0 where
+pub record Finishes (text : Source) (ts : List Lexeme) (r : Reading) : Type 0 where
   pub tree : Pattern
   pub end : Spot
   pub reads : feed text ts r ≡ done tree end
 
 from-here :
-    {text : List ℕ} {ts us : List Lexeme} {r u : Reading} → feed text ts r ≡ feed text us u → Finishes text us u → Finishes text ts r
+    {text : Source} {ts us : List Lexeme} {r u : Reading} → feed text ts r ≡ feed text us u → Finishes text us u → Finishes text ts r
 from-here e f = record { tree = f .tree; end = f .end; reads = e ∙ f .reads }
 
-stepped : {text : List ℕ} (m : ℕ) (q : Spot) (ts : List Lexeme) (r : Reading) → Finishes text ts (onMark text r m q) → Finishes text (mark m q ∷ ts) r
+stepped : {text : Source} (m : ℕ) (q : Spot) (ts : List Lexeme) (r : Reading) → Finishes text ts (onMark text r m q) → Finishes text (mark m q ∷ ts) r
 unfolding feed step
 stepped m q ts r f = record { tree = f .tree; end = f .end; reads = f .reads }
 
-named : {text : List ℕ} (n : Identifier) (ts : List Lexeme) (r : Reading) → Finishes text ts (onName r n) → Finishes text (name n ∷ ts) r
+named : {text : Source} (n : Identifier) (ts : List Lexeme) (r : Reading) → Finishes text ts (onName r n) → Finishes text (name n ∷ ts) r
 unfolding feed step
 named n ts r f = record { tree = f .tree; end = f .end; reads = f .reads }
 
@@ -57,27 +57,27 @@ mutual
   unfolding endPlain feed step
 
   or-plain :
-      (s : ForPlain) (text : List ℕ) (r u : Reading)
+      (s : ForPlain) (text : Source) (r u : Reading)
       → onMark text r orMark nowhere ≡ onMark text u orMark nowhere → feed text (endPlain s) r ≡ feed text (endPlain s) u
   or-plain (anyAlt l) text r u e = or-alt l text r u e
   or-plain (behindAmp a m s) text r u e = or-plain s text r u e
 
   or-alt :
-      (l : ForAlt) (text : List ℕ) (r u : Reading)
+      (l : ForAlt) (text : Source) (r u : Reading)
       → onMark text r orMark nowhere ≡ onMark text u orMark nowhere → feed text (endAlt l) r ≡ feed text (endAlt l) u
   or-alt (firstAlt lead o) text r u e = ap (feed text (mark underscoreMark nowhere ∷ endOpen o)) e
   or-alt (nextAlt p c o) text r u e = ap (feed text (mark underscoreMark nowhere ∷ endOpen o)) e
   or-alt (behindAt b c s) text r u e = or-plain s text r u e
 
 shut-item :
-    (h : ListHead) (p : Pattern) (c : Spot) (a : NoTopAlt) (is : ListItems) (s : ForPlain)
-    → behind (or p c a) (forItem h is s) (closer h) nowhere ≡ readAlt (closePlain (listTo h is (or p c a) nowhere) s)
-unfolding behind closer openItemAt openAt unlessOpen
-shut-item (tupleAt q) p c a is s = refl
-shut-item (structAt n q) p c a is s = refl
-shut-item (sliceAt q) p c a is s = refl
+    (h : ListHead) (p : Pattern) (c : Spot) (a : NoTopAlt) (is : ListItems) (s : ForPlain) (text : Source)
+    → behind text (or p c a) (forItem h is s) (closer h) nowhere ≡ readAlt (closePlain (listTo h is (or p c a) nowhere) s)
+unfolding behind closer openItemAt openAt whenStrict unlessOpen
+shut-item (tupleAt q) p c a is s text = refl
+shut-item (structAt n q) p c a is s text = refl
+shut-item (sliceAt q) p c a is s text = refl
 
-bar-wild : (o : ForPattern) (p : Pattern) (text : List ℕ) → feed text (mark orMark nowhere ∷ mark underscoreMark nowhere ∷ endOpen o) (readAlt (closedIn p o)) ≡ feed text (endOpen o) (readAlt (closedIn (or p nowhere (plain (wild nowhere))) o))
+bar-wild : (o : ForPattern) (p : Pattern) (text : Source) → feed text (mark orMark nowhere ∷ mark underscoreMark nowhere ∷ endOpen o) (readAlt (closedIn p o)) ≡ feed text (endOpen o) (readAlt (closedIn (or p nowhere (plain (wild nowhere))) o))
 unfolding feed step onMark behind starts closeAlt
 bar-wild wholeText p text = refl
 bar-wild (forItem h is s) p text = refl
@@ -86,20 +86,20 @@ bar-wild (forField h fs key c s) p text = refl
 mutual
   unfolding endPlain closeAlt feed step onMark behind
 
-  pub finish-plain : (s : ForPlain) (text : List ℕ) (w : WithoutRange) → Finishes text (endPlain s) (readAlt (closePlain w s))
+  pub finish-plain : (s : ForPlain) (text : Source) (w : WithoutRange) → Finishes text (endPlain s) (readAlt (closePlain w s))
   finish-plain (anyAlt l) text w = finish-alt l text (plain w)
   finish-plain (behindAmp a m s) text w = finish-plain s text (reference a m w)
 
-  pub finish-alt : (l : ForAlt) (text : List ℕ) (a : NoTopAlt) → Finishes text (endAlt l) (readAlt (closeAlt a l))
+  pub finish-alt : (l : ForAlt) (text : Source) (a : NoTopAlt) → Finishes text (endAlt l) (readAlt (closeAlt a l))
   finish-alt (firstAlt lead o) text a = from-here (bar-wild o (alone lead a) text) (finish-open o text (alone lead a) nowhere (plain (wild nowhere)))
   finish-alt (nextAlt p c o) text a = from-here (bar-wild o (or p c a) text) (finish-open o text (or p c a) nowhere (plain (wild nowhere)))
   finish-alt (behindAt b c s) text a = finish-plain s text (identAt b c a)
 
   pub finish-open :
-      (o : ForPattern) (text : List ℕ) (p : Pattern) (c : Spot) (a : NoTopAlt) → Finishes text (endOpen o) (readAlt (closedIn (or p c a) o))
+      (o : ForPattern) (text : Source) (p : Pattern) (c : Spot) (a : NoTopAlt) → Finishes text (endOpen o) (readAlt (closedIn (or p c a) o))
   finish-open wholeText text p c a = record { tree = or p c a; end = nowhere; reads = refl }
   finish-open (forItem h is s) text p c a =
-      from-here (ap (feed text (endPlain s)) (shut-item h p c a is s)) (finish-plain s text (listTo h is (or p c a) nowhere))
+      from-here (ap (feed text (endPlain s)) (shut-item h p c a is s text)) (finish-plain s text (listTo h is (or p c a) nowhere))
   finish-open (forField h fs key d s) text p c a = stepped _ _ _ _ (finish-plain s text (recordTo h fs (keyed key d (or p c a)) nowhere))
 
 -- tokens that complete a reading
@@ -133,7 +133,7 @@ completion (done p e) = []
 completion (failed at) = []
 
 -- a reading that has not failed can be completed
-pub viable : (r : Reading) (text : List ℕ) → isFailed r ≡ false → Finishes text (completion r) r
+pub viable : (r : Reading) (text : Source) → isFailed r ≡ false → Finishes text (completion r) r
 unfolding completion isFailed endPlain feed step onMark onName starts bounds behindField behind namedIn pathIn negativeIn fitting wide over integerValue inHalves decimalFrom closeAlt rangeOf
 viable (begin o) text e = stepped _ _ _ _ (finish-alt (firstAlt none o) text (plain (wild nowhere)))
 viable (expect s) text e = stepped _ _ _ _ (finish-plain s text (wild nowhere))

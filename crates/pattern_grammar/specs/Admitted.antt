@@ -3,8 +3,7 @@
 use Prim.Native.Nat.{ℕ}
 use mathlib.Core.Bool.{Bool, true, false, not, cond, _&&_, _||_}
 use mathlib.Core.Option.{Option, none, some}
-use mathlib.Core.List.{List}
-use Rattle.pattern_grammar.specs.Lexemes.{Spot, Identifier, wide}
+use Rattle.pattern_grammar.specs.Lexemes.{Spot, Identifier, Source, wide}
 use Rattle.pattern_grammar.specs.Trees.{NamePath, segment, inside, LiteralPattern, trueAt, falseAt, character, whole, negative, RangeBound, constant, place, RangeDots, BoundName, Ampersand, ListHead, tupleAt, structAt, sliceAt, RecordHead, FieldKey, index, label, Pattern, alone, or, NoTopAlt, plain, between, upward, upTo, WithoutRange, literal, ident, identAt, wild, rest, reference, path, list, listTo, recordOf, recordTo, recordDots, ListItems, noItem, item, RecordFields, noField, field, RecordField, keyed, short}
 
 -- the first byte of a path, of a literal and of a bound
@@ -36,12 +35,17 @@ openAt (alone none a) = upwardAt a
 openAt (alone (some q) a) = none
 openAt (or p c a) = none
 
+-- a position that matters
+unfoldable pub whenStrict : Source → Option ℕ → Option ℕ
+whenStrict text none = none
+whenStrict text (some at) = cond (text .strict) (some at) none
+
 -- and of such an item in a slice: "RangeFromPattern cannot be used as a top-level pattern for subpatterns in slice patterns"
 -- (patterns.range.constraint-slice)
-unfoldable pub openItemAt : ListHead → Pattern → Option ℕ
-openItemAt (tupleAt q) p = none
-openItemAt (structAt n q) p = none
-openItemAt (sliceAt q) p = openAt p
+unfoldable pub openItemAt : Source → ListHead → Pattern → Option ℕ
+openItemAt text (tupleAt q) p = none
+openItemAt text (structAt n q) p = none
+openItemAt text (sliceAt q) p = whenStrict text (openAt p)
 
 -- the rest that may stand here: none, `..` alone, or one that is alone or behind a name and `@`
 pub data RestRoom : Type 0 where
@@ -136,18 +140,18 @@ mutIsOwn none w = not (beginsMut w)
 mutIsOwn (some q) w = true
 
 -- integers in 16 bytes
-unfoldable pub literalFits : List ℕ → LiteralPattern → Bool
+unfoldable pub literalFits : Source → LiteralPattern → Bool
 literalFits text (trueAt q) = true
 literalFits text (falseAt q) = true
 literalFits text (character v q) = true
 literalFits text (whole q) = not (wide text false q)
 literalFits text (negative c q) = not (wide text true q)
 
-unfoldable pub boundFits : List ℕ → RangeBound → Bool
+unfoldable pub boundFits : Source → RangeBound → Bool
 boundFits text (constant l) = literalFits text l
 boundFits text (place p) = true
 
-unfoldable pub keyFits : List ℕ → FieldKey → Bool
+unfoldable pub keyFits : Source → FieldKey → Bool
 keyFits text (index q) = not (wide text false q)
 keyFits text (label n) = true
 
@@ -155,44 +159,44 @@ unfoldable pub isNone : Option ℕ → Bool
 isNone none = true
 isNone (some at) = false
 
--- a tree of a text is admitted, with such a room for a rest
+-- a tree of a text is admitted, with such a room for a rest; by the grammar alone a rest may stand anywhere
 unfoldable mutual
-  pub patternOk : List ℕ → RestRoom → Pattern → Bool
+  pub patternOk : Source → RestRoom → Pattern → Bool
   patternOk text room (alone lead a) = altOk text (behindBar lead room) a
   patternOk text room (or p c a) = patternOk text noRest p && altOk text noRest a
 
-  pub altOk : List ℕ → RestRoom → NoTopAlt → Bool
+  pub altOk : Source → RestRoom → NoTopAlt → Bool
   altOk text room (plain w) = plainOk text room w
   altOk text room (between a d b) = boundFits text a && boundFits text b
   altOk text room (upward a q) = boundFits text a
   altOk text room (upTo d b) = boundFits text b
 
-  pub plainOk : List ℕ → RestRoom → WithoutRange → Bool
+  pub plainOk : Source → RestRoom → WithoutRange → Bool
   plainOk text room (literal l) = literalFits text l
   plainOk text room (ident b) = true
   plainOk text room (identAt b c a) = altOk text (behindName room) a
   plainOk text room (wild q) = true
-  plainOk text room (rest q) = fitsRest room
+  plainOk text room (rest q) = fitsRest room || not (text .strict)
   plainOk text room (reference a m w) = mutIsOwn m w && plainOk text noRest w
   plainOk text room (path p c n) = true
   plainOk text room (list h is q) = itemsOk text h is
-  plainOk text room (listTo h is p q) = itemsOk text h is && (patternOk text (itemRoom h is) p && isNone (openItemAt h p))
+  plainOk text room (listTo h is p q) = itemsOk text h is && (patternOk text (itemRoom h is) p && isNone (openItemAt text h p))
   plainOk text room (recordOf h fs q) = fieldsOk text fs
   plainOk text room (recordTo h fs f q) = fieldsOk text fs && fieldOk text f
   plainOk text room (recordDots h fs d q) = fieldsOk text fs
 
-  pub itemsOk : List ℕ → ListHead → ListItems → Bool
+  pub itemsOk : Source → ListHead → ListItems → Bool
   itemsOk text h noItem = true
-  itemsOk text h (item is p c) = itemsOk text h is && (patternOk text (itemRoom h is) p && isNone (openItemAt h p))
+  itemsOk text h (item is p c) = itemsOk text h is && (patternOk text (itemRoom h is) p && isNone (openItemAt text h p))
 
-  pub fieldsOk : List ℕ → RecordFields → Bool
+  pub fieldsOk : Source → RecordFields → Bool
   fieldsOk text noField = true
   fieldsOk text (field fs f c) = fieldsOk text fs && fieldOk text f
 
-  pub fieldOk : List ℕ → RecordField → Bool
+  pub fieldOk : Source → RecordField → Bool
   fieldOk text (keyed key c p) = keyFits text key && patternOk text noRest p
   fieldOk text (short b) = true
 
 -- a whole pattern of a text
-unfoldable pub admitted : List ℕ → Pattern → Bool
+unfoldable pub admitted : Source → Pattern → Bool
 admitted text p = patternOk text noRest p

@@ -1,6 +1,6 @@
 -- Tokens as the grammar's machine takes them: names, chars, and marks, which are numbers. Assumes nothing: these are definitions.
 use Prim.Native.Nat.{ℕ, _+_, _*_, _^_}
-use mathlib.Core.Bool.{Bool, true, false, cond}
+use mathlib.Core.Bool.{Bool, true, false, cond, _&&_}
 use mathlib.Core.List.{List}
 use lib.Dec.{ltb}
 use Rattle.pattern_words.specs.declared.Kind.{Kind}
@@ -146,6 +146,19 @@ unfoldable pub over : Bool → Value → Bool
 over behindMinus Over = true
 over behindMinus (Halves low high) = cond behindMinus (ltb (2 ^ 127) (high * 2 ^ 64 + low)) false
 
--- the integer that stands here in a text is
-unfoldable pub wide : List ℕ → Bool → Spot → Bool
-wide text behindMinus q = over behindMinus (integerValue text (q .from) (q .to))
+-- a text, and whether it is judged by more than the grammar alone
+pub record Source : Type 0 where
+  pub bytes : List ℕ
+  pub strict : Bool
+
+-- by all that is refused with 19
+abbrev pub strictly : List ℕ → Source
+strictly text = record { bytes = text; strict = true }
+
+-- by the grammar alone
+abbrev pub loosely : List ℕ → Source
+loosely text = record { bytes = text; strict = false }
+
+-- the integer that stands here in a text is over 16 bytes, and that matters
+unfoldable pub wide : Source → Bool → Spot → Bool
+wide text behindMinus q = over behindMinus (integerValue (text .bytes) (q .from) (q .to)) && text .strict

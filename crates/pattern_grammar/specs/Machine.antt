@@ -1,10 +1,10 @@
 -- The machine that reads a pattern token by token, over a stack of what is open. Assumes nothing: these are definitions.
 use Prim.Native.Nat.{ℕ}
-use mathlib.Core.Bool.{Bool, true, false, not, cond, _&&_}
+use mathlib.Core.Bool.{Bool, true, false, not, cond, _&&_, _||_}
 use mathlib.Core.Option.{Option, none, some}
 use mathlib.Core.List.{List, [], _∷_}
 use lib.Dec.{eqb}
-use Rattle.pattern_grammar.specs.Lexemes.{Spot, Identifier, Lexeme, name, scalar, mark, endMark, commaMark, orMark, closeBraceMark, refMark, mutMark, trueMark, falseMark, underscoreMark, integerMark, minusMark, openParenMark, openBracketMark, openBraceMark, andMark, andAndMark, bindMark, colonMark, pathSepMark, dotDotMark, dotDotEqMark, follows, lexemeAt, wide}
+use Rattle.pattern_grammar.specs.Lexemes.{Spot, Identifier, Lexeme, name, scalar, mark, endMark, commaMark, orMark, closeBraceMark, refMark, mutMark, trueMark, falseMark, underscoreMark, integerMark, minusMark, openParenMark, openBracketMark, openBraceMark, andMark, andAndMark, bindMark, colonMark, pathSepMark, dotDotMark, dotDotEqMark, follows, lexemeAt, Source, wide}
 use Rattle.pattern_grammar.specs.Trees.{NamePath, segment, inside, LiteralPattern, trueAt, falseAt, character, whole, negative, RangeBound, constant, place, RangeDots, exclusive, inclusive, BoundName, bareName, Ampersand, single, double, ListHead, tupleAt, structAt, sliceAt, closer, RecordHead, FieldKey, index, label, Pattern, alone, or, NoTopAlt, plain, between, upward, upTo, WithoutRange, literal, ident, identAt, wild, rest, reference, path, list, listTo, recordOf, recordTo, recordDots, ListItems, noItem, item, RecordFields, noField, field, RecordField, keyed, short}
 use Rattle.pattern_grammar.specs.Admitted.{RestRoom, noRest, fitsRest, behindName, behindBar, itemRoom, openItemAt}
 
@@ -122,8 +122,17 @@ unfoldable pub ranged : ForPlain → Spot → (ForAlt → Reading) → Reading
 ranged (anyAlt l) q go = go l
 ranged (behindAmp a m s) q go = failed (q .from)
 
+-- `..` with which a pattern begins: behind `&` it is a rest, whatever follows
+unfoldable pub dotsIn : Source → ForPlain → Spot → Reading
+dotsIn text (anyAlt l) q = readDots q l
+dotsIn text (behindAmp a m s) q = cond (text .strict) (failed (q .from)) (readAlt (closePlain (rest q) (behindAmp a m s)))
+
+-- a rest may stand here, before a mark: there is room for it, and no other alternative
+unfoldable pub restStands : Source → ForAlt → ℕ → Bool
+restStands text l m = fitsRest (roomIn l) && not (eqb m orMark) || not (text .strict)
+
 -- an integer in 16 bytes
-unfoldable pub fitting : List ℕ → Bool → Spot → Reading → Reading
+unfoldable pub fitting : Source → Bool → Spot → Reading → Reading
 fitting text behindMinus q go = cond (wide text behindMinus q) (failed (q .from)) go
 
 -- an item that is no `a..` in a slice
@@ -132,7 +141,7 @@ unlessOpen none go = go
 unlessOpen (some at) go = failed at
 
 -- a mark with which a pattern begins
-unfoldable pub starts : List ℕ → ForPlain → ℕ → Spot → Reading
+unfoldable pub starts : Source → ForPlain → ℕ → Spot → Reading
 starts text s m q =
     cond (eqb m refMark) (readRef (inPattern s) q)
     (cond (eqb m mutMark) (readMut (inPattern s) none q)
@@ -145,12 +154,12 @@ starts text s m q =
     (cond (eqb m openBracketMark) (begin (forItem (sliceAt q) noItem s))
     (cond (eqb m andMark) (readAmp (single q) s)
     (cond (eqb m andAndMark) (readAmp (double q) s)
-    (cond (eqb m dotDotMark) (ranged s q (readDots q))
+    (cond (eqb m dotDotMark) (dotsIn text s q)
     (cond (eqb m dotDotEqMark) (ranged s q (readTo (upToHead (inclusive q))))
     (failed (q .from))))))))))))))
 
 -- a mark with which the upper bound of a range begins, or what comes of another
-unfoldable pub bounds : List ℕ → RangeHead → ForAlt → ℕ → Spot → Reading → Reading
+unfoldable pub bounds : Source → RangeHead → ForAlt → ℕ → Spot → Reading → Reading
 bounds text h l m q other =
     cond (eqb m trueMark) (readAlt (closeAlt (rangeOf h (constant (trueAt q))) l))
     (cond (eqb m falseMark) (readAlt (closeAlt (rangeOf h (constant (falseAt q))) l))
@@ -159,24 +168,24 @@ bounds text h l m q other =
     other)))
 
 -- a mark behind a whole alternative
-unfoldable pub behind : Pattern → ForPattern → ℕ → Spot → Reading
-behind p wholeText m q =
+unfoldable pub behind : Source → Pattern → ForPattern → ℕ → Spot → Reading
+behind text p wholeText m q =
     cond (eqb m orMark) (expect (anyAlt (nextAlt p q wholeText)))
     (cond (eqb m endMark) (done p q)
     (failed (q .from)))
-behind p (forItem h is s) m q =
+behind text p (forItem h is s) m q =
     cond (eqb m orMark) (expect (anyAlt (nextAlt p q (forItem h is s))))
-    (cond (eqb m commaMark) (unlessOpen (openItemAt h p) (begin (forItem h (item is p q) s)))
-    (cond (eqb m (closer h)) (unlessOpen (openItemAt h p) (readAlt (closePlain (listTo h is p q) s)))
+    (cond (eqb m commaMark) (unlessOpen (openItemAt text h p) (begin (forItem h (item is p q) s)))
+    (cond (eqb m (closer h)) (unlessOpen (openItemAt text h p) (readAlt (closePlain (listTo h is p q) s)))
     (failed (q .from))))
-behind p (forField h fs key c s) m q =
+behind text p (forField h fs key c s) m q =
     cond (eqb m orMark) (expect (anyAlt (nextAlt p q (forField h fs key c s))))
     (cond (eqb m commaMark) (readBrace h (field fs (keyed key c p) q) s)
     (cond (eqb m closeBraceMark) (readAlt (closePlain (recordTo h fs (keyed key c p) q) s))
     (failed (q .from))))
 
-abbrev pub after : Closed → ℕ → Spot → Reading
-after c m q = behind (c .pattern) (c .waiting) m q
+abbrev pub after : Source → Closed → ℕ → Spot → Reading
+after text c m q = behind text (c .pattern) (c .waiting) m q
 
 -- a closing mark where a pattern may begin
 unfoldable pub ends : ForPattern → ℕ → Spot → Reading
@@ -217,7 +226,7 @@ behindField f h fs s m q =
     (failed (q .from)))
 
 -- a mark, by what is read last
-unfoldable pub onMark : List ℕ → Reading → ℕ → Spot → Reading
+unfoldable pub onMark : Source → Reading → ℕ → Spot → Reading
 onMark text (begin o) m q =
     cond (eqb m orMark) (expect (anyAlt (firstAlt (some q) o)))
     (cond (follows m) (ends o m q)
@@ -227,32 +236,32 @@ onMark text (readAmp a s) m q = cond (eqb m mutMark) (expect (behindAmp a (some 
 onMark text (readRef i r) m q = cond (eqb m mutMark) (readMut i (some r) q) (failed (q .from))
 onMark text (readMut i r u) m q = failed (q .from)
 onMark text (readName n s) m q =
-    cond (follows m) (after (closePlain (ident (bareName n)) s) m q)
+    cond (follows m) (after text (closePlain (ident (bareName n)) s) m q)
     (cond (eqb m bindMark) (expect (anyAlt (behindAt (bareName n) q s)))
     (behindPath (segment n) s m q))
 onMark text (readBound b s) m q =
-    cond (follows m) (after (closePlain (ident b) s) m q)
+    cond (follows m) (after text (closePlain (ident b) s) m q)
     (cond (eqb m bindMark) (expect (anyAlt (behindAt b q s)))
     (failed (q .from)))
-onMark text (readPath p c n s) m q = cond (follows m) (after (closePlain (path p c n) s) m q) (behindPath (inside p c n) s m q)
+onMark text (readPath p c n s) m q = cond (follows m) (after text (closePlain (path p c n) s) m q) (behindPath (inside p c n) s m q)
 onMark text (readSep p c i) m q = failed (q .from)
 onMark text (readMinus c i) m q = cond (eqb m integerMark) (fitting text true q (negativeIn i (negative c q))) (failed (q .from))
 onMark text (readLiteral v s) m q =
-    cond (follows m) (after (closePlain (literal v) s) m q)
+    cond (follows m) (after text (closePlain (literal v) s) m q)
     (cond (eqb m dotDotMark) (ranged s q (readFrom (constant v) q))
     (cond (eqb m dotDotEqMark) (ranged s q (readTo (fromHead (constant v) (inclusive q))))
     (failed (q .from))))
 onMark text (readDots d l) m q =
     bounds text (upToHead (exclusive d)) l m q
-    (cond (fitsRest (roomIn l) && not (eqb m orMark)) (after (closeAlt (plain (rest d)) l) m q) (failed (d .from)))
+    (cond (restStands text l m) (after text (closeAlt (plain (rest d)) l) m q) (failed (d .from)))
 onMark text (readFrom a d l) m q =
-    bounds text (fromHead a (exclusive d)) l m q (cond (follows m) (after (closeAlt (upward a d) l) m q) (failed (q .from)))
+    bounds text (fromHead a (exclusive d)) l m q (cond (follows m) (after text (closeAlt (upward a d) l) m q) (failed (q .from)))
 onMark text (readTo h l) m q = bounds text h l m q (failed (q .from))
 onMark text (readToPath p h l) m q =
-    cond (follows m) (after (closeAlt (rangeOf h (place p)) l) m q)
+    cond (follows m) (after text (closeAlt (rangeOf h (place p)) l) m q)
     (cond (eqb m pathSepMark) (readSep p q (atEnd h l))
     (failed (q .from)))
-onMark text (readAlt c) m q = after c m q
+onMark text (readAlt c) m q = after text c m q
 onMark text (readBrace h fs s) m q =
     cond (eqb m closeBraceMark) (readAlt (closePlain (recordOf h fs q) s))
     (cond (eqb m dotDotMark) (readEtc q h fs s)
@@ -321,13 +330,13 @@ onScalar (done p e) v q = failed (q .from)
 onScalar (failed at) v q = failed at
 
 -- one token
-unfoldable pub step : List ℕ → Reading → Lexeme → Reading
+unfoldable pub step : Source → Reading → Lexeme → Reading
 step text r (name n) = onName r n
 step text r (scalar v q) = onScalar r v q
 step text r (mark m q) = onMark text r m q
 
 -- token by token
-unfoldable pub feed : List ℕ → List Lexeme → Reading → Reading
+unfoldable pub feed : Source → List Lexeme → Reading → Reading
 feed text [] r = r
 feed text (t ∷ ts) r = feed text ts (step text r t)
 

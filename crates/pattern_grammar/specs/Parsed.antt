@@ -6,7 +6,7 @@ use lib.Dec.{eqb, ltb}
 use lib.ListN.{length}
 use Rattle.pattern_tokens.specs.declared.Token.{Token}
 use Rattle.pattern_tokens.specs.Tokens.{tokenAt}
-use Rattle.pattern_grammar.specs.Lexemes.{Spot, Lexeme, name, scalar, mark, endMark, failsMark, lexeme}
+use Rattle.pattern_grammar.specs.Lexemes.{Spot, Lexeme, name, scalar, mark, endMark, failsMark, lexeme, strictly}
 use Rattle.pattern_grammar.specs.Machine.{Reading, failed, feed, fresh}
 
 -- a token behind which there is none: the text's end, or what is no token of a pattern
@@ -27,4 +27,4 @@ lexemes text = lexemesFrom (suc (length text)) text 0
 
 -- "text over 16,384 bytes is 19 at 16,384"; another is read
 unfoldable pub parsed : List ℕ → Reading
-parsed text = cond (ltb 16384 (length text)) (failed 16384) (feed text (lexemes text) fresh)
+parsed text = cond (ltb 16384 (length text)) (failed 16384) (feed (strictly text) (lexemes text) fresh)
