@@ -7,6 +7,7 @@ pub mod Viable
 pub mod Fine
 pub mod Kept
 pub mod Positions
+pub mod Settled
 pub mod Verdicts
 pub mod Progress
 pub mod Endings

@@ -39,30 +39,31 @@ ownAt (readEtc d h fs s) = none
 ownAt (done p e) = none
 ownAt (failed at) = some at
 
--- what a token may be
-unfoldable pub isInteger : Lexeme → Bool
-isInteger (name n) = false
-isInteger (scalar v q) = false
-isInteger (mark m q) = eqb m integerMark
+-- an integer over 16 bytes, or over what a minus before it leaves of them
+abbrev pub IsOver : List ℕ → Lexeme → Type 0
+IsOver text (name n) = ⊥
+IsOver text (scalar v q) = ⊥
+IsOver text (mark m q) = (eqb m integerMark ≡ true) × ((minus : Bool) × (over minus (integerValue text (q .from) (q .to)) ≡ true))
 
+-- `..`
 unfoldable pub isDots : Lexeme → Bool
 isDots (name n) = false
 isDots (scalar v q) = false
 isDots (mark m q) = eqb m dotDotMark
 
 -- why a step fails at a position: here, where it fails by the grammar alone too; here, at an integer; here, at a `..`; or at that place of its own
-pub data Why (here : ℕ) (own : Option ℕ) (int dots : Bool) (u : Reading) (at : ℕ) : Type 0 where
+pub data Why (here : ℕ) (own : Option ℕ) (int : Type 0) (dots : Bool) (u : Reading) (at : ℕ) : Type 0 where
   byGrammar : at ≡ here → isFailed u ≡ true → Why here own int dots u at
-  overWide : at ≡ here → int ≡ true → Why here own int dots u at
+  overWide : at ≡ here → int → Why here own int dots u at
   restBehind : at ≡ here → dots ≡ true → Why here own int dots u at
   ofOwn : own ≡ some at → Why here own int dots u at
 
 -- one reading, and the same by the grammar alone: where the first has not failed, they are alike
-pub record Judges (here : ℕ) (own : Option ℕ) (int dots : Bool) (z u : Reading) : Type 0 where
+pub record Judges (here : ℕ) (own : Option ℕ) (int : Type 0) (dots : Bool) (z u : Reading) : Type 0 where
   pub agree : isFailed z ≡ false → u ≡ z
   pub place : (at : ℕ) → z ≡ failed at → Why here own int dots u at
 
-goes : {here : ℕ} {own : Option ℕ} {int dots : Bool} {z : Reading} → isFailed z ≡ false → Judges here own int dots z z
+goes : {here : ℕ} {own : Option ℕ} {int : Type 0} {dots : Bool} {z : Reading} → isFailed z ≡ false → Judges here own int dots z z
 unfolding isFailed
 goes e = record { agree = λ _. refl; place = λ at f. absurd (false≢true (sym e ∙ ap isFailed f)) }
 
@@ -73,47 +74,47 @@ fails : (at : ℕ) → isFailed (failed at) ≡ false → ⊥
 unfolding isFailed
 fails at e = true≢false e
 
-stops : {here : ℕ} {own : Option ℕ} {int dots : Bool} → Judges here own int dots (failed here) (failed here)
+stops : {here : ℕ} {own : Option ℕ} {int : Type 0} {dots : Bool} → Judges here own int dots (failed here) (failed here)
 unfolding isFailed
 stops {here} = record { agree = λ e. absurd (fails here e); place = λ at f. byGrammar (same here at f) refl }
 
-at-own : {here : ℕ} {own : Option ℕ} {int dots : Bool} (at : ℕ) (u : Reading) → own ≡ some at → Judges here own int dots (failed at) u
+at-own : {here : ℕ} {own : Option ℕ} {int : Type 0} {dots : Bool} (at : ℕ) (u : Reading) → own ≡ some at → Judges here own int dots (failed at) u
 at-own at u e = record { agree = λ f. absurd (fails at f); place = λ b f. ofOwn (e ∙ ap some (sym (same at b f))) }
 
 if :
-    {here : ℕ} {own : Option ℕ} {int dots : Bool} {x y u v : Reading} (b : Bool)
+    {here : ℕ} {own : Option ℕ} {int : Type 0} {dots : Bool} {x y u v : Reading} (b : Bool)
     → (b ≡ true → Judges here own int dots x u) → (b ≡ false → Judges here own int dots y v)
     → Judges here own int dots (cond b x y) (cond b u v)
 if true h g = h refl
 if false h g = g refl
 
 fits :
-    {own : Option ℕ} {int dots : Bool} {z u : Reading} (text : List ℕ) (minus : Bool) (q : Spot)
-    → int ≡ true → Judges (q .from) own int dots z u
+    {own : Option ℕ} {int : Type 0} {dots : Bool} {z u : Reading} (text : List ℕ) (minus : Bool) (q : Spot)
+    → (over minus (integerValue text (q .from) (q .to)) ≡ true → int) → Judges (q .from) own int dots z u
     → Judges (q .from) own int dots (fitting (strictly text) minus q z) (fitting (loosely text) minus q u)
 unfolding fitting wide
-fits {own} {int} {dots} {z} {u} text minus q e h = by (over minus (integerValue text (q .from) (q .to)))
+fits {own} {int} {dots} {z} {u} text minus q e h = by (over minus (integerValue text (q .from) (q .to))) e
   where
-    by : (b : Bool) → Judges (q .from) own int dots (cond (b && true) (failed (q .from)) z) (cond (b && false) (failed (q .from)) u)
-    by true = record { agree = λ f. absurd (fails (q .from) f); place = λ at f. overWide (same (q .from) at f) e }
-    by false = h
+    by : (b : Bool) → (b ≡ true → int) → Judges (q .from) own int dots (cond (b && true) (failed (q .from)) z) (cond (b && false) (failed (q .from)) u)
+    by true g = record { agree = λ f. absurd (fails (q .from) f); place = λ at f. overWide (same (q .from) at f) (g refl) }
+    by false g = h
 
 ranges :
-    {own : Option ℕ} {int dots : Bool} (s : ForPlain) (q : Spot) (go : ForAlt → Reading)
+    {own : Option ℕ} {int : Type 0} {dots : Bool} (s : ForPlain) (q : Spot) (go : ForAlt → Reading)
     → ((l : ForAlt) → isFailed (go l) ≡ false) → Judges (q .from) own int dots (ranged s q go) (ranged s q go)
 unfolding ranged
 ranges (anyAlt l) q go h = goes (h l)
 ranges (behindAmp a m s) q go h = stops
 
 dotted :
-    {own : Option ℕ} {int dots : Bool} (s : ForPlain) (text : List ℕ) (q : Spot)
+    {own : Option ℕ} {int : Type 0} {dots : Bool} (s : ForPlain) (text : List ℕ) (q : Spot)
     → dots ≡ true → Judges (q .from) own int dots (dotsIn (strictly text) s q) (dotsIn (loosely text) s q)
 unfolding dotsIn isFailed
 dotted (anyAlt l) text q e = goes refl
 dotted (behindAmp a m s) text q e = record { agree = λ f. absurd (fails (q .from) f); place = λ at f. restBehind (same (q .from) at f) e }
 
 unless :
-    {here : ℕ} {own : Option ℕ} {int dots : Bool} (h : ListHead) (p : Pattern) (text : List ℕ) (z : Reading)
+    {here : ℕ} {own : Option ℕ} {int : Type 0} {dots : Bool} (h : ListHead) (p : Pattern) (text : List ℕ) (z : Reading)
     → ((at : ℕ) → openAt p ≡ some at → own ≡ some at) → isFailed z ≡ false
     → Judges here own int dots (unlessOpen (openItemAt (strictly text) h p) z) (unlessOpen (openItemAt (loosely text) h p) z)
 unfolding unlessOpen openItemAt whenStrict
@@ -150,7 +151,7 @@ open-upward (nextAlt p c o) a d at e = absurd (Option·none-ne-some at e)
 open-upward (behindAt b c s) a d at e = absurd (Option·none-ne-some at (sym (shut-plain s (identAt b c (upward a d))) ∙ e))
 
 behinds :
-    {int dots : Bool} (o : ForPattern) (text : List ℕ) (p : Pattern) (own : Option ℕ) (m : ℕ) (q : Spot)
+    {int : Type 0} {dots : Bool} (o : ForPattern) (text : List ℕ) (p : Pattern) (own : Option ℕ) (m : ℕ) (q : Spot)
     → ((at : ℕ) → openAt p ≡ some at → own ≡ some at)
     → Judges (q .from) own int dots (behind (strictly text) p o m q) (behind (loosely text) p o m q)
 unfolding behind isFailed
@@ -164,13 +165,13 @@ behinds (forField h fs key c s) text p own m q f =
     if (eqb m orMark) (λ _. goes refl) (λ _. if (eqb m commaMark) (λ _. goes refl) (λ _. if (eqb m closeBraceMark) (λ _. goes refl) (λ _. stops)))
 
 closes :
-    {int dots : Bool} (c : Closed) (text : List ℕ) (own : Option ℕ) (m : ℕ) (q : Spot)
+    {int : Type 0} {dots : Bool} (c : Closed) (text : List ℕ) (own : Option ℕ) (m : ℕ) (q : Spot)
     → openAt (c .pattern) ≡ none → Judges (q .from) own int dots (after (strictly text) c m q) (after (loosely text) c m q)
 closes c text own m q e = behinds (c .waiting) text (c .pattern) own m q (λ at f. absurd (Option·none-ne-some at (sym e ∙ f)))
 
 begins :
     (text : List ℕ) (own : Option ℕ) (s : ForPlain) (m : ℕ) (q : Spot)
-    → Judges (q .from) own (eqb m integerMark) (eqb m dotDotMark) (starts (strictly text) s m q) (starts (loosely text) s m q)
+    → Judges (q .from) own (IsOver text (mark m q)) (eqb m dotDotMark) (starts (strictly text) s m q) (starts (loosely text) s m q)
 unfolding starts isFailed
 begins text own s m q =
     if (eqb m refMark) (λ _. goes refl) (λ _.
@@ -178,7 +179,7 @@ begins text own s m q =
     if (eqb m trueMark) (λ _. goes refl) (λ _.
     if (eqb m falseMark) (λ _. goes refl) (λ _.
     if (eqb m underscoreMark) (λ _. goes refl) (λ _.
-    if (eqb m integerMark) (λ e. fits text false q e (goes refl)) (λ _.
+    if (eqb m integerMark) (λ e. fits text false q (λ o. (e, (false, o))) (goes refl)) (λ _.
     if (eqb m minusMark) (λ _. goes refl) (λ _.
     if (eqb m openParenMark) (λ _. goes refl) (λ _.
     if (eqb m openBracketMark) (λ _. goes refl) (λ _.
@@ -190,18 +191,18 @@ begins text own s m q =
 
 uppers :
     {dots : Bool} (text : List ℕ) (own : Option ℕ) (h : RangeHead) (l : ForAlt) (m : ℕ) (q : Spot) (z u : Reading)
-    → Judges (q .from) own (eqb m integerMark) dots z u
-    → Judges (q .from) own (eqb m integerMark) dots (bounds (strictly text) h l m q z) (bounds (loosely text) h l m q u)
+    → Judges (q .from) own (IsOver text (mark m q)) dots z u
+    → Judges (q .from) own (IsOver text (mark m q)) dots (bounds (strictly text) h l m q z) (bounds (loosely text) h l m q u)
 unfolding bounds isFailed
 uppers text own h l m q z u o =
     if (eqb m trueMark) (λ _. goes refl) (λ _.
     if (eqb m falseMark) (λ _. goes refl) (λ _.
-    if (eqb m integerMark) (λ e. fits text false q e (goes refl)) (λ _.
+    if (eqb m integerMark) (λ e. fits text false q (λ o. (e, (false, o))) (goes refl)) (λ _.
     if (eqb m minusMark) (λ _. goes refl) (λ _.
     o))))
 
 paths :
-    {int dots : Bool} (own : Option ℕ) (p : NamePath) (s : ForPlain) (m : ℕ) (q : Spot)
+    {int : Type 0} {dots : Bool} (own : Option ℕ) (p : NamePath) (s : ForPlain) (m : ℕ) (q : Spot)
     → Judges (q .from) own int dots (behindPath p s m q) (behindPath p s m q)
 unfolding behindPath isFailed
 paths own p s m q =
@@ -213,18 +214,18 @@ paths own p s m q =
     stops)))))
 
 fields :
-    {int dots : Bool} (own : Option ℕ) (f : RecordField) (h : RecordHead) (fs : RecordFields) (s : ForPlain) (m : ℕ) (q : Spot)
+    {int : Type 0} {dots : Bool} (own : Option ℕ) (f : RecordField) (h : RecordHead) (fs : RecordFields) (s : ForPlain) (m : ℕ) (q : Spot)
     → Judges (q .from) own int dots (behindField f h fs s m q) (behindField f h fs s m q)
 unfolding behindField isFailed
 fields own f h fs s m q = if (eqb m commaMark) (λ _. goes refl) (λ _. if (eqb m closeBraceMark) (λ _. goes refl) (λ _. stops))
 
-finishes : {int dots : Bool} (own : Option ℕ) (o : ForPattern) (m : ℕ) (q : Spot) → Judges (q .from) own int dots (ends o m q) (ends o m q)
+finishes : {int : Type 0} {dots : Bool} (own : Option ℕ) (o : ForPattern) (m : ℕ) (q : Spot) → Judges (q .from) own int dots (ends o m q) (ends o m q)
 unfolding ends isFailed
 finishes own wholeText m q = stops
 finishes own (forItem h is s) m q = if (eqb m (closer h)) (λ _. goes refl) (λ _. stops)
 finishes own (forField h fs key c s) m q = stops
 
-negatives : {int dots : Bool} (own : Option ℕ) (i : BoundPlace) (v : LiteralPattern) (here : ℕ) → Judges here own int dots (negativeIn i v) (negativeIn i v)
+negatives : {int : Type 0} {dots : Bool} (own : Option ℕ) (i : BoundPlace) (v : LiteralPattern) (here : ℕ) → Judges here own int dots (negativeIn i v) (negativeIn i v)
 unfolding negativeIn isFailed
 negatives own (atStart s) v here = goes refl
 negatives own (atEnd h l) v here = goes refl
@@ -236,7 +237,7 @@ not-upward (fromHead a d) b = refl
 
 -- a rest that may not stand has the place
 rests :
-    {int dots : Bool} (d : Spot) (l : ForAlt) (text : List ℕ) (m : ℕ) (q : Spot)
+    {int : Type 0} {dots : Bool} (d : Spot) (l : ForAlt) (text : List ℕ) (m : ℕ) (q : Spot)
     → Judges (q .from) (some (d .from)) int dots
     (cond (restStands (strictly text) l m) (after (strictly text) (closeAlt (plain (rest d)) l) m q) (failed (d .from)))
     (cond (restStands (loosely text) l m) (after (loosely text) (closeAlt (plain (rest d)) l) m q) (failed (d .from)))
@@ -252,7 +253,7 @@ rests {int} {dots} d l text m q = by (fitsRest (roomIn l) && not (eqb m orMark))
 
 on-mark :
     (r : Reading) (text : List ℕ) (m : ℕ) (q : Spot)
-    → Judges (q .from) (ownAt r) (eqb m integerMark) (eqb m dotDotMark) (onMark (strictly text) r m q) (onMark (loosely text) r m q)
+    → Judges (q .from) (ownAt r) (IsOver text (mark m q)) (eqb m dotDotMark) (onMark (strictly text) r m q) (onMark (loosely text) r m q)
 unfolding onMark ownAt isFailed upwardAt
 on-mark (begin o) text m q =
     if (eqb m orMark) (λ _. goes refl) (λ _. if (follows m) (λ _. finishes none o m q) (λ _. begins text none (anyAlt (firstAlt none o)) m q))
@@ -268,7 +269,7 @@ on-mark (readBound b s) text m q =
 on-mark (readPath p c n s) text m q = if (follows m) (λ _. closes _ text none m q (shut-plain s (path p c n))) (λ _. paths none (inside p c n) s m q)
 on-mark (readSep p c i) text m q = stops
 on-mark (readMinus c i) text m q =
-    if (eqb m integerMark) (λ e. fits text true q e (negatives none i (negative c q) (q .from))) (λ _. stops)
+    if (eqb m integerMark) (λ e. fits text true q (λ o. (e, (true, o))) (negatives none i (negative c q) (q .from))) (λ _. stops)
 on-mark (readLiteral v s) text m q =
     if (follows m) (λ _. closes _ text none m q (shut-plain s (literal v))) (λ _.
     if (eqb m dotDotMark) (λ _. ranges s q (readFrom (constant v) q) (λ l. refl)) (λ _.
@@ -286,7 +287,7 @@ on-mark (readAlt c) text m q = behinds (c .waiting) text (c .pattern) (openAt (c
 on-mark (readBrace h fs s) text m q =
     if (eqb m closeBraceMark) (λ _. goes refl) (λ _.
     if (eqb m dotDotMark) (λ _. goes refl) (λ _.
-    if (eqb m integerMark) (λ e. fits text false q e (goes refl)) (λ _.
+    if (eqb m integerMark) (λ e. fits text false q (λ o. (e, (false, o))) (goes refl)) (λ _.
     if (eqb m refMark) (λ _. goes refl) (λ _.
     if (eqb m mutMark) (λ _. goes refl) (λ _.
     stops)))))
@@ -297,17 +298,17 @@ on-mark (readEtc d h fs s) text m q = if (eqb m closeBraceMark) (λ _. goes refl
 on-mark (done p e) text m q = stops
 on-mark (failed at) text m q = at-own at _ refl
 
-named-goes : (i : NamePlace) (b : BoundName) (own : Option ℕ) (here : ℕ) → Judges here own false false (namedIn i b) (namedIn i b)
+named-goes : (i : NamePlace) (b : BoundName) (own : Option ℕ) (here : ℕ) → Judges here own ⊥ false (namedIn i b) (namedIn i b)
 unfolding namedIn isFailed
 named-goes (inPattern s) b own here = goes refl
 named-goes (inRecord h fs s) b own here = goes refl
 
-path-goes : (i : BoundPlace) (p : NamePath) (c : Spot) (n : Identifier) (own : Option ℕ) (here : ℕ) → Judges here own false false (pathIn i p c n) (pathIn i p c n)
+path-goes : (i : BoundPlace) (p : NamePath) (c : Spot) (n : Identifier) (own : Option ℕ) (here : ℕ) → Judges here own ⊥ false (pathIn i p c n) (pathIn i p c n)
 unfolding pathIn isFailed
 path-goes (atStart s) p c n own here = goes refl
 path-goes (atEnd h l) p c n own here = goes refl
 
-on-name : (r : Reading) (n : Identifier) → Judges (n .spot .from) (ownAt r) false false (onName r n) (onName r n)
+on-name : (r : Reading) (n : Identifier) → Judges (n .spot .from) (ownAt r) ⊥ false (onName r n) (onName r n)
 unfolding onName ownAt isFailed
 on-name (begin o) n = goes refl
 on-name (expect s) n = goes refl
@@ -333,7 +334,7 @@ on-name (readEtc d h fs s) n = stops
 on-name (done p e) n = stops
 on-name (failed at) n = at-own at _ refl
 
-on-scalar : (r : Reading) (v : ℕ) (q : Spot) → Judges (q .from) (ownAt r) false false (onScalar r v q) (onScalar r v q)
+on-scalar : (r : Reading) (v : ℕ) (q : Spot) → Judges (q .from) (ownAt r) ⊥ false (onScalar r v q) (onScalar r v q)
 unfolding onScalar ownAt isFailed
 on-scalar (begin o) v q = goes refl
 on-scalar (expect s) v q = goes refl
@@ -362,8 +363,8 @@ on-scalar (failed at) v q = at-own at _ refl
 -- a step, and the same by the grammar alone
 pub judged :
     (t : Lexeme) (text : List ℕ) (r : Reading)
-    → Judges (lexemeAt t) (ownAt r) (isInteger t) (isDots t) (step (strictly text) r t) (step (loosely text) r t)
-unfolding step lexemeAt isInteger isDots
+    → Judges (lexemeAt t) (ownAt r) (IsOver text t) (isDots t) (step (strictly text) r t) (step (loosely text) r t)
+unfolding step lexemeAt isDots
 judged (name n) text r = on-name r n
 judged (scalar v q) text r = on-scalar r v q
 judged (mark m q) text r = on-mark r text m q

@@ -14,7 +14,8 @@ use Rattle.pattern_grammar.proofs.Complete.{complete}
 use Rattle.pattern_grammar.proofs.Sound.{goes-or-not, feed-failed, feed-join, feed-going, sound, none-begins}
 use Rattle.pattern_grammar.proofs.Viable.{Finishes, completion, viable}
 use Rattle.pattern_grammar.proofs.Kept.{read-admitted}
-use Rattle.pattern_grammar.proofs.Positions.{isInteger, isDots, ownAt, Why, byGrammar, overWide, restBehind, ofOwn, judged}
+use Rattle.pattern_grammar.proofs.Settled.{settled, settled-written, settled-admitted}
+use Rattle.pattern_grammar.proofs.Positions.{IsOver, isDots, ownAt, Why, byGrammar, overWide, restBehind, ofOwn, judged}
 
 -- a whole text in tokens: a tree, and the text's end
 abbrev pub writtenAs : Pattern → Spot → List Lexeme
@@ -51,10 +52,8 @@ goes-begins text ts e =
 -- `..` behind `&`; or the rest or the `a..` before it may not stand there, and the position is theirs
 pub data Cause (text : List ℕ) (before : List Lexeme) (token : Lexeme) (at : ℕ) : Type 0 where
   ungrammatical :
-      at ≡ lexemeAt token
-      → ((p : Pattern) (e : Spot) (us : List Lexeme) → admitted (loosely text) p ≡ true → ¬ (writtenAs p e ≡ before ++ token ∷ us))
-      → Cause text before token at
-  integerOver : at ≡ lexemeAt token → isInteger token ≡ true → Cause text before token at
+      at ≡ lexemeAt token → ((p : Pattern) (e : Spot) (us : List Lexeme) → ¬ (writtenAs p e ≡ before ++ token ∷ us)) → Cause text before token at
+  integerOver : at ≡ lexemeAt token → IsOver text token → Cause text before token at
   behindReference : at ≡ lexemeAt token → isDots token ≡ true → Cause text before token at
   lastRead : ownAt (feed (strictly text) before fresh) ≡ some at → Cause text before token at
 
@@ -139,11 +138,13 @@ is-failed r e = by (goes-or-not r)
 caused :
     (text : List ℕ) (before : List Lexeme) (t : Lexeme) (at : ℕ)
     → isFailed (feed (strictly text) before fresh) ≡ false
-    → Why (lexemeAt t) (ownAt (feed (strictly text) before fresh)) (isInteger t) (isDots t) (step (loosely text) (feed (strictly text) before fresh) t) at
+    → Why (lexemeAt t) (ownAt (feed (strictly text) before fresh)) (IsOver text t) (isDots t) (step (loosely text) (feed (strictly text) before fresh) t) at
     → Cause text before t at
 caused text before t at g (byGrammar e f) =
     let failing = is-failed _ f in
-    ungrammatical e (none-so (loosely text) before t (failing .0) (ap (λ r. step (loosely text) r t) (alike before text fresh g) ∙ failing .1))
+    ungrammatical e
+    (λ p end us w. none-so (loosely text) before t (failing .0) (ap (λ r. step (loosely text) r t) (alike before text fresh g) ∙ failing .1)
+    (settled p) end us (settled-admitted p text) (settled-written p (mark endMark end ∷ []) ∙ w))
 caused text before t at g (overWide e f) = integerOver e f
 caused text before t at g (restBehind e f) = behindReference e f
 caused text before t at g (ofOwn e) = lastRead e
