@@ -4,7 +4,7 @@ use mathlib.Core.Bool.{Bool, true, false, cond}
 use mathlib.Core.Option.{Option, none, some}
 use mathlib.Core.List.{List, [], _∷_}
 use Rattle.pattern_grammar.specs.Lexemes.{Spot}
-use Rattle.pattern_grammar.specs.Trees.{NamePath, segment, inside, LiteralPattern, trueAt, falseAt, character, whole, negative, RangeBound, constant, place, RangeDots, exclusive, inclusive, BoundName, Ampersand, single, double, ListHead, tupleAt, structAt, sliceAt, RecordHead, FieldKey, index, label, Pattern, alone, or, NoTopAlt, plain, between, upward, upTo, WithoutRange, literal, ident, identAt, wild, rest, reference, path, list, listTo, recordOf, recordTo, recordDots, ListItems, noItem, item, RecordFields, noField, field, RecordField, keyed, short}
+use Rattle.pattern_grammar.specs.Trees.{LiteralPattern, trueAt, falseAt, character, whole, negative, RangeDots, exclusive, inclusive, BoundName, Ampersand, single, double, ListHead, tupleAt, structAt, sliceAt, FieldKey, index, label, Pattern, alone, or, NoTopAlt, plain, between, upward, upTo, WithoutRange, literal, ident, identAt, wild, rest, reference, path, list, listTo, recordOf, recordTo, recordDots, ListItems, noItem, item, RecordFields, noField, field, RecordField, keyed, short}
 use Rattle.pattern_grammar.specs.Admitted.{pathAt, literalAt, boundAt, isRest}
 use Rattle.pattern_grammar.specs.Machine.{Reading, begin, expect, readAmp, readRef, readMut, readName, readBound, readPath, readSep, readMinus, readLiteral, readDots, readFrom, readTo, readToPath, readAlt, readBrace, readLabel, readIndex, readField, readEtc, done, failed}
 use Rattle.pattern_grammar.specs.Parsed.{parsed}

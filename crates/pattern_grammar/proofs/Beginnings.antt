@@ -1,15 +1,15 @@
 -- The token with which a tree begins is one that begins a pattern: readings that go on alike with those read it alike. Assumes nothing.
 use Prim.Native.Nat.{ℕ}
 use mathlib.Core.Path.{_≡_, refl, sym, ap, _∙_}
-use mathlib.Core.Bool.{Bool, true, false, not, cond, _&&_, _||_, true≢false, false≢true}
+use mathlib.Core.Bool.{Bool, true, false, not, cond, _||_, true≢false, false≢true}
 use mathlib.Core.Option.{Option, none, some}
-use mathlib.Core.List.{List, [], _∷_}
+use mathlib.Core.List.{List, _∷_}
 use lib.Dec.{eqb, ltb}
 use borrow.Author.Tests.{ne-eqb}
-use Rattle.pattern_grammar.specs.Lexemes.{Spot, Identifier, Lexeme, name, scalar, mark, orMark, refMark, mutMark, trueMark, falseMark, integerMark, minusMark, pathSepMark, openBraceMark, openParenMark, openBracketMark, andMark, andAndMark, dotDotMark, dotDotEqMark, underscoreMark, bindMark, closeBraceMark, follows, Source}
-use Rattle.pattern_grammar.specs.Trees.{NamePath, segment, inside, LiteralPattern, trueAt, falseAt, character, whole, negative, RangeBound, constant, place, RangeDots, exclusive, inclusive, BoundName, Ampersand, single, double, ListHead, tupleAt, structAt, sliceAt, RecordHead, Pattern, NoTopAlt, plain, between, upward, upTo, WithoutRange, literal, ident, identAt, wild, rest, reference, path, list, listTo, recordOf, recordTo, recordDots, pathT, literalT, boundT, dotsT, optionalT, nameT, ampersandT, headT, recordT, altT, plainT}
+use Rattle.pattern_grammar.specs.Lexemes.{Spot, Identifier, Lexeme, name, mark, orMark, refMark, mutMark, trueMark, falseMark, integerMark, minusMark, pathSepMark, openParenMark, openBracketMark, andMark, andAndMark, dotDotMark, dotDotEqMark, underscoreMark, bindMark, follows, Source}
+use Rattle.pattern_grammar.specs.Trees.{NamePath, segment, inside, LiteralPattern, trueAt, falseAt, character, whole, negative, RangeBound, constant, place, RangeDots, exclusive, inclusive, Ampersand, single, double, ListHead, tupleAt, structAt, sliceAt, NoTopAlt, plain, between, upward, upTo, WithoutRange, literal, ident, identAt, wild, rest, reference, path, list, listTo, recordOf, recordTo, recordDots, pathT, literalT, boundT, dotsT, optionalT, nameT, ampersandT, headT, recordT, altT, plainT}
 use Rattle.pattern_grammar.specs.Admitted.{second, isMutFirst, beginsMut}
-use Rattle.pattern_grammar.specs.Machine.{ForPlain, anyAlt, behindAmp, ForAlt, firstAlt, ForPattern, Reading, begin, expect, readAmp, onMark, onName, onScalar, step, feed}
+use Rattle.pattern_grammar.specs.Machine.{ForPlain, anyAlt, behindAmp, firstAlt, ForPattern, Reading, begin, expect, readAmp, onMark, onName, onScalar, step, feed}
 
 -- two readings go on alike with what begins a pattern, with `mut` or but for that
 pub record Alike (text : Source) (muts : Bool) (r u : Reading) : Type 0 where

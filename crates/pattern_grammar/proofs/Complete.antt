@@ -1,17 +1,16 @@
 -- Every admitted tree is read back from what it is written as, so that tokens have at most one tree. Assumes nothing.
 use Prim.Native.Nat.{ℕ}
 use mathlib.Core.Path.{_≡_, refl, sym, ap, _∙_}
-use mathlib.Core.Bool.{Bool, true, false, not, cond, _&&_, _||_, true≢false, false≢true}
+use mathlib.Core.Bool.{Bool, true, false, not, _&&_, _||_, false≢true}
 use mathlib.Core.Logic.{_⊎_, inl, inr}
 use mathlib.Core.Option.{Option, none, some}
 use mathlib.Core.List.{List, [], _∷_}
 use lib.Dec.{eqb}
-use borrow.Author.Tests.{not-true}
 use Rattle.image.proofs.Bools.{and-left, and-right, and-true}
-use Rattle.pattern_grammar.specs.Lexemes.{Spot, Identifier, Lexeme, name, scalar, mark, endMark, commaMark, orMark, closeBraceMark, trueMark, falseMark, mutMark, integerMark, minusMark, colonMark, bindMark, pathSepMark, dotDotMark, follows, wide, Source}
-use Rattle.pattern_grammar.specs.Trees.{NamePath, inside, pathT, RangeBound, RangeDots, exclusive, inclusive, BoundName, Ampersand, single, double, ListHead, tupleAt, structAt, sliceAt, closer, RecordHead, FieldKey, index, label, Pattern, alone, or, NoTopAlt, plain, between, upward, upTo, WithoutRange, literal, ident, identAt, wild, rest, reference, path, list, listTo, recordOf, recordTo, recordDots, ListItems, noItem, item, RecordFields, noField, field, RecordField, keyed, short, boundT, dotsT, optionalT, nameT, ampersandT, keyT, patternT, altT, plainT, itemsT, fieldsT, fieldT}
-use Rattle.pattern_grammar.specs.Admitted.{openItemAt, RestRoom, noRest, fitsRest, behindName, behindBar, itemRoom, beginsMut, mutIsOwn, literalFits, boundFits, keyFits, isNone, patternOk, altOk, plainOk, itemsOk, fieldsOk, fieldOk, admitted}
-use Rattle.pattern_grammar.specs.Machine.{ForPlain, anyAlt, behindAmp, ForAlt, firstAlt, nextAlt, behindAt, ForPattern, wholeText, forItem, forField, closedIn, RangeHead, upToHead, fromHead, rangeOf, Reading, begin, expect, readAmp, readLiteral, readDots, readFrom, readTo, readAlt, readBrace, readIndex, readField, done, failed, closeAlt, closePlain, after, roomIn, roomBehind, roomOf, ranged, fitting, unlessOpen, starts, bounds, behind, ends, namedIn, behindField, onMark, onName, step, feed, fresh, dotsIn, restStands}
+use Rattle.pattern_grammar.specs.Lexemes.{Spot, Identifier, Lexeme, mark, endMark, commaMark, orMark, closeBraceMark, trueMark, falseMark, mutMark, integerMark, minusMark, colonMark, bindMark, dotDotMark, follows, Source}
+use Rattle.pattern_grammar.specs.Trees.{inside, pathT, exclusive, inclusive, Ampersand, single, double, ListHead, tupleAt, structAt, sliceAt, closer, RecordHead, FieldKey, index, label, Pattern, alone, or, NoTopAlt, plain, between, upward, upTo, WithoutRange, literal, ident, identAt, wild, rest, reference, path, list, listTo, recordOf, recordTo, recordDots, ListItems, noItem, item, RecordFields, noField, field, RecordField, keyed, short, boundT, dotsT, optionalT, nameT, ampersandT, keyT, patternT, altT, plainT, itemsT, fieldsT, fieldT}
+use Rattle.pattern_grammar.specs.Admitted.{openItemAt, RestRoom, noRest, fitsRest, behindName, behindBar, itemRoom, mutIsOwn, boundFits, keyFits, isNone, patternOk, altOk, plainOk, itemsOk, fieldsOk, fieldOk, admitted}
+use Rattle.pattern_grammar.specs.Machine.{ForPlain, anyAlt, behindAmp, ForAlt, firstAlt, nextAlt, behindAt, ForPattern, wholeText, forItem, forField, closedIn, RangeHead, upToHead, fromHead, rangeOf, Reading, begin, expect, readAlt, readBrace, readIndex, done, failed, closeAlt, closePlain, after, roomIn, roomBehind, roomOf, ranged, unlessOpen, starts, bounds, behind, ends, namedIn, behindField, onMark, onName, step, feed, fresh, dotsIn, restStands}
 use Rattle.pattern_grammar.proofs.Beginnings.{cond-false, cond-true, begin-alike, amp-alike, plain-alike, alt-alike}
 use Rattle.pattern_grammar.proofs.Pieces.{apart, fits-goes, atPath, path-read, literal-read, atBound, bound-read, from-dots, from-equals, dots-await, from-awaits, to-awaits, upper-read, atName, name-read, head-read, record-read}
 

@@ -1,7 +1,7 @@
 -- Every text is read to its end or to a failure. Assumes nothing.
 use Prim.Native.Nat.{ℕ, zero, suc, _+_, _<_, _≤_}
 use mathlib.Core.Path.{_≡_, refl, sym, ap, subst, _∙_}
-use mathlib.Core.Bool.{Bool, true, false, not, cond, _&&_, _||_, true≢false, false≢true}
+use mathlib.Core.Bool.{Bool, true, false, cond, false≢true}
 use mathlib.Core.Logic.{_⊎_, inl, inr, _↔_}
 use mathlib.Core.List.{List, [], _∷_, _++_}
 use native.Mathlib.Omega.{arith}
@@ -12,11 +12,10 @@ use Rattle.pattern_words.specs.declared.Kind.{Kind}
 use Rattle.pattern_words.proofs.Spelling.{either}
 use Rattle.pattern_tokens.specs.Tokens.{tokenAt}
 use Rattle.pattern_grammar.specs.Lexemes.{Spot, Lexeme, name, scalar, mark, endMark, failsMark, lexemeAt, ofKind, lexeme, Source, strictly}
-use Rattle.pattern_grammar.specs.Trees.{Pattern, ListHead, tupleAt, structAt, sliceAt, closer, plain, rest}
-use Rattle.pattern_grammar.specs.Admitted.{fitsRest, admitted}
-use Rattle.pattern_grammar.specs.Machine.{ForPlain, anyAlt, behindAmp, ForPattern, wholeText, forItem, forField, Closed, Reading, begin, expect, readAmp, readRef, readMut, readName, readBound, readPath, readSep, readMinus, readLiteral, readDots, readFrom, readTo, readToPath, readAlt, readBrace, readLabel, readIndex, readField, readEtc, done, failed, closeAlt, after, roomIn, starts, bounds, behind, ends, behindPath, behindField, onMark, step, feed, fresh, restStands}
+use Rattle.pattern_grammar.specs.Trees.{Pattern, tupleAt, structAt, sliceAt, closer}
+use Rattle.pattern_grammar.specs.Admitted.{admitted}
+use Rattle.pattern_grammar.specs.Machine.{ForPattern, wholeText, forItem, forField, Reading, begin, expect, readAmp, readRef, readMut, readName, readBound, readPath, readSep, readMinus, readLiteral, readDots, readFrom, readTo, readToPath, readAlt, readBrace, readLabel, readIndex, readField, readEtc, done, failed, starts, bounds, behind, ends, behindPath, behindField, onMark, step, feed, fresh, restStands}
 use Rattle.pattern_grammar.specs.Parsed.{isLast, lexemesFrom, lexemes, parsed}
-use Rattle.pattern_grammar.proofs.Sound.{feed-failed}
 use Rattle.pattern_grammar.proofs.Verdicts.{writtenAs, read-iff, Refused, refused}
 use Rattle.pattern_grammar.proofs.Progress.{isEnd, advances, end-there}
 

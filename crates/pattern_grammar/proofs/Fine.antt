@@ -1,15 +1,13 @@
 -- What is open holds admitted parts alone. Assumes nothing.
 use Prim.Native.Nat.{ℕ}
-use mathlib.Core.Path.{_≡_, refl, sym, ap, subst, _∙_}
-use mathlib.Core.Bool.{Bool, true, false, not, cond, _&&_, _||_, true≢false, false≢true}
+use mathlib.Core.Path.{_≡_, refl, subst}
+use mathlib.Core.Bool.{Bool, true, false, not, cond, _&&_, _||_}
 use mathlib.Core.Option.{Option, none, some}
-use mathlib.Core.List.{List, [], _∷_}
-use lib.Dec.{eqb}
 use Rattle.image.proofs.Bools.{and-left, and-right, and-true}
-use Rattle.pattern_grammar.specs.Lexemes.{Spot, Identifier, endMark, commaMark, orMark, closeBraceMark, wide, Source}
-use Rattle.pattern_grammar.specs.Trees.{LiteralPattern, whole, negative, RangeBound, constant, place, RangeDots, BoundName, Ampersand, ListHead, closer, RecordHead, FieldKey, index, label, Pattern, alone, or, NoTopAlt, plain, between, upward, upTo, WithoutRange, literal, ident, identAt, wild, rest, reference, path, list, listTo, recordOf, recordTo, recordDots, ListItems, noItem, item, RecordFields, noField, field, RecordField, keyed, short}
-use Rattle.pattern_grammar.specs.Admitted.{openItemAt, RestRoom, noRest, bareRest, boundRest, fitsRest, behindName, behindBar, itemRoom, second, isMutFirst, beginsMut, mutIsOwn, literalFits, boundFits, keyFits, isNone, patternOk, altOk, plainOk, itemsOk, fieldsOk, fieldOk, admitted}
-use Rattle.pattern_grammar.specs.Machine.{ForPlain, anyAlt, behindAmp, ForAlt, firstAlt, nextAlt, behindAt, ForPattern, wholeText, forItem, forField, Closed, RangeHead, upToHead, fromHead, rangeOf, BoundPlace, atStart, atEnd, NamePlace, inPattern, inRecord, Reading, begin, expect, readAmp, readRef, readMut, readName, readBound, readPath, readSep, readMinus, readLiteral, readDots, readFrom, readTo, readToPath, readAlt, readBrace, readLabel, readIndex, readField, readEtc, done, failed, closeAlt, closePlain, roomIn, roomBehind, roomOf, fitting, unlessOpen, behind}
+use Rattle.pattern_grammar.specs.Lexemes.{Spot, wide, Source}
+use Rattle.pattern_grammar.specs.Trees.{Ampersand, index, Pattern, alone, or, NoTopAlt, plain, between, upward, upTo, WithoutRange, literal, ident, identAt, wild, rest, reference, path, list, listTo, recordOf, recordTo, recordDots}
+use Rattle.pattern_grammar.specs.Admitted.{RestRoom, noRest, fitsRest, behindName, behindBar, second, isMutFirst, beginsMut, mutIsOwn, literalFits, boundFits, keyFits, isNone, patternOk, altOk, plainOk, itemsOk, fieldsOk, fieldOk, admitted}
+use Rattle.pattern_grammar.specs.Machine.{ForPlain, anyAlt, behindAmp, ForAlt, firstAlt, nextAlt, behindAt, ForPattern, wholeText, forItem, forField, Closed, RangeHead, upToHead, fromHead, BoundPlace, atStart, atEnd, NamePlace, inPattern, inRecord, Reading, begin, expect, readAmp, readRef, readMut, readName, readBound, readPath, readSep, readMinus, readLiteral, readDots, readFrom, readTo, readToPath, readAlt, readBrace, readLabel, readIndex, readField, readEtc, done, failed, closeAlt, closePlain, roomIn, roomBehind, roomOf, fitting, unlessOpen}
 
 -- a tree that begins with `mut`, or not, may close here: behind `&` the `mut` would be the reference's
 unfoldable pub mutFree : ForPlain → Bool → Bool

@@ -1,16 +1,16 @@
 -- What is read is admitted: no step makes what is open hold another part. Assumes nothing.
 use Prim.Native.Nat.{ℕ}
 use mathlib.Core.Path.{_≡_, refl, sym, ap, subst, _∙_}
-use mathlib.Core.Bool.{Bool, true, false, not, cond, _&&_, _||_, true≢false, false≢true}
-use mathlib.Core.Option.{Option, none, some}
+use mathlib.Core.Bool.{Bool, true, false, not, _&&_, _||_, true≢false, false≢true}
+use mathlib.Core.Option.{none}
 use mathlib.Core.List.{List, [], _∷_}
 use lib.Dec.{eqb}
 use borrow.Author.Tests.{not-true}
-use Rattle.image.proofs.Bools.{and-left, and-right, and-true, and-false-right}
+use Rattle.image.proofs.Bools.{and-left, and-right, and-true}
 use Rattle.pattern_grammar.specs.Lexemes.{Spot, Identifier, Lexeme, name, scalar, mark, endMark, commaMark, orMark, closeBraceMark, refMark, mutMark, trueMark, falseMark, underscoreMark, integerMark, minusMark, openParenMark, openBracketMark, openBraceMark, andMark, andAndMark, bindMark, colonMark, pathSepMark, dotDotMark, dotDotEqMark, follows, wide, Source}
-use Rattle.pattern_grammar.specs.Trees.{NamePath, segment, inside, LiteralPattern, trueAt, falseAt, character, whole, negative, RangeBound, constant, place, RangeDots, exclusive, inclusive, BoundName, bareName, Ampersand, single, double, ListHead, closer, RecordHead, FieldKey, index, label, Pattern, alone, or, NoTopAlt, plain, between, upward, upTo, WithoutRange, literal, ident, identAt, wild, rest, reference, path, list, listTo, recordOf, recordTo, recordDots, noItem, item, RecordFields, noField, field, RecordField, keyed, short, patternT}
+use Rattle.pattern_grammar.specs.Trees.{NamePath, segment, inside, trueAt, falseAt, character, whole, negative, RangeBound, constant, place, exclusive, inclusive, BoundName, bareName, closer, RecordHead, index, Pattern, NoTopAlt, plain, upward, WithoutRange, literal, ident, wild, rest, path, list, listTo, recordOf, recordTo, recordDots, RecordFields, RecordField, keyed, short}
 use Rattle.pattern_grammar.specs.Admitted.{openItemAt, RestRoom, noRest, fitsRest, itemRoom, second, isMutFirst, beginsMut, literalFits, boundFits, keyFits, isNone, patternOk, altOk, plainOk, itemsOk, fieldsOk, fieldOk, admitted}
-use Rattle.pattern_grammar.specs.Machine.{ForPlain, anyAlt, behindAmp, ForAlt, firstAlt, nextAlt, behindAt, ForPattern, wholeText, forItem, forField, Closed, RangeHead, upToHead, fromHead, rangeOf, BoundPlace, atStart, atEnd, NamePlace, inPattern, inRecord, Reading, begin, expect, readAmp, readRef, readMut, readName, readBound, readPath, readSep, readMinus, readLiteral, readDots, readFrom, readTo, readToPath, readAlt, readBrace, readLabel, readIndex, readField, readEtc, done, failed, closeAlt, closePlain, after, roomIn, roomBehind, roomOf, ranged, fitting, unlessOpen, starts, bounds, behind, ends, namedIn, pathIn, negativeIn, behindPath, behindField, onMark, onName, onScalar, step, feed, fresh, isFailed, dotsIn, restStands}
+use Rattle.pattern_grammar.specs.Machine.{ForPlain, anyAlt, behindAmp, ForAlt, firstAlt, ForPattern, wholeText, forItem, forField, Closed, RangeHead, upToHead, fromHead, rangeOf, BoundPlace, atStart, atEnd, NamePlace, inPattern, inRecord, Reading, begin, expect, readAmp, readRef, readMut, readName, readBound, readPath, readSep, readMinus, readLiteral, readDots, readFrom, readTo, readToPath, readAlt, readBrace, readLabel, readIndex, readField, readEtc, done, failed, closeAlt, closePlain, after, roomIn, roomOf, ranged, starts, bounds, behind, ends, namedIn, pathIn, negativeIn, behindPath, behindField, onMark, onName, onScalar, step, feed, fresh, dotsIn, restStands}
 use Rattle.pattern_grammar.proofs.Fine.{mutFree, finePlain, fineAlt, fineOpen, headFits, fineBound, fineName, fine, Fine, fine-if, fine-failed, fine-fitting, fine-unless, free-false, pattern-roomy, cut, cut-none, FineClosed, fine-alt, fine-plain, fine-read}
 
 -- an alternative of its own closes

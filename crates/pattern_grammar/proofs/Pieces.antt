@@ -1,16 +1,16 @@
 -- Names, paths, literals, bounds and what opens lists are read back from what they are written as. Assumes nothing.
 use Prim.Native.Nat.{ℕ}
 use mathlib.Core.Path.{_≡_, refl, sym, ap, _∙_}
-use mathlib.Core.Bool.{Bool, true, false, not, cond, true≢false, false≢true}
+use mathlib.Core.Bool.{Bool, true, false, not, true≢false}
 use mathlib.Core.Option.{Option, none, some}
-use mathlib.Core.List.{List, [], _∷_}
+use mathlib.Core.List.{List, _∷_}
 use lib.Dec.{eqb, ltb}
 use borrow.Author.Tests.{ne-eqb, not-true}
-use Rattle.pattern_grammar.specs.Lexemes.{Spot, Identifier, Lexeme, name, scalar, mark, orMark, refMark, mutMark, trueMark, falseMark, integerMark, minusMark, pathSepMark, openBraceMark, openParenMark, openBracketMark, dotDotMark, dotDotEqMark, bindMark, follows, wide, Source}
-use Rattle.pattern_grammar.specs.Trees.{NamePath, segment, inside, LiteralPattern, trueAt, falseAt, character, whole, negative, RangeBound, constant, place, RangeDots, exclusive, inclusive, BoundName, bareName, ListHead, tupleAt, structAt, sliceAt, noItem, noField, RecordHead, NoTopAlt, ident, path, literal, pathT, literalT, boundT, dotsT, optionalT, headT, recordT}
+use Rattle.pattern_grammar.specs.Lexemes.{Spot, Identifier, Lexeme, name, mark, refMark, mutMark, trueMark, falseMark, integerMark, minusMark, pathSepMark, openBraceMark, openParenMark, dotDotMark, dotDotEqMark, bindMark, follows, wide, Source}
+use Rattle.pattern_grammar.specs.Trees.{NamePath, segment, inside, LiteralPattern, trueAt, falseAt, character, whole, negative, RangeBound, constant, place, exclusive, inclusive, ListHead, tupleAt, structAt, sliceAt, noItem, noField, RecordHead, path, pathT, literalT, boundT, optionalT, headT, recordT}
 use Rattle.pattern_grammar.specs.Admitted.{literalFits, boundFits}
-use Rattle.pattern_grammar.specs.Machine.{ForPlain, anyAlt, ForAlt, ForPattern, forItem, RangeHead, upToHead, fromHead, rangeOf, BoundPlace, atStart, atEnd, Reading, begin, expect, readName, readBound, readPath, readSep, readMinus, readLiteral, readDots, readFrom, readTo, readToPath, readAlt, readBrace, closeAlt, closePlain, after, ranged, fitting, starts, bounds, behindPath, namedIn, pathIn, negativeIn, onMark, onName, onScalar, step, feed}
-use Rattle.pattern_grammar.proofs.Beginnings.{cond-false, cond-true}
+use Rattle.pattern_grammar.specs.Machine.{ForPlain, anyAlt, ForAlt, forItem, RangeHead, upToHead, fromHead, rangeOf, atEnd, Reading, begin, expect, readName, readBound, readPath, readMinus, readLiteral, readDots, readFrom, readTo, readToPath, readAlt, readBrace, closeAlt, ranged, fitting, starts, bounds, behindPath, namedIn, pathIn, negativeIn, onMark, onName, onScalar, step, feed}
+use Rattle.pattern_grammar.proofs.Beginnings.{cond-true}
 
 -- a mark that can stand behind a pattern is none of those that cannot
 pub apart : (m c : ℕ) → follows m ≡ true → follows c ≡ false → eqb m c ≡ false

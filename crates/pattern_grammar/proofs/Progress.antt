@@ -1,14 +1,12 @@
 -- Every text is read to its end or to a failure: tokens go on, and the last one ends the reading. Assumes nothing.
 use Prim.Native.Nat.{ℕ, zero, suc, _+_, _-_, _<_, _≤_}
-use mathlib.Core.Path.{_≡_, refl, sym, ap, subst, _∙_}
-use mathlib.Core.Bool.{Bool, true, false, not, cond, _&&_, _||_, true≢false, false≢true}
+use mathlib.Core.Path.{_≡_, refl, sym, ap, _∙_}
+use mathlib.Core.Bool.{Bool, true, false, not, cond, _&&_, _||_, false≢true}
 use mathlib.Core.Logic.{_⊎_, inl, inr}
-use mathlib.Core.Option.{Option, none}
 use mathlib.Core.List.{List, [], _∷_}
 use native.Mathlib.Omega.{arith}
-use borrow.Author.Tests.{eqb-true, ltb-false}
-use lib.Dec.{eqb, ltb}
-use lib.ListN.{length, getD, take, drop, length-drop}
+use lib.Dec.{eqb}
+use lib.ListN.{length, getD, drop, length-drop}
 use Rattle.text_chars.specs.declared.Gap.{Gap}
 use Rattle.text_chars.specs.declared.Scalar.{Scalar}
 use Rattle.text_chars.specs.declared.Start.{Start}
@@ -18,10 +16,9 @@ use Rattle.text_chars.specs.Gaps.{gapOf, onGap, startFrom, startOf}
 use Rattle.pattern_words.specs.declared.Kind.{Kind}
 use Rattle.pattern_words.specs.declared.Piece.{Piece}
 use Rattle.pattern_words.specs.Words.{isDigit, beginsWord, inWord, isRaw, sameWord, isOneOf, keywords, neverRaw, endsPrefix, failing, wordOf, rawPiece, plainPiece, wordPiece}
-use Rattle.pattern_words.proofs.Spelling.{either}
 use Rattle.pattern_tokens.specs.declared.Token.{Token}
 use Rattle.pattern_tokens.specs.Literals.{inInteger, goesOn, integerOf, integerPiece, charOf, isSuffix, closedChar, charPiece}
-use Rattle.pattern_tokens.specs.Tokens.{Mark, begins, punctuation, firstOf, pieceOf, placed, tokenFrom, tokenBehind, tokenAt}
+use Rattle.pattern_tokens.specs.Tokens.{begins, punctuation, firstOf, pieceOf, placed, tokenFrom, tokenBehind, tokenAt}
 use Rattle.pattern_tokens.proofs.Sizes.{piece-size}
 use Rattle.pattern_grammar.specs.Lexemes.{Spot, Lexeme, name, scalar, mark, endMark, ofKind, lexeme}
 use Rattle.pattern_grammar.specs.Parsed.{isLast}

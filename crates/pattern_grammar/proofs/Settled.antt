@@ -1,13 +1,13 @@
 -- Every tree of the grammar is written as one in which `mut` behind `&` is the reference's, which is all that the grammar alone asks of a
 -- tree. Assumes nothing.
 use Prim.Native.Nat.{ℕ}
-use mathlib.Core.Path.{_≡_, refl, sym, ap, _∙_}
+use mathlib.Core.Path.{_≡_, refl, ap, _∙_}
 use mathlib.Core.Bool.{Bool, true, false, not, _&&_, _||_}
 use mathlib.Core.Option.{Option, none, some}
-use mathlib.Core.List.{List, [], _∷_}
+use mathlib.Core.List.{List, _∷_}
 use Rattle.image.proofs.Bools.{and-true}
 use Rattle.decimal_values.specs.Values.{integerValue}
-use Rattle.pattern_grammar.specs.Lexemes.{Spot, Identifier, Lexeme, name, mark, commaMark, orMark, closeBraceMark, mutMark, colonMark, bindMark, dotDotMark, over, loosely, wide}
+use Rattle.pattern_grammar.specs.Lexemes.{Spot, Identifier, Lexeme, mark, commaMark, orMark, closeBraceMark, mutMark, colonMark, bindMark, dotDotMark, over, loosely, wide}
 use Rattle.pattern_grammar.specs.Trees.{LiteralPattern, trueAt, falseAt, character, whole, negative, RangeBound, constant, place, BoundName, bareName, Ampersand, ListHead, tupleAt, structAt, sliceAt, closer, FieldKey, index, label, Pattern, alone, or, NoTopAlt, plain, between, upward, upTo, WithoutRange, literal, ident, identAt, wild, rest, reference, path, list, listTo, recordOf, recordTo, recordDots, ListItems, noItem, item, RecordFields, noField, field, RecordField, keyed, short, optionalT, nameT, ampersandT, headT, recordT, keyT, patternT, altT, plainT, itemsT, fieldsT, fieldT}
 use Rattle.pattern_grammar.specs.Admitted.{openAt, whenStrict, openItemAt, RestRoom, noRest, fitsRest, behindName, behindBar, itemRoom, second, isMutFirst, beginsMut, mutIsOwn, literalFits, boundFits, keyFits, isNone, patternOk, altOk, plainOk, itemsOk, fieldsOk, fieldOk, admitted}
 

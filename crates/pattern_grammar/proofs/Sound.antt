@@ -1,17 +1,16 @@
 -- What is read is written as the tokens read; what has failed stays so. Assumes nothing.
 use Prim.Native.Nat.{ℕ}
 use mathlib.Core.Path.{_≡_, refl, sym, ap, _∙_}
-use mathlib.Core.Bool.{Bool, true, false, not, _&&_, true≢false, false≢true}
+use mathlib.Core.Bool.{true, false, true≢false, false≢true}
 use mathlib.Core.Logic.{_⊎_, inl, inr}
-use mathlib.Core.Option.{Option, none, some}
+use mathlib.Core.Option.{none}
 use mathlib.Core.List.{List, [], _∷_, _++_}
-use lib.Dec.{eqb}
-use Rattle.pattern_grammar.specs.Lexemes.{Spot, Identifier, Lexeme, name, scalar, mark, endMark, commaMark, orMark, closeBraceMark, refMark, mutMark, trueMark, falseMark, underscoreMark, integerMark, minusMark, openParenMark, openBracketMark, openBraceMark, andMark, andAndMark, bindMark, colonMark, pathSepMark, dotDotMark, dotDotEqMark, follows, wide, Source}
-use Rattle.pattern_grammar.specs.Trees.{NamePath, segment, inside, LiteralPattern, trueAt, falseAt, character, whole, negative, RangeBound, constant, place, RangeDots, exclusive, inclusive, BoundName, bareName, Ampersand, single, double, ListHead, tupleAt, structAt, sliceAt, closer, RecordHead, FieldKey, index, label, Pattern, alone, or, NoTopAlt, plain, between, upward, upTo, WithoutRange, literal, ident, identAt, wild, rest, reference, path, list, listTo, recordOf, recordTo, recordDots, noItem, item, RecordFields, noField, field, RecordField, keyed, short, pathT, literalT, boundT, dotsT, optionalT, nameT, ampersandT, headT, recordT, keyT, patternT, altT, plainT, itemsT, fieldsT, fieldT}
-use Rattle.pattern_grammar.specs.Admitted.{fitsRest, admitted}
-use Rattle.pattern_grammar.specs.Machine.{ForPlain, anyAlt, behindAmp, ForAlt, firstAlt, nextAlt, behindAt, ForPattern, wholeText, forItem, forField, Closed, RangeHead, upToHead, fromHead, rangeOf, BoundPlace, atStart, atEnd, NamePlace, inPattern, inRecord, Reading, begin, expect, readAmp, readRef, readMut, readName, readBound, readPath, readSep, readMinus, readLiteral, readDots, readFrom, readTo, readToPath, readAlt, readBrace, readLabel, readIndex, readField, readEtc, done, failed, closeAlt, closePlain, after, roomIn, ranged, fitting, unlessOpen, starts, bounds, behind, ends, namedIn, pathIn, negativeIn, behindPath, behindField, onMark, onName, onScalar, step, feed, fresh, isFailed, restStands}
+use Rattle.pattern_grammar.specs.Lexemes.{Spot, Identifier, Lexeme, name, scalar, mark, endMark, orMark, closeBraceMark, refMark, mutMark, integerMark, minusMark, bindMark, colonMark, pathSepMark, dotDotMark, dotDotEqMark, follows, Source}
+use Rattle.pattern_grammar.specs.Trees.{NamePath, segment, inside, LiteralPattern, character, whole, negative, constant, place, exclusive, inclusive, BoundName, bareName, Pattern, plain, upward, literal, ident, rest, path, recordOf, recordDots, short, pathT, literalT, boundT, dotsT, optionalT, nameT, ampersandT, keyT, patternT, altT, plainT, fieldT}
+use Rattle.pattern_grammar.specs.Admitted.{admitted}
+use Rattle.pattern_grammar.specs.Machine.{anyAlt, behindAmp, firstAlt, RangeHead, upToHead, fromHead, rangeOf, BoundPlace, atStart, atEnd, NamePlace, inPattern, inRecord, Reading, begin, expect, readAmp, readRef, readMut, readName, readBound, readPath, readSep, readMinus, readLiteral, readDots, readFrom, readTo, readToPath, readAlt, readBrace, readLabel, readIndex, readField, readEtc, done, failed, namedIn, pathIn, negativeIn, onMark, onName, onScalar, step, feed, fresh, isFailed, restStands}
 use Rattle.pattern_grammar.proofs.Complete.{complete}
-use Rattle.pattern_grammar.proofs.Said.{saidPlain, saidAlt, saidOpen, rangeT, saidRecord, saidBound, saidName, said, Says, so, fails, by-test, by-mark, moved, close-alt, close-plain, range-written, close-range, fitting-says, ranged-says, starts-says, bounds-says, behind-says, after-plain, after-alt, path-says, field-says, ends-says}
+use Rattle.pattern_grammar.proofs.Said.{saidPlain, saidAlt, saidOpen, rangeT, saidRecord, saidBound, saidName, said, Says, so, fails, by-test, by-mark, moved, close-plain, range-written, close-range, fitting-says, ranged-says, starts-says, bounds-says, behind-says, after-plain, after-alt, path-says, field-says, ends-says}
 
 named-says : (i : NamePlace) (b : BoundName) (k : List Lexeme) → Says (namedIn i b) k (saidName i (nameT b k))
 unfolding namedIn said saidName fieldT

@@ -2,17 +2,17 @@
 -- nothing.
 use Prim.Native.Nat.{ℕ}
 use mathlib.Core.Path.{_≡_, refl, sym, ap, _∙_}
-use mathlib.Core.Bool.{Bool, true, false, true≢false, false≢true}
+use mathlib.Core.Bool.{true, false, true≢false, false≢true}
 use mathlib.Core.Logic.{_⊎_, inl, inr, _↔_}
-use mathlib.Core.Option.{Option, some}
+use mathlib.Core.Option.{some}
 use mathlib.Core.List.{List, [], _∷_, _++_}
 use Rattle.pattern_grammar.specs.Lexemes.{Spot, Lexeme, mark, endMark, lexemeAt, Source, strictly, loosely}
 use Rattle.pattern_grammar.specs.Trees.{Pattern, patternT}
 use Rattle.pattern_grammar.specs.Admitted.{admitted}
-use Rattle.pattern_grammar.specs.Machine.{Reading, begin, wholeText, done, failed, step, feed, fresh, isFailed}
+use Rattle.pattern_grammar.specs.Machine.{Reading, done, failed, step, feed, fresh, isFailed}
 use Rattle.pattern_grammar.proofs.Complete.{complete}
 use Rattle.pattern_grammar.proofs.Sound.{goes-or-not, feed-failed, feed-join, feed-going, sound, none-begins}
-use Rattle.pattern_grammar.proofs.Viable.{Finishes, completion, viable}
+use Rattle.pattern_grammar.proofs.Viable.{completion, viable}
 use Rattle.pattern_grammar.proofs.Kept.{read-admitted}
 use Rattle.pattern_grammar.proofs.Settled.{settled, settled-written, settled-admitted}
 use Rattle.pattern_grammar.proofs.Positions.{IsOver, isDots, ownAt, Why, byGrammar, overWide, restBehind, ofOwn, judged}

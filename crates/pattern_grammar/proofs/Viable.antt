@@ -1,15 +1,14 @@
 -- What is open can be completed: a reading that has not failed is the beginning of a text that is read. Assumes nothing.
 use Prim.Native.Nat.{ℕ}
-use mathlib.Core.Path.{_≡_, refl, sym, ap, _∙_}
-use mathlib.Core.Bool.{Bool, true, false, true≢false}
-use mathlib.Core.Option.{Option, none, some}
-use mathlib.Core.List.{List, [], _∷_, _++_}
+use mathlib.Core.Path.{_≡_, refl, ap, _∙_}
+use mathlib.Core.Bool.{false, true≢false}
+use mathlib.Core.Option.{none, some}
+use mathlib.Core.List.{List, [], _∷_}
 use Rattle.decimal_values.specs.Values.{decimalFrom, inHalves, integerValue}
-use Rattle.pattern_grammar.specs.Lexemes.{Spot, Identifier, Lexeme, name, scalar, mark, endMark, orMark, closeBraceMark, trueMark, underscoreMark, integerMark, colonMark, wide, over, Source}
-use Rattle.pattern_grammar.specs.Trees.{NamePath, inside, trueAt, negative, RangeBound, constant, place, exclusive, BoundName, bareName, ListHead, tupleAt, structAt, sliceAt, closer, index, Pattern, alone, or, NoTopAlt, plain, between, upward, upTo, WithoutRange, literal, ident, identAt, wild, reference, path, listTo, recordOf, recordTo, recordDots, ListItems, keyed, short, patternT}
-use Rattle.pattern_grammar.specs.Admitted.{openItemAt, openAt, whenStrict, admitted}
-use Rattle.pattern_grammar.specs.Machine.{ForPlain, anyAlt, behindAmp, ForAlt, firstAlt, nextAlt, behindAt, ForPattern, wholeText, forItem, forField, closedIn, RangeHead, upToHead, fromHead, rangeOf, BoundPlace, atStart, atEnd, NamePlace, inPattern, inRecord, Reading, begin, expect, readAmp, readRef, readMut, readName, readBound, readPath, readSep, readMinus, readLiteral, readDots, readFrom, readTo, readToPath, readAlt, readBrace, readLabel, readIndex, readField, readEtc, done, failed, closeAlt, closePlain, fitting, unlessOpen, starts, bounds, behind, namedIn, pathIn, negativeIn, behindField, onMark, onName, step, feed, fresh, isFailed}
-use Rattle.pattern_grammar.proofs.Sound.{feed-join, sound}
+use Rattle.pattern_grammar.specs.Lexemes.{Spot, Identifier, Lexeme, name, mark, endMark, orMark, closeBraceMark, trueMark, underscoreMark, integerMark, colonMark, wide, over, Source}
+use Rattle.pattern_grammar.specs.Trees.{inside, trueAt, negative, constant, place, exclusive, bareName, ListHead, tupleAt, structAt, sliceAt, closer, index, Pattern, alone, or, NoTopAlt, plain, WithoutRange, literal, ident, identAt, wild, reference, path, listTo, recordOf, recordTo, recordDots, ListItems, keyed, short}
+use Rattle.pattern_grammar.specs.Admitted.{openItemAt, openAt, whenStrict}
+use Rattle.pattern_grammar.specs.Machine.{ForPlain, anyAlt, behindAmp, ForAlt, firstAlt, nextAlt, behindAt, ForPattern, wholeText, forItem, forField, closedIn, upToHead, fromHead, rangeOf, atStart, atEnd, inPattern, inRecord, Reading, begin, expect, readAmp, readRef, readMut, readName, readBound, readPath, readSep, readMinus, readLiteral, readDots, readFrom, readTo, readToPath, readAlt, readBrace, readLabel, readIndex, readField, readEtc, done, failed, closeAlt, closePlain, fitting, unlessOpen, starts, bounds, behind, namedIn, pathIn, negativeIn, behindField, onMark, onName, step, feed, isFailed}
 
 -- where the tokens that are added stand does not matter
 abbrev pub nowhere : Spot

@@ -3,8 +3,8 @@
 use Prim.Native.Nat.{ℕ}
 use mathlib.Core.Bool.{Bool, true, false, not, cond, _&&_, _||_}
 use mathlib.Core.Option.{Option, none, some}
-use Rattle.pattern_grammar.specs.Lexemes.{Spot, Identifier, Source, wide}
-use Rattle.pattern_grammar.specs.Trees.{NamePath, segment, inside, LiteralPattern, trueAt, falseAt, character, whole, negative, RangeBound, constant, place, RangeDots, BoundName, Ampersand, ListHead, tupleAt, structAt, sliceAt, RecordHead, FieldKey, index, label, Pattern, alone, or, NoTopAlt, plain, between, upward, upTo, WithoutRange, literal, ident, identAt, wild, rest, reference, path, list, listTo, recordOf, recordTo, recordDots, ListItems, noItem, item, RecordFields, noField, field, RecordField, keyed, short}
+use Rattle.pattern_grammar.specs.Lexemes.{Spot, Source, wide}
+use Rattle.pattern_grammar.specs.Trees.{NamePath, segment, inside, LiteralPattern, trueAt, falseAt, character, whole, negative, RangeBound, constant, place, BoundName, ListHead, tupleAt, structAt, sliceAt, FieldKey, index, label, Pattern, alone, or, NoTopAlt, plain, between, upward, upTo, WithoutRange, literal, ident, identAt, wild, rest, reference, path, list, listTo, recordOf, recordTo, recordDots, ListItems, noItem, item, RecordFields, noField, field, RecordField, keyed, short}
 
 -- the first byte of a path, of a literal and of a bound
 unfoldable pub pathAt : NamePath → ℕ

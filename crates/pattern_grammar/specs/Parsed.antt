@@ -4,9 +4,8 @@ use mathlib.Core.Bool.{Bool, false, cond, _||_}
 use mathlib.Core.List.{List, [], _∷_}
 use lib.Dec.{eqb, ltb}
 use lib.ListN.{length}
-use Rattle.pattern_tokens.specs.declared.Token.{Token}
 use Rattle.pattern_tokens.specs.Tokens.{tokenAt}
-use Rattle.pattern_grammar.specs.Lexemes.{Spot, Lexeme, name, scalar, mark, endMark, failsMark, lexeme, strictly}
+use Rattle.pattern_grammar.specs.Lexemes.{Lexeme, name, scalar, mark, endMark, failsMark, lexeme, strictly}
 use Rattle.pattern_grammar.specs.Machine.{Reading, failed, feed, fresh}
 
 -- a token behind which there is none: the text's end, or what is no token of a pattern
