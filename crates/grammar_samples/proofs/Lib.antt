@@ -1,0 +1,5 @@
+pub mod Outlines
+pub mod Words
+pub mod Ranges
+pub mod Lists
+pub mod Random

@@ -1,0 +1,1 @@
+// Texts whose trees are computed by the definitions: see proofs/.

@@ -1,0 +1,13 @@
+pub mod Beginnings
+pub mod Pieces
+pub mod Complete
+pub mod Said
+pub mod Sound
+pub mod Viable
+pub mod Fine
+pub mod Kept
+pub mod Positions
+pub mod Settled
+pub mod Verdicts
+pub mod Progress
+pub mod Endings

@@ -1,0 +1,5 @@
+pub mod Lexemes
+pub mod Trees
+pub mod Admitted
+pub mod Machine
+pub mod Parsed
