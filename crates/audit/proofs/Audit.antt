@@ -4,23 +4,26 @@ use Prim.Native.Nat.{ℕ, _+_, _≤_, _<_}
 use mathlib.Core.Path.{_≡_}
 use mathlib.Core.Logic.{_⊎_}
 use mathlib.Core.Bool.{true, false}
-use mathlib.Core.List.{[], map}
-use lib.ListN.{getD, drop}
+use mathlib.Core.List.{List, [], map}
+use lib.ListN.{length, getD, drop}
 use Rattle.refusals.specs.declared.MirLowerError.{MirLowerError}
 use Rattle.refusals.specs.Refusals.{numberOf}
 use Rattle.image.specs.declared.PatId.{PatId}
 use Rattle.image.specs.Tables.{typeCount}
+use Rattle.place.specs.declared.Place.{Place}
 use Rattle.place.specs.declared.place_ty.PlaceTy.{PlaceTy}
 use Rattle.mir.specs.declared.BasicBlockId.{BasicBlockId}
 use Rattle.mir.specs.declared.blocks.Terminator.{Terminator}
 use Rattle.lower.specs.declared.merging.OptBlock.{OptBlock}
-use Rattle.pattern_matching.specs.Walking.{ok}
-use Rattle.pattern_matching.specs.Variants.{placeTy}
+use Rattle.pattern_matching.specs.Walking.{Ctx, Out, ok}
+use Rattle.pattern_matching.specs.Variants.{placeTy, discriminantTest}
 use Rattle.views.specs.Views.{Mir, mirOf}
 use Rattle.views.specs.Growing.{terminatorAt, GoesOn}
 use Rattle.counting.specs.Demand3.{Counted}
 use Rattle.counting.specs.Reaching.{Reached}
 use Rattle.counting.specs.Counting.{reachedFrom, Standing}
+use Rattle.named.specs.Named.{NamedBelow, TestLocal}
+use Rattle.named.proofs.Tested.{test-local}
 use Rattle.meaning.specs.Values.{Value}
 use Rattle.meaning.specs.Running.{Env}
 use Rattle.meaning.specs.Matching.{matches}
@@ -32,6 +35,7 @@ use Rattle.called.specs.Passes.{TwoPasses}
 use Rattle.called.proofs.Runs.{if-it-matches, if-not, stops}
 use Rattle.called.proofs.Bodies.{gives, only-those-open, those-open, two-passes, counted, reached-visits, other-visits}
 use Rattle.called.proofs.Refusals.{fit-refused}
+use Rattle.called.proofs.Naming.{named-throughout}
 use Rattle.audit.specs.Started.{Row, answerBy}
 use Rattle.audit.specs.Call.{lowering}
 use Rattle.audit.proofs.Proved as proved
@@ -47,7 +51,7 @@ module _ (call : Call) (out : HandedOut) (accepted : Accepted call out) (t : ℕ
     (named : t < typeCount (call .image)) (v : Value) (fitting : Fitting (call .image) (call .bindings) (startOf call) (call .place) t (patternOf call) v) (M : Mir)
     (goes-on : GoesOn (mirOf (after out)) M) (env : Env) where
   -- "the blocks lead a value to the then block when the Reference says it matches, with the bindings it says": to the end of then, every
-  -- other local handed in but the discriminant's unchanged
+  -- other local handed in unchanged
   pub a-value-that-matches-comes-to-then : matches (call .image) (patternOf call) v ≡ true →
       Comes (call .image) (call .bindings) M (call .place) v (startOf call) (call .start) env (binds (call .image) (patternOf call) (pathOf (call .place)) v) (out .then .0) (drop (out .counts .statements) (M .lines))
   a-value-that-matches-comes-to-then = if-it-matches call out accepted t typed named v fitting M goes-on env
@@ -93,6 +97,16 @@ module _ (call : Call) (out : HandedOut) (accepted : Accepted call out) where
   pub every-other-one-never : (n : ℕ) → ((q : Reached) → Standing q (reachedFrom (call .image) (patternOf call) (placeTy (call .image) (before call) (call .place))) → q .number ≡ n → ⊥) →
       getD (out .visits) n 0 ≡ 0
   every-other-one-never = other-visits call out accepted
+
+-- Request S-5, "a local not used before": in the body that an accepted call hands out nothing names a local from the count of locals on, nor did anything in the body that
+-- it was handed ..
+pub nothing-names-a-local-from-the-count-on : (call : Call) (out : HandedOut) → Accepted call out → NamedBelow (before call) × NamedBelow (after out)
+nothing-names-a-local-from-the-count-on = named-throughout
+
+-- .. and the local that a test of an enum makes is the count: it is made live in the block of the test, and set there.
+pub the-test's-local-is-the-count : (image : List ℕ) (p v : ℕ) (ctx : Ctx) (current : BasicBlockId) (els : OptBlock) (place : Place) (r : Out) → place .len ≤ 16 → length (place .elems) ≡ 16 →
+    discriminantTest image p v ctx current els place ≡ ok r → TestLocal (ctx .state) current place (r .ctx .state)
+the-test's-local-is-the-count = test-local
 
 -- A pattern that fits is refused for a limit (11) or for want of a scope (14) alone.
 pub a-fitting-pattern-is-refused-by-11-or-14-alone : (call : Call) (e : MirLowerError) (p : PatId) (t : ℕ) → Refused call e p → placeTy (call .image) (before call) (call .place) ≡ PlaceTy.Ty t →
