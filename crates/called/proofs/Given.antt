@@ -11,7 +11,7 @@ use lib.Seq.{getD-take, getD-drop}
 use Rattle.row_tables.specs.Rows.{rowAt, rowsOf}
 use Rattle.row_tables.proofs.Tables.{row-of}
 use Rattle.image.specs.Tables.{typeCount, variantCount, patternCount, bindingCount, listCount, dataCount}
-use Rattle.image.specs.Lists.{allBelow}
+use Rattle.image.specs.Lists.{allBelow, allIn}
 use Rattle.image.specs.Rules.{withinLimits}
 use Rattle.image.specs.Valid.{rules, valid}
 use Rattle.image.proofs.Bools.{and-left, and-right, all-true-at, below-at}
@@ -30,7 +30,9 @@ use Rattle.views.specs.Views.{terminatorOf, lineOf, mirOf}
 use Rattle.lower_calls.specs.Calls.{bodyTaken}
 use Rattle.growth.specs.Opened.{terminator, lines, Below, ElseReady, Ready, Starts}
 use Rattle.growth.proofs.Working.{below-append}
-use Rattle.handed.specs.Handed.{startHolds, elseHolds, placeHolds, bindingsHold, patternHanded, matchHolds}
+use Rattle.handed.specs.Handed.{startHolds, elseHolds, placeHolds, bindingHolds, bindingsHold, patternHanded, matchHolds}
+use Rattle.named.specs.Named.{WordsBelow}
+use Rattle.param_runs.proofs.Words.{all-below}
 use Rattle.called.specs.Call.{Call, before, startOf}
 use Rattle.called.specs.Acceptance.{Taken}
 
@@ -42,6 +44,7 @@ pub record Given (call : Call) : Type 0 where
   pub starts : Starts (startOf call) (call .start) (call .else)
   pub within : call .place .len ≤ 16
   pub root : call .place .local .0 < length (before call .locals)
+  pub bound : WordsBelow (call .bindings) (length (before call .locals))
 
 -- a valid image has at most 512 patterns
 pub few-patterns : (image : List ℕ) → valid image ≡ true → patternCount image ≤ 512
@@ -173,9 +176,14 @@ module _ (call : Call) (T : Taken call) where
       let few = within _ _ (b .blocks) (b .statements) (b .locals) (b .scopes) (b .entries) c (T .body) .locals in
       length-words (b .locals) (c .locals) (omega (arith, long, few))
 
+  -- the bindings' locals are there
+  bound-there : WordsBelow (call .bindings) (c .locals)
+  unfolding bindingsHold
+  bound-there = all-below c (call .bindings) (and-right (eqb (length (call .bindings)) (bindingCount (call .image))) (allIn (bindingHolds c) (call .bindings)) (test 1))
+
   -- all of it
   pub given : Given call
   given =
       let (root, short) = place-there in
       let n = locals-counted in
-      record { image-valid = T .image-valid; there = pattern-there; few = few-patterns (call .image) (T .image-valid); starts = starts; within = short; root = omega (arith, root, n) }
+      record { image-valid = T .image-valid; there = pattern-there; few = few-patterns (call .image) (T .image-valid); starts = starts; within = short; root = omega (arith, root, n); bound = subst (WordsBelow (call .bindings)) (sym n) bound-there }

@@ -8,3 +8,4 @@ pub mod Refusals
 pub mod Restored
 pub mod Params
 pub mod Acceptances
+pub mod Naming

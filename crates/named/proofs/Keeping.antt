@@ -27,7 +27,7 @@ use Rattle.lower.specs.Temps.{isSlice, temp, bindingLocal, pushStorageLiveForLo
 use Rattle.views.specs.Views.{Line, terminatorOf, lineOf, mirOf}
 use Rattle.pattern_matching.specs.Walking.{elseState}
 use Rattle.counting.proofs.Holding.{Gives, gives, stops, gives-then}
-use Rattle.named.specs.Named.{StatementBelow, TerminatorBelow, NamesBelow, NamedBelow}
+use Rattle.named.specs.Named.{StatementBelow, TerminatorBelow, NamesBelow, NamedBelow, WordsBelow}
 use Rattle.named.proofs.Rows.{each-as, each-more, each-made, each-set, statement-more, terminator-more, terminator-row, live-row}
 
 -- a state with at least n locals, in which nothing names one that there is not
@@ -117,7 +117,7 @@ room P true a p = gives P a p
 room P false a p = stops P MirLowerError.Limit
 
 -- a test that refuses, or what follows
-guarded : {A : Type 0} {P : A → Type 0} (b : Bool) (e : MirLowerError) (x : Result A) → Gives P x → Gives P (cond b (refused e) x)
+pub guarded : {A : Type 0} {P : A → Type 0} (b : Bool) (e : MirLowerError) (x : Result A) → Gives P x → Gives P (cond b (refused e) x)
 guarded {P = P} true e x h = stops P e
 guarded false e x h = h
 
@@ -153,12 +153,8 @@ keeps-temp image st word block k =
     (gives-then {Q = Kept m} (tryLocal st word) (λ st₁. pushStorageLiveForLocal st₁ (nextLocal st) block) (room (Kept m) (ltb (length (st .locals)) localLimit) (newLocal st word) (kept-local st word k))
     (λ st₁ k₁. keeps-live st₁ (nextLocal st) block (omega arith) k₁))
 
--- the bindings' locals are below n
-abbrev pub BoundBelow : List ℕ → ℕ → Type 0
-BoundBelow bindings n = (b : ℕ) → getD bindings b 65535 ≢ 65535 → getD bindings b 65535 < n
-
--- so is the local of a binding that has one
-pub bound-local : {n : ℕ} (bindings : List ℕ) (b : ℕ) → BoundBelow bindings n → Gives (λ (l : LocalId). l .0 < n) (bindingLocal bindings b)
+-- the local of a binding that has one
+pub bound-local : {n : ℕ} (bindings : List ℕ) (b : ℕ) → WordsBelow bindings n → Gives (λ (l : LocalId). l .0 < n) (bindingLocal bindings b)
 unfolding bindingLocal
 bound-local {n = n} bindings b h = by (eqb (getD bindings b 65535) 65535) refl
   where

@@ -3,3 +3,4 @@ pub mod Keeping
 mod Testing
 pub mod Walks
 pub mod Taken
+pub mod Tested

@@ -33,9 +33,9 @@ use Rattle.pattern_matching.specs.Tests.{boolWord, usizeWord, compare, patternM
 use Rattle.pattern_matching.specs.Variants.{discriminantSwitch, discriminantTest}
 use Rattle.pattern_matching.specs.Slices.{RestOf, lengthConstant, lengthCompared, lengthTest}
 use Rattle.counting.proofs.Holding.{Holds, Gives, holds, gives, refuses, stops, holds-step, holds-as}
-use Rattle.named.specs.Named.{LeftBelow}
+use Rattle.named.specs.Named.{LeftBelow, WordsBelow}
 use Rattle.named.proofs.Rows.{left-more, place-row, constant-row, binary-row}
-use Rattle.named.proofs.Keeping.{Kept, kept-less, kept-terminator, keeps-block, keeps-statement, keeps-else, keeps-live, keeps-temp, BoundBelow, bound-local}
+use Rattle.named.proofs.Keeping.{Kept, kept-less, kept-terminator, keeps-block, keeps-statement, keeps-else, keeps-live, keeps-temp, bound-local}
 
 -- of an accepted walk: there are at least n locals, and nothing names one that there is not
 abbrev pub KeptBehind : ℕ → Out → Type 0
@@ -167,7 +167,7 @@ keeps-length {n} rest image p many ctx c els place h k =
     holds-step p (tryBlock st₃) _ (keeps-block st₃ k₃) (λ st₄ k₄.
     keeps-compared rest image p many ctx st st₄ c (nextBlock st₃) (elseBlock st₂ els) (omega arith) k₄)))))
 
-module _ {n : ℕ} (bindings : List ℕ) (below : BoundBelow bindings n) where
+module _ {n : ℕ} (bindings : List ℕ) (below : WordsBelow bindings n) where
   -- what fills a binding
   pub keeps-binding : (p q b : ℕ) (how : BindingMode) (ctx : Ctx) (c : BasicBlockId) (els : OptBlock) (place : Place) → place .local .0 < n → Kept n (ctx .state) →
       Holds (KeptBehind n) (patternMatchBinding bindings p q b how ctx c els place)

@@ -27,7 +27,8 @@ use Rattle.pattern_matching.specs.Variants.{placeTy, shapeOf, needed, patternMa
 use Rattle.pattern_matching.specs.Slices.{RestOf, lengthTest, restBound, sliceItems, sliceOn, suffixItems}
 use Rattle.pattern_matching.specs.Patterns.{refusing, passing, Alternatives, behind, alternative, alternatives, alternativesEnd, orPattern, endOp, rangePattern, pathPattern, bindPattern, restOf, patternMatchInner, lowerings, lowering?, patternMatch}
 use Rattle.counting.proofs.Holding.{Holds, holds, refuses, holds-next, holds-step}
-use Rattle.named.proofs.Keeping.{Kept, kept-terminator, keeps-block, keeps-else, BoundBelow}
+use Rattle.named.proofs.Keeping.{Kept, kept-terminator, keeps-block, keeps-else}
+use Rattle.named.specs.Named.{WordsBelow}
 use Rattle.named.proofs.Testing.{KeptBehind, Keeps, in-check, keeps-out, same-root, keeps-constant, keeps-end, keeps-discriminant, keeps-length, keeps-binding, keeps-local, keeps-lit}
 
 -- one that refuses always
@@ -264,7 +265,7 @@ module _ (n : ℕ) where
       (keeps-alternatives p alts g mode (withState ctx st) (nextBlock (ctx .state)) c place h k₁) (λ a k₂.
       keeps-ended p mode (a .ctx) (a .left) (nextBlock (ctx .state)) els k₂))
 
-  module _ (bindings : List ℕ) (below : BoundBelow bindings n) where
+  module _ (bindings : List ℕ) (below : WordsBelow bindings n) where
     -- a rest
     keeps-rest : (rest : RestOf) (p front end : ℕ) → Keeps n (restBound rest bindings p front end)
     unfolding restBound
@@ -368,7 +369,7 @@ module _ (n : ℕ) where
         keep? (sub s) = keeps s
 
 -- an accepted call of `pattern_match`
-pub match-kept : (n : ℕ) (image bindings : List ℕ) → BoundBelow bindings n → (pat : Pat) (ctx : Ctx) (c : BasicBlockId) (els : OptBlock) (place : Place) (r : Out) → place .local .0 < n →
+pub match-kept : (n : ℕ) (image bindings : List ℕ) → WordsBelow bindings n → (pat : Pat) (ctx : Ctx) (c : BasicBlockId) (els : OptBlock) (place : Place) (r : Out) → place .local .0 < n →
     Kept n (ctx .state) → patternMatch image bindings pat ctx c els place ≡ ok r → Kept n (r .ctx .state)
 unfolding patternMatch
 match-kept n image bindings below pat ctx c els place r h k e =

@@ -1,9 +1,15 @@
 -- Which locals a body names: none from its count of locals on, so that the one that is made next was not used before. Assumes nothing: these are definitions.
 use Prim.Native.Nat.{ℕ, _<_}
-use mathlib.Core.List.{List, [], _∷_}
-use lib.ListN.{length}
+use mathlib.Core.Path.{_≡_}
+use mathlib.Core.Logic.{_≢_}
+use mathlib.Core.List.{List, [], _∷_, _++_}
+use lib.ListN.{length, getD}
+use Rattle.place.specs.declared.Place.{Place}
+use Rattle.place.specs.Places.{projectionOf}
+use Rattle.mir.specs.declared.BasicBlockId.{BasicBlockId}
 use Rattle.mir.specs.declared.blocks.Terminator.{Terminator}
 use Rattle.mir.specs.declared.rvalues.Left.{Left}
+use Rattle.mir.specs.declared.rvalues.PlaceRvalue.{PlaceRvalue}
 use Rattle.state.specs.State.{State}
 use Rattle.views.specs.Views.{Rvalue, ofPlace, ofConstant, binary, unknown, Statement, live, dead, set, Line, mirOf}
 
@@ -47,3 +53,16 @@ pub record NamesBelow (n : ℕ) (st : State) : Type 0 where
 -- nothing names a local from the count of locals on
 abbrev pub NamedBelow : State → Type 0
 NamedBelow st = NamesBelow (length (st .locals)) st
+
+-- the locals of those bindings that have one are below n
+abbrev pub WordsBelow : List ℕ → ℕ → Type 0
+WordsBelow bindings n = (x : ℕ) → getD bindings x 65535 ≢ 65535 → getD bindings x 65535 < n
+
+-- the local of a test of an enum: one more than there were, the last entry of the last scope, made live and then set in the block of the test
+pub record TestLocal (st : State) (current : BasicBlockId) (place : Place) (st₁ : State) : Type 0 where
+  pub local : st₁ .locals ≡ st .locals ++ (258 ∷ [])
+  pub entry : st₁ .entries ≡ st .entries ++ (length (st .locals) ∷ [])
+  pub lines : mirOf st₁ .lines ≡ mirOf st .lines
+      ++ (record { block = current .0; statement = live (length (st .locals)) }
+      ∷ record { block = current .0; statement = set (length (st .locals)) (ofPlace PlaceRvalue.Discr (record { local = place .local .0; elems = projectionOf place })) }
+      ∷ [])

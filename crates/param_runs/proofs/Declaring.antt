@@ -27,7 +27,8 @@ use Rattle.lowered_params.specs.declared.SelfParam.{SelfParam}
 use Rattle.lowered_params.specs.Params.{Param, Declared, paramLocal, plainBinding, boundTo, declareSelf, declareParam, declareParams, declareBinding, declareBindings, declare}
 use Rattle.lowered_params.specs.Calls.{bindsReceiver, noneBindsReceiver}
 use Rattle.counting.proofs.Holding.{Gives, gives, stops, gives-then}
-use Rattle.param_runs.proofs.Words.{WordsBelow, words-more, bound-below, bound-keeps}
+use Rattle.named.specs.Named.{WordsBelow}
+use Rattle.param_runs.proofs.Words.{words-more, bound-below, bound-keeps}
 
 -- from one state to another new locals of these types were made, and nothing else of a body; a body has at most 512 locals
 pub record Makes (st : State) (types : List ℕ) (st₁ : State) : Type 0 where

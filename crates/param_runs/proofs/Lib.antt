@@ -1,6 +1,6 @@
 mod Shutting
 mod Owning
-mod Words
+pub mod Words
 mod Plain
 mod Declaring
 mod Stepping

@@ -32,11 +32,12 @@ use Rattle.correctness.proofs.Trails.{Trail, Landing, trail-here, trail-seq}
 use Rattle.correctness.proofs.Walking.{rest, after-append, Shares, Walked}
 use Rattle.correctness.proofs.Sharing.{shares-same}
 use Rattle.correctness.proofs.BindingNames.{names, distinct-apart, distinct-right}
+use Rattle.named.specs.Named.{WordsBelow}
 use Rattle.param_runs.specs.Through.{whole, paramsFit, paramsBind, paramsBound, HeldFrom, Through, end, next}
 use Rattle.param_runs.proofs.Owning.{unchanged, param-case}
 use Rattle.param_runs.proofs.OpenBlocks.{param-opens, params-open}
 use Rattle.param_runs.proofs.Typing.{TypedFrom, typed-grown, NamedParam, named-first, named-rest}
-use Rattle.param_runs.proofs.Words.{WordsBelow, words-more}
+use Rattle.param_runs.proofs.Words.{words-more}
 use Rattle.param_runs.proofs.Walks.{sceneAt, param-shares, lowered-walks}
 use Rattle.param_runs.proofs.Fitting.{asked, fit-first, fit-rest}
 use Rattle.param_runs.proofs.Holding.{SmallFrom, held-later}

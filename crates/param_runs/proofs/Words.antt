@@ -17,13 +17,10 @@ use Rattle.image.proofs.Bools.{and-left, and-right}
 use Rattle.mir.specs.declared.Counts.{Counts}
 use Rattle.state.specs.State.{State, countsOf}
 use Rattle.handed.specs.Handed.{bindingHolds, bindingsHold}
+use Rattle.named.specs.Named.{WordsBelow}
 use Rattle.lowered_params.specs.Params.{boundTo}
 use Rattle.meaning.specs.Fits.{present}
 use Rattle.correctness.proofs.BindingNames.{or-elim}
-
--- the locals that there are of bindings are below n
-abbrev pub WordsBelow : List ℕ → ℕ → Type 0
-WordsBelow bindings n = (x : ℕ) → getD bindings x 65535 ≢ 65535 → getD bindings x 65535 < n
 
 -- below more too
 pub words-more : (bindings : List ℕ) (n m : ℕ) → n ≤ m → WordsBelow bindings n → WordsBelow bindings m
@@ -57,7 +54,7 @@ bound-keeps bindings none l x h = refl
 bound-keeps bindings (some b) l x h = getD-set-other bindings b x l 65535 (λ e. h (ap some (sym e)))
 
 -- those of a list of which each is a local or none
-all-below : (c : Counts) (bindings : List ℕ) → allIn (bindingHolds c) bindings ≡ true → WordsBelow bindings (c .locals)
+pub all-below : (c : Counts) (bindings : List ℕ) → allIn (bindingHolds c) bindings ≡ true → WordsBelow bindings (c .locals)
 unfolding allIn bindingHolds
 all-below c [] e x k = absurd (k refl)
 all-below c (l ∷ ls) e zero k =
