@@ -79,7 +79,7 @@ module _ (image bindings : List ℕ) (p : PatId) (from count : ℕ) (mode : Matc
     pub alternatives-over : {r : Lowered} {bl : List ℕ} → count ≤ i →
         ((statements locals entries scopes visits : List ℕ) → Ready (bodyOf (lent (t .blocks) statements locals entries) scopes) c →
         Answers (bodyOf (lent (t .blocks) statements locals entries) scopes) c (here .0) (bodyOf (lent bl statements locals entries) scopes) (loweredCounts r)
-        (walkOf r (bodyOf (lent bl statements locals entries) scopes) visits) (alternativesLeft (p .0) mode (ctxOf (bodyOf (lent (t .blocks) statements locals entries) scopes) c d visits) here join els)) →
+        (walkOf r (bodyOf (lent bl statements locals entries) scopes) visits) (alternativesLeft (p .0) mode (ctxOf (bodyOf (lent (t .blocks) statements locals entries) scopes) c visits) here join els)) →
         JoinedBy c join els r → Rest r (withBlocks t bl) v
     alternatives-over {r = r} h F on = record {
       answers = λ scopes visits R H.
