@@ -122,9 +122,7 @@ class Builder:
         return local
 
     def discr_temp(self, block, p):
-        if self.body.discriminant is None:
-            self.body.discriminant = self.temp("i128", block, p)
-        return self.body.discriminant
+        return self.temp("i128", block, p)
 
     def binding_local(self, binding, asker):
         local = self.body.binding_locals[binding]

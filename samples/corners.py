@@ -81,12 +81,13 @@ def check_document():
 
 
 def check_variants():
-    """Enum tests share one discriminant local, made at the first."""
+    """Each test of an enum has a discriminant local of its own."""
     body = lowered(on.enum_twice)
-    assert (body.discriminant, body.locals) == (1, [1, "i128"])
-    assert statements(body) == ["live 1"] + ["set 1 discr 0"] * 4
+    assert body.locals == [1] + ["i128"] * 4
+    assert sorted(statements(body)) == sorted(f"{word} {local}{what}" for local in range(1, 5)
+                                              for word, what in (("live", ""), ("set", " discr 0")))
     assert ends(on.enum_twice)[0] == "switch 1 1 2 3"
-    assert ends(on.enum_twice)[3] == "switch 1 0 4 5"
+    assert ends(on.enum_twice)[3] == "switch 2 0 4 5"
     body = lowered(on.bind_some)
     assert body.statements == [[("live", 2), ("set", 2, ("discr", (0, ())))],
                                [("live", 1), ("set", 1, ("copy", (0, ())))], []]
