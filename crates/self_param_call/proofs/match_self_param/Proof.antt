@@ -1,11 +1,11 @@
 use borrow.Author.Needs.{needs}
-use Rattle.pattern_calls.proofs.match_self_param.Statement.{statement}
-use Rattle.pattern_calls.proofs.match_self_param.Tie as tie
-use Rattle.pattern_calls.proofs.match_self_param.Reads as reads
-use Rattle.pattern_calls.proofs.match_self_param.Lts as lts
+use Rattle.self_param_call.proofs.match_self_param.Statement.{statement}
+use Rattle.self_param_call.proofs.match_self_param.Tie as tie
+use Rattle.self_param_call.proofs.match_self_param.Reads as reads
+use Rattle.self_param_call.proofs.match_self_param.Lts as lts
 use Rattle.handed.proofs.self_holds.Reads as self-holds-reads
 use Rattle.lower_calls.proofs.opening.open.Reads as open-reads
-use Rattle.pattern_calls.proofs.steps.self_step.Reads as self-step-reads
+use Rattle.self_param_call.proofs.self_step.Reads as self-step-reads
 use mathlib.Core.Path.{sym, _∙_}
 use borrow.Author.Tests.{not-true, not-false}
 use Rattle.lower_calls.proofs.Prologue.{taken, taken-sized}

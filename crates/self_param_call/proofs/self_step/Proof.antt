@@ -1,16 +1,16 @@
 use borrow.Author.Needs.{needs}
-use Rattle.pattern_calls.proofs.steps.self_step.Statement.{statement}
-use Rattle.pattern_calls.proofs.steps.self_step.Tie as tie
-use Rattle.pattern_calls.proofs.steps.self_step.Reads as reads
-use Rattle.pattern_calls.proofs.steps.self_step.Lts as lts
+use Rattle.self_param_call.proofs.self_step.Statement.{statement}
+use Rattle.self_param_call.proofs.self_step.Tie as tie
+use Rattle.self_param_call.proofs.self_step.Reads as reads
+use Rattle.self_param_call.proofs.self_step.Lts as lts
 use Rattle.lower_calls.proofs.opening.clear_above.Reads as clear-above-reads
 use Rattle.pattern_parts.proofs.bindings.pattern_match_binding.Reads as pattern-match-binding-reads
 use mathlib.Core.Path.{refl}
 use native.Mathlib.Omega.{arith}
 use Rattle.lower_calls.proofs.Prologue.{taken-sized}
 use Rattle.pattern_matching.specs.Walking.{localPlace}
-use Rattle.pattern_calls.proofs.Asking.{cleared-now, clear-asked, fill-asked}
-use Rattle.pattern_calls.proofs.Answering.{self-matched, self-not-matched}
+use Rattle.match_calls.proofs.Starting.{cleared-now, clear-asked}
+use Rattle.self_param_call.proofs.Filling.{fill-asked, self-matched, self-not-matched}
 
 clear-above-requires : tie.Need-clear-above-requires
 clear-above-requires c κs = taken-sized _ _ _ (c .before .before .before .before .before .before .before .before .before .before .before .before .pre .0)
