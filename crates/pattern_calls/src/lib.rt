@@ -2,6 +2,7 @@
 // what lies below the counts as found, and zeros above.
 pub mod steps; // steps.rt: the calls' own steps, on an image, a body and numbers that were looked at
 
+use handed::assignment_holds;
 use handed::match_holds;
 use image::PatId;
 use lower::merging::OptBlock;
@@ -97,7 +98,7 @@ pub fn pattern_match_assignment(
         Opened::BadImage => MatchCall::BadImage,
         Opened::BadCall => MatchCall::BadCall,
         Opened::Image(tables) => {
-            if !match_holds(
+            if !assignment_holds(
                 tables,
                 bindings,
                 blocks,
@@ -106,7 +107,6 @@ pub fn pattern_match_assignment(
                 discr,
                 p,
                 current,
-                OptBlock::None,
                 place,
             ) {
                 return MatchCall::BadCall;
