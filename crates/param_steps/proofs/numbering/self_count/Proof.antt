@@ -1,8 +1,8 @@
 use borrow.Author.Needs.{needs}
-use Rattle.param_steps.proofs.shutting.self_count.Statement.{statement}
-use Rattle.param_steps.proofs.shutting.self_count.Tie as tie
-use Rattle.param_steps.proofs.shutting.self_count.Reads as reads
-use Rattle.param_steps.proofs.shutting.self_count.Lts as lts
+use Rattle.param_steps.proofs.numbering.self_count.Statement.{statement}
+use Rattle.param_steps.proofs.numbering.self_count.Tie as tie
+use Rattle.param_steps.proofs.numbering.self_count.Reads as reads
+use Rattle.param_steps.proofs.numbering.self_count.Lts as lts
 use Rattle.lowered_params.specs.Params.{selfCount}
 
 returns : tie.Need-returns
