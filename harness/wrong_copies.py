@@ -111,7 +111,7 @@ CHANGES = (
     ("a rest leaves out what the other side has", "pattern_parts/src/bindings.rt",
      "ProjectionElem::Subslice(front, end)",
      "ProjectionElem::Subslice(end, front)"),
-    ("the last deref is left out", "pattern_parts/src/entering.rt",
+    ("the last deref is left out", "pattern_entering/src/lib.rt",
      "    while 0 < left {",
      "    while 1 < left {"),
     ("ref mut for ref", "pattern_parts/src/bindings.rt",

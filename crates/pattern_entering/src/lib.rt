@@ -7,7 +7,7 @@ use place::project;
 ghost use mathlib.Core.Path.{_≡_};
 ghost use Prim.Native.Nat.{_<_};
 ghost use lib.ListN.{length, getD, set};
-ghost use Rattle.pattern_parts.specs.Parts.{oneMore, projectedResult, derefsOf};
+ghost use Rattle.pattern_entering.specs.Entering.{oneMore, projectedResult, derefsOf};
 
 // A pattern is visited once more; a word of the table holds at most 65535.
 pub fn visit(visits: &mut [u16], p: PatId)

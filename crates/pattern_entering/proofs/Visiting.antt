@@ -26,7 +26,7 @@ use Rattle.pattern_matching.specs.Walking.{Out, Walk, Lowering, step, visited, 
 use Rattle.walks.specs.declared.Lowered.{Lowered}
 use Rattle.walks.specs.Answers.{Lent, bodyOf, Placed, ctxOf, visitWord, Holds, Walks}
 use Rattle.walks.proofs.Following.{refuses, answers-by}
-use Rattle.pattern_parts.specs.Parts.{oneMore, projectedResult, derefsOf}
+use Rattle.pattern_entering.specs.Entering.{oneMore, projectedResult, derefsOf}
 
 -- `visit`, v being the table before
 module _ (v : List ℕ) (p : ℕ) where

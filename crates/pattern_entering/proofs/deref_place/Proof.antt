@@ -1,14 +1,14 @@
-use Rattle.pattern_parts.proofs.entering.deref_place.Statement.{statement}
-use Rattle.pattern_parts.proofs.entering.deref_place.Tie as tie
-use Rattle.pattern_parts.proofs.entering.deref_place.Reads as reads
-use Rattle.pattern_parts.proofs.entering.deref_place.Lts as lts
+use Rattle.pattern_entering.proofs.deref_place.Statement.{statement}
+use Rattle.pattern_entering.proofs.deref_place.Tie as tie
+use Rattle.pattern_entering.proofs.deref_place.Reads as reads
+use Rattle.pattern_entering.proofs.deref_place.Lts as lts
 use Rattle.place.proofs.project.Reads as project-reads
 use borrow.Author.Needs.{needs}
 use mathlib.Core.Path.{_≡_, _∙_}
 use native.Mathlib.Omega.{arith}
 use borrow.Author.Tests.{not-true, not-false}
-use Rattle.pattern_parts.specs.Parts.{derefsOf}
-use Rattle.pattern_parts.proofs.Visiting.{deref-stops, deref-more, deref-end}
+use Rattle.pattern_entering.specs.Entering.{derefsOf}
+use Rattle.pattern_entering.proofs.Visiting.{deref-stops, deref-more, deref-end}
 
 abbrev Inv-loop : tie.InvT-loop
 Inv-loop derefs here₀ left₀ here left = derefsOf here left ≡ derefsOf here₀ left₀

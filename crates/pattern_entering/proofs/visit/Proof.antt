@@ -1,9 +1,9 @@
 use borrow.Author.Needs.{needs}
-use Rattle.pattern_parts.proofs.entering.visit.Statement.{statement}
-use Rattle.pattern_parts.proofs.entering.visit.Tie as tie
-use Rattle.pattern_parts.proofs.entering.visit.Reads as reads
-use Rattle.pattern_parts.proofs.entering.visit.Lts as lts
-use Rattle.pattern_parts.proofs.Visiting.{visit-counted, visit-full}
+use Rattle.pattern_entering.proofs.visit.Statement.{statement}
+use Rattle.pattern_entering.proofs.visit.Tie as tie
+use Rattle.pattern_entering.proofs.visit.Reads as reads
+use Rattle.pattern_entering.proofs.visit.Lts as lts
+use Rattle.pattern_entering.proofs.Visiting.{visit-counted, visit-full}
 
 returns : tie.Need-returns
 returns c = visit-counted (c .before .before .before .args .visits .now) (c .before .before .before .args .p .0) (c .if1 .taken)
