@@ -56,7 +56,7 @@ REFUSED_OF_PARAMETERS = (
     "param_lists/only_the_first_parameter_looked_at",
     "param_lists/annotation_2_binds_self_again",
     "param_lists/a_subpattern_binds_self_again",
-    "param_locals/local_missing_from_its_scope",
+    "param_entries/local_missing_from_its_scope",
     "param_steps/else_left_open",
     "params_text/bindings_and_entries_exchanged",
     "params_start/a_scope_where_none_is_asked",

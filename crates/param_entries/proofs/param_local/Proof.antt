@@ -1,12 +1,12 @@
 use borrow.Author.Needs.{needs}
-use Rattle.param_locals.proofs.declaring.param_local.Statement.{statement}
-use Rattle.param_locals.proofs.declaring.param_local.Tie as tie
-use Rattle.param_locals.proofs.declaring.param_local.Reads as reads
-use Rattle.param_locals.proofs.declaring.param_local.Lts as lts
+use Rattle.param_entries.proofs.param_local.Statement.{statement}
+use Rattle.param_entries.proofs.param_local.Tie as tie
+use Rattle.param_entries.proofs.param_local.Reads as reads
+use Rattle.param_entries.proofs.param_local.Lts as lts
 use Rattle.mir.proofs.locals.new_local.Reads as new-local-reads
 use Rattle.mir.proofs.scopes.push_entry.Reads as push-entry-reads
 use mathlib.Core.Path.{sym, _∙_}
-use Rattle.param_locals.proofs.Entering.{local-full, local-unscoped, local-unentered, local-entered}
+use Rattle.param_entries.proofs.Entering.{local-full, local-unscoped, local-unentered, local-entered}
 
 returns : tie.Need-returns
 returns c = local-unscoped _ _ _ _ (sym (c .before .before .before .c1 .given .1) ∙ c .before .before .before .before .before .before .before .new-local .ensures .0) (c .before .before .before .before .before .before .before .new-local .ensures .1) (c .if1 .taken)

@@ -23,7 +23,7 @@ use Rattle.state.specs.Contracts.{Ready, Answers}
 use Rattle.state.proofs.Answering.{scope-count, next-local, then, stops, refuses}
 use Rattle.state.proofs.Calls.{countedCounts, countedResult, local-number, new-local-answers, push-entry-answers}
 use Rattle.lowered_params.specs.Params.{paramLocal}
-use Rattle.param_locals.specs.Declaring.{Enters}
+use Rattle.param_entries.specs.Entering.{Enters}
 
 -- the local m as an entry, where there is a scope
 abbrev entered : LocalId → State → Result State
