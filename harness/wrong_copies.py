@@ -99,7 +99,7 @@ CHANGES = (
     ("a record's field by its place in the pattern", "pattern_rows/src/lib.rt",
      "ProjectionElem::Field(list_at(image, tables, from + 2 * i))",
      "ProjectionElem::Field(i)"),
-    ("Bind with a new else", "pattern_calls/src/steps.rt",
+    ("Bind with a new else", "pattern_passes/src/lib.rt",
      "            MatchingMode::Bind,\n"
      "            p,\n"
      "            then,\n"

@@ -12,7 +12,7 @@ use param_steps::numbering::self_count;
 use param_steps::owning::Owned;
 use param_steps::owning::param_owned;
 use param_steps::shutting::shut;
-use pattern_calls::steps::check_and_bind;
+use pattern_passes::check_and_bind;
 use place::LocalId;
 use place::Place;
 use state::Stepped;

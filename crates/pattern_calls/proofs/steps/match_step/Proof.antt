@@ -6,7 +6,7 @@ use Rattle.pattern_calls.proofs.steps.match_step.Lts as lts
 use Rattle.lower_calls.proofs.opening.block_row.Reads as block-row-reads
 use Rattle.lower_calls.proofs.opening.clear_above.Reads as clear-above-reads
 use Rattle.lower_calls.proofs.opening.put_back.Reads as put-back-reads
-use Rattle.pattern_calls.proofs.steps.check_and_bind.Reads as check-and-bind-reads
+use Rattle.pattern_passes.proofs.check_and_bind.Reads as check-and-bind-reads
 use Rattle.row_tables.proofs.clear_from.Reads as clear-from-reads
 use mathlib.Core.Path.{refl}
 use native.Mathlib.Omega.{arith}

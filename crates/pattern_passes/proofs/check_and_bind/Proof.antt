@@ -1,13 +1,13 @@
 use borrow.Author.Needs.{needs}
-use Rattle.pattern_calls.proofs.steps.check_and_bind.Statement.{statement}
-use Rattle.pattern_calls.proofs.steps.check_and_bind.Tie as tie
-use Rattle.pattern_calls.proofs.steps.check_and_bind.Reads as reads
-use Rattle.pattern_calls.proofs.steps.check_and_bind.Lts as lts
+use Rattle.pattern_passes.proofs.check_and_bind.Statement.{statement}
+use Rattle.pattern_passes.proofs.check_and_bind.Tie as tie
+use Rattle.pattern_passes.proofs.check_and_bind.Reads as reads
+use Rattle.pattern_passes.proofs.check_and_bind.Lts as lts
 use Rattle.pattern_walk.proofs.pattern_match_inner.Reads as pattern-match-inner-reads
 use native.Mathlib.Omega.{arith}
 use Rattle.image.specs.Tree.{tree}
 use Rattle.walking.proofs.Asking.{walkable-after}
-use Rattle.match_calls.proofs.Walking.{check-refuses, bind-follows}
+use Rattle.pattern_passes.proofs.Walking.{check-refuses, bind-follows}
 
 pattern-match-inner-requires : tie.Need-pattern-match-inner-requires
 pattern-match-inner-requires c κs = (c .before .before .before .before .before .before .before .before .before .before .before .before .pre .0, c .before .before .before .before .before .before .before .before .before .before .before .before .pre .1)
