@@ -14,8 +14,9 @@ use Rattle.image.specs.Tree.{tree}
 use Rattle.lower.specs.declared.merging.OptBlock.{OptBlock}
 use Rattle.lower_calls.proofs.Prologue.{taken-sized}
 use Rattle.pattern_matching.specs.Patterns.{patternMatchAssignment}
-use Rattle.match_calls.proofs.Walking.{assigns}
-use Rattle.pattern_calls.proofs.Asking.{cleared-now, clear-asked, row-asked, walk-asked}
+use Rattle.pattern_passes.proofs.Walking.{assigns}
+use Rattle.match_calls.proofs.Starting.{cleared-now, clear-asked}
+use Rattle.pattern_calls.proofs.Asking.{row-asked, walk-asked}
 use Rattle.pattern_calls.proofs.Answering.{matched, not-matched}
 
 block-row-requires : tie.Need-block-row-requires

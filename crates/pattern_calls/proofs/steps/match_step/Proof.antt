@@ -6,7 +6,7 @@ use Rattle.pattern_calls.proofs.steps.match_step.Lts as lts
 use Rattle.lower_calls.proofs.opening.block_row.Reads as block-row-reads
 use Rattle.lower_calls.proofs.opening.clear_above.Reads as clear-above-reads
 use Rattle.lower_calls.proofs.opening.put_back.Reads as put-back-reads
-use Rattle.pattern_calls.proofs.steps.check_and_bind.Reads as check-and-bind-reads
+use Rattle.pattern_passes.proofs.check_and_bind.Reads as check-and-bind-reads
 use Rattle.row_tables.proofs.clear_from.Reads as clear-from-reads
 use mathlib.Core.Path.{refl}
 use native.Mathlib.Omega.{arith}
@@ -14,7 +14,8 @@ use Rattle.image.specs.Tree.{tree}
 use Rattle.lower.specs.declared.merging.OptBlock.{OptBlock}
 use Rattle.lower_calls.proofs.Prologue.{taken-sized}
 use Rattle.pattern_matching.specs.Patterns.{patternMatch}
-use Rattle.pattern_calls.proofs.Asking.{cleared-now, clear-asked, row-asked, walk-asked}
+use Rattle.match_calls.proofs.Starting.{cleared-now, clear-asked}
+use Rattle.pattern_calls.proofs.Asking.{row-asked, walk-asked}
 use Rattle.pattern_calls.proofs.Answering.{matched, not-matched}
 
 block-row-requires : tie.Need-block-row-requires
