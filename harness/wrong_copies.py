@@ -56,7 +56,7 @@ REFUSED_OF_PARAMETERS = (
     "param_lists/only_the_first_parameter_looked_at",
     "param_lists/annotation_2_binds_self_again",
     "param_lists/a_subpattern_binds_self_again",
-    "param_locals/local_missing_from_its_scope",
+    "param_entries/local_missing_from_its_scope",
     "param_steps/else_left_open",
     "params_text/bindings_and_entries_exchanged",
     "params_start/a_scope_where_none_is_asked",
@@ -99,7 +99,7 @@ CHANGES = (
     ("a record's field by its place in the pattern", "pattern_rows/src/lib.rt",
      "ProjectionElem::Field(list_at(image, tables, from + 2 * i))",
      "ProjectionElem::Field(i)"),
-    ("Bind with a new else", "pattern_calls/src/steps.rt",
+    ("Bind with a new else", "pattern_passes/src/lib.rt",
      "            MatchingMode::Bind,\n"
      "            p,\n"
      "            then,\n"
@@ -111,7 +111,7 @@ CHANGES = (
     ("a rest leaves out what the other side has", "pattern_parts/src/bindings.rt",
      "ProjectionElem::Subslice(front, end)",
      "ProjectionElem::Subslice(end, front)"),
-    ("the last deref is left out", "pattern_parts/src/entering.rt",
+    ("the last deref is left out", "pattern_entering/src/lib.rt",
      "    while 0 < left {",
      "    while 1 < left {"),
     ("ref mut for ref", "pattern_parts/src/bindings.rt",

@@ -36,7 +36,7 @@ pub record SelfHanded : Type 0 where
   pub start : BasicBlockId
   pub local : LocalId
 
--- its contract, of a call, its answer, and the tables' words when it returns
+-- its contract (crates/self_param_call/src/lib.rt), of a call, its answer, and the tables' words when it returns
 abbrev pub PromisedSelf : SelfHanded → MatchCall → Body → Type 0
 PromisedSelf call answer body =
     GivesWalk (call .body) (call .counts) (matchSelfParamCall (call .image) (call .bindings) (call .body) (call .counts) (call .binding) (call .start) (call .local)) answer body

@@ -13,6 +13,7 @@ use place::elems::elem_of;
 ghost use mathlib.Core.Path.{_≡_};
 ghost use Prim.Native.Nat.{_≤_};
 ghost use lib.ListN.{length};
+ghost use Rattle.lower.specs.declared.merging.OptBlock.{OptBlock};
 ghost use Rattle.handed.specs.Handed.{startHolds, elseHolds, placeHolds, bindingHolds, bindingsHold, patternHanded, matchHolds, selfHolds, isBlockOrNone, mergeHolds};
 
 pub fn start_holds(blocks: &[u16], counts: Counts, current: BasicBlockId) -> bool
@@ -122,6 +123,33 @@ pub fn match_holds(
         return false;
     }
     place_holds(tables.variants.count, counts, place)
+}
+
+// All that a call of `pattern_match_assignment` is handed: it has no else.
+pub fn assignment_holds(
+    tables: Tables,
+    bindings: &[u16],
+    blocks: &[u16],
+    visits: &[u16],
+    counts: Counts,
+    p: PatId,
+    current: BasicBlockId,
+    place: Place,
+) -> bool
+    requires { ⌜ (length (now blocks) ≡ 6144) × (counts .blocks ≤ 512) ⌝ }
+    ensures { λ r. ⌜ r ≡ matchHolds (record { variants = tables .variants .count; patterns = tables .patterns .count; bindings = tables .bindings .count }) (now (bindings .entry)) (now (blocks .entry)) (now (visits .entry)) counts (p .0) current OptBlock.None place ⌝ }
+{
+    match_holds(
+        tables,
+        bindings,
+        blocks,
+        visits,
+        counts,
+        p,
+        current,
+        OptBlock::None,
+        place,
+    )
 }
 
 // All that a call of `match_self_param` is handed.

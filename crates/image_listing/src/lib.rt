@@ -5,14 +5,13 @@ use image_text::put_answer;
 use listing_start::StartType;
 use listing_start::number_bindings;
 use listing_start::start_body;
+use listing_start::start_place;
 use listing_start::start_type;
 use listing_text::pen::Pen;
 use listing_text::put_refusal;
 use lower::merging::OptBlock;
 use mir::BasicBlockId;
 use pattern_calls::pattern_match;
-use place::LocalId;
-use place::Place;
 use read_image::Read;
 use read_image::read_image;
 use row_tables::clear_from;
@@ -58,11 +57,7 @@ fn put_lowered(
     let mut numbers = [0u16; 256];
     number_bindings(&mut numbers);
     clear_from(visits, 0);
-    let place = Place {
-        local: LocalId(0),
-        len: 0,
-        elems: [0u32; 16],
-    };
+    let place = start_place();
     let answer = pattern_match(
         image,
         &numbers[..count],

@@ -1,4 +1,4 @@
-// Where the listing program starts: the type of local 0, and the body.
+// Where the listing program starts: the type of local 0, the body, and the place.
 use image::BindingId;
 use image::PatId;
 use image::Tables;
@@ -6,6 +6,8 @@ use image::rows::binding_at;
 use image::rows::pat_at;
 use image::rows::type_at;
 use mir::Counts;
+use place::LocalId;
+use place::Place;
 use row_tables::clear_from;
 ghost use mathlib.Core.Path.{_≡_};
 ghost use mathlib.Core.Bool.{true};
@@ -16,6 +18,7 @@ ghost use Rattle.image.specs.Tables.{Whole, typeCount};
 ghost use Rattle.image.specs.Lists.{upFrom};
 ghost use Rattle.image.specs.Valid.{valid};
 ghost use Rattle.state.specs.State.{body, encode, countsOf};
+ghost use Rattle.pattern_matching.specs.Walking.{localPlace};
 ghost use Rattle.meaning.specs.Typing.{behind, isType};
 ghost use Rattle.listing_start.specs.Started.{startType, startState};
 ghost use Rattle.listing_start.specs.Sizes.{TablesSized, startTypeOf, IsType, localsFilled};
@@ -111,5 +114,16 @@ pub fn number_bindings(numbers: &mut [u16])
     while i < numbers.len() {
         numbers[i] = (i as u16) + 1;
         i += 1;
+    }
+}
+
+// The place that the last pattern is lowered against: local 0.
+pub fn start_place() -> Place
+    ensures { λ r. ⌜ r ≡ localPlace (record { 0 = 0 }) ⌝ }
+{
+    Place {
+        local: LocalId(0),
+        len: 0,
+        elems: [0u32; 16],
     }
 }

@@ -1,4 +1,3 @@
 pub mod Starting
-pub mod Walking
 pub mod Stepping
 pub mod Opening

@@ -18,13 +18,14 @@ use Rattle.place.specs.PlaceTypes.{Named}
 use Rattle.mir.specs.declared.BasicBlockId.{BasicBlockId}
 use Rattle.mir.specs.declared.Counts.{Counts}
 use Rattle.mir.specs.Locals.{testTypes, localTy}
-use Rattle.state.specs.State.{Body, State, decode}
+use Rattle.state.specs.State.{Body, State, body, decode, encode}
 use Rattle.state.specs.Contracts.{Ready}
 use Rattle.check_body.specs.Bodies.{isTypeWord}
 use Rattle.check_body.proofs.Checked.{local-type}
 use Rattle.lower.specs.declared.merging.OptBlock.{OptBlock}
-use Rattle.lower_calls.specs.Sizes.{Taken}
-use Rattle.lower_calls.proofs.Clearing.{Cleared}
+use Rattle.lower_calls.specs.Sizes.{Sized, Taken}
+use Rattle.lower_calls.proofs.Clearing.{Cleared, clears, sized-again}
+use Rattle.lower_calls.proofs.Prologue.{taken-sized}
 use Rattle.lower_calls.proofs.Answering.{same-word}
 use Rattle.walks.specs.Answers.{Lent, bodyOf, Primed, Begins, Placed, visitWord, Holds}
 use Rattle.handed.proofs.Handing.{Handed, start-there, else-there, root-there, elems-within}
@@ -63,6 +64,15 @@ word-named image word e = go (ltb word 256) refl
     go : (small : Bool) → ltb word 256 ≡ small → Named image (cond small (PlaceTy.Ty word) (getD testTypes (word - 256) PlaceTy.Inapplicable))
     go true s = ltb-true word (typeCount image) (or-false (ltb word (typeCount image)) (rw (lt-leb 256 word (ltb-true word 256 s)) at e))
     go false s = test-named image (word - 256)
+
+-- the tables after zeros were written above the counts
+pub cleared-now : {image : List ℕ} {tables : Tables} {b : Body} {c : Counts} {b₁ : Body} → Taken image tables b c → b₁ ≡ encode (decode b c) → Cleared b c b₁
+cleared-now {image = image} {b = b} {c = c} T is = clears (taken-sized image b c T) is
+
+-- zeros may be written above the counts again: the scopes' table is as it was
+pub clear-asked : {b : Body} {c : Counts} {bl s l sc e bl₂ s₂ l₂ e₂ : List ℕ} → Cleared b c (body bl s l sc e) → length bl₂ ≡ length bl → length s₂ ≡ length s → length l₂ ≡ length l →
+    length e₂ ≡ length e → Sized (body bl₂ s₂ l₂ sc e₂) c
+clear-asked C bls ss ls es = sized-again (C .ready) bls ss ls refl es
 
 -- a block's row below the counts is as it was found
 pub row-found : (b : Body) (c : Counts) (b₁ : Body) (k : ℕ) → Cleared b c b₁ → k < c .blocks → rowAt 12 (b .blocks) k ≡ rowAt 12 (b₁ .blocks) k

@@ -22,7 +22,8 @@ use Rattle.walks.proofs.Following.{answers-by}
 use Rattle.lowered_params.specs.declared.SelfParam.{SelfParam}
 use Rattle.lowered_params.specs.Params.{Param, Declared, paramLocal, plainBinding, boundTo, declareSelf, declareParam, declareParams, declareBindings, declare}
 use Rattle.lowered_params.specs.Calls.{paramsFrom, paramCount, paramsOf, listFormed, selfNamed}
-use Rattle.param_locals.specs.Declaring.{Declarable, SelfBound, declaredOf, Enters, Declares, DeclaresAlone}
+use Rattle.param_entries.specs.Entering.{Enters}
+use Rattle.param_locals.specs.Declaring.{Declarable, SelfBound, declaredOf, Declares, DeclaresAlone}
 use Rattle.param_lists.proofs.Listing.{paramAt, params-none, params-more, Listed, list-taken, listed-behind}
 
 -- nothing is done

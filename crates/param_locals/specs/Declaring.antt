@@ -11,8 +11,8 @@ use Rattle.image.specs.Valid.{valid}
 use Rattle.refusals.specs.Refusals.{Result, ok, refused}
 use Rattle.mir.specs.declared.Counts.{Counts}
 use Rattle.state.specs.declared.Stepped.{Stepped}
-use Rattle.state.specs.State.{Body, State, body, decode}
-use Rattle.state.specs.Contracts.{Ready, Answers, steppedResult, steppedCounts}
+use Rattle.state.specs.State.{Body, body, decode}
+use Rattle.state.specs.Contracts.{Ready, Answers, steppedCounts}
 use Rattle.lowered_params.specs.declared.SelfParam.{SelfParam}
 use Rattle.lowered_params.specs.Params.{Declared}
 
@@ -38,13 +38,7 @@ abbrev pub declaredResult : Stepped → Body → List ℕ → Result Declared
 declaredResult (Stepped.Now c) b bindings = ok (declaredOf b c bindings)
 declaredResult (Stepped.Refused e) b bindings = refused e
 
--- locals and entries l₀ and e₀ before, l and e after
-pub record Enters (defined : State → Result State) (c : Counts) (l₀ e₀ : List ℕ) (r : Stepped) (l e : List ℕ) : Type 0 where
-  pub answers : (current : ℕ) (blocks statements scopes : List ℕ) → Ready (body blocks statements l₀ scopes e₀) c →
-      Answers (body blocks statements l₀ scopes e₀) c current (body blocks statements l scopes e) (steppedCounts r) (steppedResult r (body blocks statements l scopes e))
-      (defined (decode (body blocks statements l₀ scopes e₀) c))
-
--- the same with the bindings' locals m₀ before and m after
+-- the bindings' locals m₀, the locals l₀ and the entries e₀ before, m, l and e after
 pub record Declares (defined : Declared → Result Declared) (c : Counts) (m₀ l₀ e₀ : List ℕ) (r : Stepped) (m l e : List ℕ) : Type 0 where
   pub answers : (current : ℕ) (blocks statements scopes : List ℕ) → Ready (body blocks statements l₀ scopes e₀) c →
       Answers (body blocks statements l₀ scopes e₀) c current (body blocks statements l scopes e) (steppedCounts r) (declaredResult r (body blocks statements l scopes e) m)

@@ -8,8 +8,7 @@ use lowered_params::SelfParam;
 use mir::Counts;
 use mir::locals::NewLocal;
 use mir::locals::new_local;
-use mir::scopes::Counted;
-use mir::scopes::push_entry;
+use param_entries::param_local;
 use param_lists::is_plain;
 use refusals::MirLowerError;
 use state::Stepped;
@@ -20,28 +19,9 @@ ghost use lib.ListN.{length};
 ghost use Rattle.image.specs.Tables.{Whole, patternCount, bindingCount};
 ghost use Rattle.image.specs.Tree.{tree};
 ghost use Rattle.image.specs.Valid.{valid};
-ghost use Rattle.lowered_params.specs.Params.{paramLocal, plainBinding, boundTo, declareSelf, declareParam, declareParams, declareBinding, declareBindings, declare};
+ghost use Rattle.lowered_params.specs.Params.{plainBinding, boundTo, declareSelf, declareParam, declareParams, declareBinding, declareBindings, declare};
 ghost use Rattle.lowered_params.specs.Calls.{paramsOf, listFormed, selfNamed};
-ghost use Rattle.param_locals.specs.Declaring.{Declarable, SelfBound, Enters, Declares, DeclaresAlone};
-
-// A parameter's local: the next one, of the type that the word says, as the last entry of the last scope.
-fn param_local(locals: &mut [u16], entries: &mut [u16], counts: Counts, ty: u16) -> Stepped
-    requires { ⌜ (length (now locals) ≡ 512) × (length (now entries) ≡ 1024) ⌝ }
-    ensures { λ r. ⌜ Enters (λ st. paramLocal st ty) counts (now (locals .entry)) (now (entries .entry)) r (now (locals .exit)) (now (entries .exit)) ⌝ }
-{
-    match new_local(locals, counts, ty) {
-        NewLocal::Full => Stepped::Refused(MirLowerError::Limit),
-        NewLocal::Local(c1, l) => {
-            if c1.scopes == 0 {
-                return Stepped::Refused(MirLowerError::NoScope);
-            }
-            match push_entry(entries, c1, l) {
-                Counted::Full => Stepped::Refused(MirLowerError::Limit),
-                Counted::Now(c2) => Stepped::Now(c2),
-            }
-        }
-    }
-}
+ghost use Rattle.param_locals.specs.Declaring.{Declarable, SelfBound, Declares, DeclaresAlone};
 
 // The binding of a plain parameter has the parameter's own local l.
 fn bind_plain(image: &[u8], tables: Tables, bindings: &mut [u16], p: PatId, l: u16)

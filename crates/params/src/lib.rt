@@ -13,9 +13,9 @@ use lowering::walk_params;
 use mir::BasicBlockId;
 use mir::Counts;
 use param_locals::lists::open_params;
+use param_steps::numbering::lowered_answer;
 use param_steps::saving::put_words;
 use param_steps::saving::saved_words;
-use place::LocalId;
 use row_tables::clear_from;
 use walks::Lowered;
 ghost use Rattle.row_tables.specs.Rows.{zeros};
@@ -62,7 +62,7 @@ fn params_step(
         receiver,
         current,
     ) {
-        Lowered::Done(c, then, other) => ParamsCall::Lowered(c, then, LocalId(counts.locals)),
+        Lowered::Done(c, then, other) => lowered_answer(counts, c, then),
         Lowered::Refused(e, q) => {
             put_back(blocks, current, row);
             clear_above(blocks, statements, locals, scopes, entries, counts);

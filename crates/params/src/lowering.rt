@@ -6,11 +6,12 @@ use lowered_params::SelfParam;
 use mir::BasicBlockId;
 use mir::Counts;
 use param_locals::declaring::declare;
+use param_steps::numbering::next_local;
+use param_steps::numbering::self_count;
 use param_steps::owning::Owned;
 use param_steps::owning::param_owned;
-use param_steps::shutting::self_count;
 use param_steps::shutting::shut;
-use pattern_calls::steps::check_and_bind;
+use pattern_passes::check_and_bind;
 use place::LocalId;
 use place::Place;
 use state::Stepped;
@@ -118,7 +119,7 @@ fn lower_params(
                 here = then;
             }
         }
-        l += 1;
+        l = next_local(l);
         k += 2;
         left -= 1;
     }

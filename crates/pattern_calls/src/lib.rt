@@ -2,24 +2,20 @@
 // what lies below the counts as found, and zeros above.
 pub mod steps; // steps.rt: the calls' own steps, on an image, a body and numbers that were looked at
 
+use handed::assignment_holds;
 use handed::match_holds;
-use handed::self_holds;
-use image::BindingId;
 use image::PatId;
 use lower::merging::OptBlock;
 use lower_calls::opening::Opened;
 use lower_calls::opening::open;
 use match_calls::MatchCall;
-use match_calls::SelfCall;
 use mir::BasicBlockId;
 use mir::Counts;
-use place::LocalId;
 use place::Place;
 use steps::assignment_step;
 use steps::match_step;
-use steps::self_step;
 ghost use Rattle.state.specs.State.{body};
-ghost use Rattle.match_calls.specs.Calls.{patternMatchCall, patternMatchAssignmentCall, matchSelfParamCall, Visits, GivesSelf};
+ghost use Rattle.match_calls.specs.Calls.{patternMatchCall, patternMatchAssignmentCall, Visits};
 
 // The pattern p, tested and then bound from the block `current` on, against what lies at a place. `visits` counts how often each pattern was visited.
 pub fn pattern_match(
@@ -97,7 +93,7 @@ pub fn pattern_match_assignment(
         Opened::BadImage => MatchCall::BadImage,
         Opened::BadCall => MatchCall::BadCall,
         Opened::Image(tables) => {
-            if !match_holds(
+            if !assignment_holds(
                 tables,
                 bindings,
                 blocks,
@@ -105,7 +101,6 @@ pub fn pattern_match_assignment(
                 counts,
                 p,
                 current,
-                OptBlock::None,
                 place,
             ) {
                 return MatchCall::BadCall;
@@ -124,47 +119,6 @@ pub fn pattern_match_assignment(
                 p,
                 current,
                 place,
-            )
-        }
-    }
-}
-
-// The binding b is filled with a copy of the local l at the end of the block `current`.
-pub fn match_self_param(
-    image: &[u8],
-    bindings: &[u16],
-    blocks: &mut [u16],
-    statements: &mut [u16],
-    locals: &mut [u16],
-    scopes: &mut [u16],
-    entries: &mut [u16],
-    counts: Counts,
-    b: BindingId,
-    current: BasicBlockId,
-    l: LocalId,
-) -> SelfCall
-    ensures { λ r. ⌜ GivesSelf (body (now (blocks .entry)) (now (statements .entry)) (now (locals .entry)) (now (scopes .entry)) (now (entries .entry))) counts (matchSelfParamCall (now (image .entry)) (now (bindings .entry)) (body (now (blocks .entry)) (now (statements .entry)) (now (locals .entry)) (now (scopes .entry)) (now (entries .entry))) counts (b .0) current l) r (body (now (blocks .exit)) (now (statements .exit)) (now (locals .exit)) (now (scopes .exit)) (now (entries .exit))) ⌝ }
-{
-    match open(image, blocks, statements, locals, scopes, entries, counts) {
-        Opened::BadImage => SelfCall::BadImage,
-        Opened::BadCall => SelfCall::BadCall,
-        Opened::Image(tables) => {
-            if !self_holds(tables, bindings, blocks, counts, b, current, l) {
-                return SelfCall::BadCall;
-            }
-            self_step(
-                image,
-                tables,
-                bindings,
-                blocks,
-                statements,
-                locals,
-                scopes,
-                entries,
-                counts,
-                b,
-                current,
-                l,
             )
         }
     }

@@ -28,7 +28,7 @@ use Rattle.pattern_matching.specs.Tests.{literal, litBy, constantPath}
 use Rattle.pattern_matching.specs.Patterns.{rangePattern, pathPattern, bindPattern, patternMatchInner}
 use Rattle.walks.specs.declared.Lowered.{Lowered}
 use Rattle.walks.specs.Answers.{Lent, Begins}
-use Rattle.pattern_parts.proofs.Visiting.{visitedIn}
+use Rattle.pattern_entering.proofs.Visiting.{visitedIn}
 use Rattle.pattern_tests.specs.Testing.{isLiteral}
 use Rattle.pattern_switching.proofs.Cutting.{not-in-check}
 use Rattle.pattern_nodes.specs.Leaves.{leafPattern}

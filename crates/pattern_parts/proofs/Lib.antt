@@ -1,5 +1,4 @@
 mod Typing
 pub mod Needed
-pub mod Visiting
 mod Filling
 mod Resting

@@ -1,5 +1,5 @@
 -- What a walk does besides testing, cut where the code is cut, and what the functions promise. Assumes nothing: these are definitions.
-use Prim.Native.Nat.{ℕ, zero, suc, _+_}
+use Prim.Native.Nat.{ℕ}
 use mathlib.Core.Bool.{Bool, true, false, cond}
 use mathlib.Core.Option.{Option, none, some}
 use mathlib.Core.List.{List}
@@ -12,9 +12,8 @@ use Rattle.image.specs.Lists.{allIn, member}
 use Rattle.image.specs.Rules.{listed}
 use Rattle.image.specs.Types.{Shape, integer, bool, char, str, tuple, adt, reference, array, slice, unknown}
 use Rattle.refusals.specs.declared.MirLowerError.{MirLowerError}
-use Rattle.refusals.specs.Refusals.{Result, ok, refused, andThen}
+use Rattle.refusals.specs.Refusals.{Result, ok, refused}
 use Rattle.place.specs.declared.Place.{Place}
-use Rattle.place.specs.declared.Projected.{Projected}
 use Rattle.place.specs.declared.elems.ProjectionElem.{ProjectionElem}
 use Rattle.place.specs.declared.place_ty.PlaceTy.{PlaceTy}
 use Rattle.mir.specs.declared.BasicBlockId.{BasicBlockId}
@@ -28,19 +27,6 @@ use Rattle.pattern_parts.specs.declared.adts.NeededTy.{NeededTy}
 use Rattle.pattern_parts.specs.declared.adts.TupleAt.{TupleAt}
 use Rattle.pattern_parts.specs.declared.adts.ReferenceAt.{ReferenceAt}
 use Rattle.pattern_parts.specs.declared.adts.AdtAt.{AdtAt}
-
--- a word of the visits' table, raised by one: it holds at most 65535
-unfoldable pub oneMore : ℕ → ℕ
-oneMore n = cond (ltb n 65535) (n + 1) n
-
--- a projected place, as the definitions have it
-abbrev pub projectedResult : Projected → Result Place
-projectedResult r = cond (r .ok) (ok (r .place)) (refused MirLowerError.Limit)
-
--- the place so many derefs on
-unfoldable pub derefsOf : Place → ℕ → Result Place
-derefsOf place zero = ok place
-derefsOf place (suc n) = andThen (project place ProjectionElem.Deref) (λ onward. derefsOf onward n)
 
 -- the type of the table at a place
 unfoldable pub neededTy : PlaceTy → NeededTy

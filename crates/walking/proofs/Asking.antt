@@ -24,7 +24,7 @@ use Rattle.walks.specs.declared.Lowered.{Lowered}
 use Rattle.walks.specs.Answers.{Lent, Begins, Lowers, Walks}
 use Rattle.walks.proofs.Following.{begins-grown, block-onward}
 use Rattle.walks.proofs.Sequences.{lowers-walks, primed-after, placed-after}
-use Rattle.pattern_parts.proofs.Visiting.{Reached, reached-placed}
+use Rattle.pattern_entering.proofs.Visiting.{Reached, reached-placed}
 use Rattle.pattern_nodes.specs.Arguments.{RestThere}
 use Rattle.pattern_nodes.proofs.Known.{limits}
 use Rattle.walking.specs.Walk.{Walkable}

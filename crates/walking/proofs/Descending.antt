@@ -29,8 +29,9 @@ use Rattle.pattern_matching.specs.Patterns.{bindPattern, patternMatchInner, low
 use Rattle.walks.specs.declared.Lowered.{Lowered}
 use Rattle.walks.specs.Answers.{Lent, Lowers}
 use Rattle.walks.proofs.Sequences.{lowers-walks, walks-by}
-use Rattle.pattern_parts.specs.Parts.{projectedResult, derefsOf, isBind}
-use Rattle.pattern_parts.proofs.Visiting.{Reached, reached-refl, reached-trans, visitedIn}
+use Rattle.pattern_entering.specs.Entering.{projectedResult, derefsOf}
+use Rattle.pattern_parts.specs.Parts.{isBind}
+use Rattle.pattern_entering.proofs.Visiting.{Reached, reached-refl, reached-trans, visitedIn}
 use Rattle.pattern_nodes.specs.Leaves.{isLeaf, leafPattern}
 use Rattle.pattern_nodes.specs.Nodes.{kindPattern}
 use Rattle.pattern_nodes.proofs.Nodes.{applied, leaf-by-kind}

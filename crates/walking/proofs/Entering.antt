@@ -32,8 +32,9 @@ use Rattle.walks.specs.declared.Lowered.{Lowered}
 use Rattle.walks.specs.Answers.{Lent, Placed, Walks}
 use Rattle.walks.proofs.Sequences.{walks-by}
 use Rattle.pattern_parts.specs.declared.adts.TupleAt.{TupleAt}
-use Rattle.pattern_parts.specs.Parts.{projectedResult, derefsOf, tupleAt, tupleResult}
-use Rattle.pattern_parts.proofs.Visiting.{Reached, derefs-reach, visitedIn, enter-stops, enter-goes}
+use Rattle.pattern_entering.specs.Entering.{projectedResult, derefsOf}
+use Rattle.pattern_parts.specs.Parts.{tupleAt, tupleResult}
+use Rattle.pattern_entering.proofs.Visiting.{Reached, derefs-reach, visitedIn, enter-stops, enter-goes}
 use Rattle.pattern_parts.proofs.Needed.{tuple-needed}
 use Rattle.pattern_rows.specs.declared.CompoundKind.{CompoundKind}
 use Rattle.pattern_rows.specs.Rows.{compoundKind, variantWord, variantShape}

@@ -29,7 +29,7 @@ use Rattle.walks.specs.Answers.{Lent, lent, bodyOf, Primed, Begins, Placed, ctx
 use Rattle.walks.proofs.Following.{refuses, answers-by}
 use Rattle.walks.proofs.Sequences.{lowers-skips, lowers-walks}
 use Rattle.pattern_parts.specs.Parts.{Fills}
-use Rattle.pattern_parts.proofs.Visiting.{Reached, project-goes, project-reaches}
+use Rattle.pattern_entering.proofs.Visiting.{Reached, project-goes, project-reaches}
 
 module _ {defined : Ctx → Walk Out} {c : Counts} {current : BasicBlockId} {els : OptBlock} {t₀ : Lent} {v₀ : List ℕ} where
   -- the same by a definition that is equal for these tables

@@ -27,7 +27,7 @@ use Rattle.walks.specs.Answers.{Lent, lent, Primed, Placed, Walks}
 use Rattle.walks.proofs.Sequences.{walks-by, walks-stops, walks-then, primed-after}
 use Rattle.pattern_parts.specs.declared.adts.ReferenceAt.{ReferenceAt}
 use Rattle.pattern_parts.specs.Parts.{referenceAt, referenceResult, Fills}
-use Rattle.pattern_parts.proofs.Visiting.{project-stops, project-goes}
+use Rattle.pattern_entering.proofs.Visiting.{project-stops, project-goes}
 use Rattle.pattern_parts.proofs.Needed.{reference-needed}
 use Rattle.pattern_nodes.specs.Modes.{bound}
 use Rattle.pattern_nodes.proofs.Branches.{no-subpattern, with-subpattern}

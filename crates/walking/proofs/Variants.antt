@@ -29,7 +29,7 @@ use Rattle.walks.specs.Answers.{Lent, Primed, Begins, Placed, Lowers, Walks}
 use Rattle.walks.proofs.Sequences.{lowers-walks, walks-by, walks-stops, walks-then}
 use Rattle.pattern_parts.specs.declared.adts.AdtAt.{AdtAt}
 use Rattle.pattern_parts.specs.Parts.{adtAt, adtResult, fieldsThere}
-use Rattle.pattern_parts.proofs.Visiting.{project-stops, project-goes}
+use Rattle.pattern_entering.proofs.Visiting.{project-stops, project-goes}
 use Rattle.pattern_parts.proofs.Needed.{adt-needed}
 use Rattle.pattern_rows.specs.declared.AdtPatternShape.{AdtPatternShape}
 use Rattle.pattern_rows.specs.declared.ArgumentRow.{ArgumentRow}

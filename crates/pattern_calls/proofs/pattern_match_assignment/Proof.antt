@@ -3,7 +3,7 @@ use Rattle.pattern_calls.proofs.pattern_match_assignment.Statement.{sta
 use Rattle.pattern_calls.proofs.pattern_match_assignment.Tie as tie
 use Rattle.pattern_calls.proofs.pattern_match_assignment.Reads as reads
 use Rattle.pattern_calls.proofs.pattern_match_assignment.Lts as lts
-use Rattle.handed.proofs.match_holds.Reads as match-holds-reads
+use Rattle.handed.proofs.assignment_holds.Reads as assignment-holds-reads
 use Rattle.lower_calls.proofs.opening.open.Reads as open-reads
 use Rattle.pattern_calls.proofs.steps.assignment_step.Reads as assignment-step-reads
 use mathlib.Core.Path.{sym, _∙_}
@@ -12,17 +12,17 @@ use Rattle.lower_calls.proofs.Prologue.{taken, taken-sized}
 use Rattle.match_calls.specs.Calls.{patternMatchAssignmentCall}
 use Rattle.match_calls.proofs.Opening.{handed-by, bad-image, bad-body, bad-number, goes-on}
 
-match-holds-requires : tie.Need-match-holds-requires
-match-holds-requires c κs =
+assignment-holds-requires : tie.Need-assignment-holds-requires
+assignment-holds-requires c κs =
     let S = taken-sized _ _ _ (taken _ _ _ (sym (c .before .before .before .tables .given .1) ∙ c .before .before .before .before .before .«open» .ensures)) in
     (S .blocks, S .block-count)
 
 returns : tie.Need-returns
 unfolding patternMatchAssignmentCall
-returns c = bad-number _ _ _ _ _ (sym (c .before .before .before .before .before .tables .given .1) ∙ c .before .before .before .before .before .before .before .«open» .ensures) (handed-by _ _ _ _ _ _ _ _ _ ((taken _ _ _ (sym (c .before .before .before .before .before .tables .given .1) ∙ c .before .before .before .before .before .before .before .«open» .ensures)) .whole) (c .before .match-holds .ensures) ∙ not-true (c .before .match-holds .result) (c .if1 .taken))
+returns c = bad-number _ _ _ _ _ (sym (c .before .before .before .before .before .tables .given .1) ∙ c .before .before .before .before .before .before .before .«open» .ensures) (handed-by _ _ _ _ _ _ _ _ ((taken _ _ _ (sym (c .before .before .before .before .before .tables .given .1) ∙ c .before .before .before .before .before .before .before .«open» .ensures)) .whole) (c .before .assignment-holds .ensures) ∙ not-true (c .before .assignment-holds .result) (c .if1 .taken))
 
 assignment-step-requires : tie.Need-assignment-step-requires
-assignment-step-requires c κs = ((taken _ _ _ (sym (c .before .before .before .before .before .before .before .before .before .before .before .tables .given .1) ∙ c .before .before .before .before .before .before .before .before .before .before .before .before .before .«open» .ensures)), handed-by _ _ _ _ _ _ _ _ _ ((taken _ _ _ (sym (c .before .before .before .before .before .before .before .before .before .before .before .tables .given .1) ∙ c .before .before .before .before .before .before .before .before .before .before .before .before .before .«open» .ensures)) .whole) (c .before .before .before .before .before .before .before .match-holds .ensures) ∙ not-false (c .before .before .before .before .before .before .before .match-holds .result) (c .before .before .before .before .before .before .if1 .left))
+assignment-step-requires c κs = ((taken _ _ _ (sym (c .before .before .before .before .before .before .before .before .before .before .before .tables .given .1) ∙ c .before .before .before .before .before .before .before .before .before .before .before .before .before .«open» .ensures)), handed-by _ _ _ _ _ _ _ _ ((taken _ _ _ (sym (c .before .before .before .before .before .before .before .before .before .before .before .tables .given .1) ∙ c .before .before .before .before .before .before .before .before .before .before .before .before .before .«open» .ensures)) .whole) (c .before .before .before .before .before .before .before .assignment-holds .ensures) ∙ not-false (c .before .before .before .before .before .before .before .assignment-holds .result) (c .before .before .before .before .before .before .if1 .left))
 
 returns-2 : tie.Need-returns-2
 unfolding patternMatchAssignmentCall
@@ -34,7 +34,7 @@ returns-3 c = bad-body _ _ _ _ _ (sym (c .enum-told2 .given .1) ∙ c .before .b
 
 returns-4 : tie.Need-returns-4
 unfolding patternMatchAssignmentCall
-returns-4 c = goes-on _ _ _ _ _ (sym (c .before .before .before .before .before .before .before .before .before .before .before .before .before .before .before .before .before .before .before .before .before .before .before .before .tables .given .1) ∙ c .before .before .before .before .before .before .before .before .before .before .before .before .before .before .before .before .before .before .before .before .before .before .before .before .before .before .«open» .ensures) (handed-by _ _ _ _ _ _ _ _ _ ((taken _ _ _ (sym (c .before .before .before .before .before .before .before .before .before .before .before .before .before .before .before .before .before .before .before .before .before .before .before .before .tables .given .1) ∙ c .before .before .before .before .before .before .before .before .before .before .before .before .before .before .before .before .before .before .before .before .before .before .before .before .before .before .«open» .ensures)) .whole) (c .before .before .before .before .before .before .before .before .before .before .before .before .before .before .before .before .before .before .before .before .match-holds .ensures) ∙ not-false (c .before .before .before .before .before .before .before .before .before .before .before .before .before .before .before .before .before .before .before .before .match-holds .result) (c .before .before .before .before .before .before .before .before .before .before .before .before .before .before .before .before .before .before .before .if1 .left)) (c .before .before .before .before .before .before .before .before .before .before .before .before .assignment-step .ensures)
+returns-4 c = goes-on _ _ _ _ _ (sym (c .before .before .before .before .before .before .before .before .before .before .before .before .before .before .before .before .before .before .before .before .before .before .before .before .tables .given .1) ∙ c .before .before .before .before .before .before .before .before .before .before .before .before .before .before .before .before .before .before .before .before .before .before .before .before .before .before .«open» .ensures) (handed-by _ _ _ _ _ _ _ _ ((taken _ _ _ (sym (c .before .before .before .before .before .before .before .before .before .before .before .before .before .before .before .before .before .before .before .before .before .before .before .before .tables .given .1) ∙ c .before .before .before .before .before .before .before .before .before .before .before .before .before .before .before .before .before .before .before .before .before .before .before .before .before .before .«open» .ensures)) .whole) (c .before .before .before .before .before .before .before .before .before .before .before .before .before .before .before .before .before .before .before .before .assignment-holds .ensures) ∙ not-false (c .before .before .before .before .before .before .before .before .before .before .before .before .before .before .before .before .before .before .before .before .assignment-holds .result) (c .before .before .before .before .before .before .before .before .before .before .before .before .before .before .before .before .before .before .before .if1 .left)) (c .before .before .before .before .before .before .before .before .before .before .before .before .assignment-step .ensures)
 
 pub pattern-match-assignment-spec : {M : Type 1} → statement M
 pattern-match-assignment-spec =
@@ -44,7 +44,7 @@ pattern-match-assignment-spec =
     (λ c. search needs)
     (λ c. search needs)
     (λ c. search needs)
-    match-holds-requires
+    assignment-holds-requires
     (λ c. search needs)
     (λ c. search needs)
     (λ c. search needs)

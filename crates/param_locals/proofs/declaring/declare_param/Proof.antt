@@ -4,7 +4,7 @@ use Rattle.param_locals.proofs.declaring.declare_param.Tie as tie
 use Rattle.param_locals.proofs.declaring.declare_param.Reads as reads
 use Rattle.param_locals.proofs.declaring.declare_param.Lts as lts
 use Rattle.param_locals.proofs.declaring.bind_plain.Reads as bind-plain-reads
-use Rattle.param_locals.proofs.declaring.param_local.Reads as param-local-reads
+use Rattle.param_entries.proofs.param_local.Reads as param-local-reads
 use Rattle.param_locals.proofs.Making.{param-refused, param-declared}
 
 returns : tie.Need-returns

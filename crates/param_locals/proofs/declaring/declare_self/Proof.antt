@@ -3,7 +3,7 @@ use Rattle.param_locals.proofs.declaring.declare_self.Statement.{statem
 use Rattle.param_locals.proofs.declaring.declare_self.Tie as tie
 use Rattle.param_locals.proofs.declaring.declare_self.Reads as reads
 use Rattle.param_locals.proofs.declaring.declare_self.Lts as lts
-use Rattle.param_locals.proofs.declaring.param_local.Reads as param-local-reads
+use Rattle.param_entries.proofs.param_local.Reads as param-local-reads
 use mathlib.Core.Path.{refl}
 use Rattle.param_locals.proofs.Making.{self-none, self-refused, self-declared}
 

@@ -9,10 +9,10 @@ use Rattle.param_lists.proofs.Listing.{first-pattern, first-words}
 use Rattle.params_laws.proofs.Lowering.{ParamsGoing, params-begin, params-end, param-walkable, local-small, param-stops, params-again}
 
 abbrev Inv-loop : tie.InvT-loop
-Inv-loop image tables bindings blocks₀ statements₀ locals₀ entries₀ visits₀ words first c₀ d₀ here₀ l₀ k₀ left₀ blocks statements locals entries visits c d here l k left = ParamsGoing image words bindings first c₀ d₀ here₀ (lent blocks₀ statements₀ locals₀ entries₀) visits₀ c d here (lent blocks statements locals entries) visits l k left
+Inv-loop image tables bindings blocks₀ statements₀ locals₀ entries₀ visits₀ words first c₀ here₀ l₀ k₀ left₀ blocks statements locals entries visits c here l k left = ParamsGoing image words bindings first c₀ here₀ (lent blocks₀ statements₀ locals₀ entries₀) visits₀ c here (lent blocks statements locals entries) visits l k left
 
 abbrev μ-loop : tie.MeasureT-loop
-μ-loop image tables bindings blocks₀ statements₀ locals₀ entries₀ visits₀ words first c₀ d₀ here₀ l₀ k₀ left₀ blocks statements locals entries visits c d here l k left = left
+μ-loop image tables bindings blocks₀ statements₀ locals₀ entries₀ visits₀ words first c₀ here₀ l₀ k₀ left₀ blocks statements locals entries visits c here l k left = left
 
 loop-holds : tie.Need-loop-holds Inv-loop μ-loop
 loop-holds c = params-begin (c .before .before .before .before .before .before .before .before .pre)
@@ -44,20 +44,20 @@ same-length-5 c = omega (arith, c .before .before .before .before .before .befor
 returns : tie.Need-returns Inv-loop μ-loop
 returns c = param-stops (c .before .before .before .before .before .before .before .before .before .before .before .before .before .before .before .before .before .before .before .before .before .loop .inv) (c .before .before .before .before .before .before .before .before .before .before .before .before .before .before .before .before .before .before .before .before .loop-test .taken) (rw (c .before .e .given .1) at (c .before .before .before .before .before .before .before .before .before .before .before .before .before .lower-param .ensures))
 
-add-l : tie.Need-add-l Inv-loop μ-loop
-add-l c = omega (arith, local-small (c .before .before .before .before .before .before .before .before .before .before .before .before .before .before .before .before .before .before .before .before .before .loop .inv) (c .before .before .before .before .before .before .before .before .before .before .before .before .before .before .before .before .before .before .before .before .loop-test .taken))
+next-local-requires : tie.Need-next-local-requires Inv-loop μ-loop
+next-local-requires c κs = omega (arith, local-small (c .before .before .before .before .before .before .before .before .before .before .before .before .before .before .before .before .before .before .before .before .before .loop .inv) (c .before .before .before .before .before .before .before .before .before .before .before .before .before .before .before .before .before .before .before .before .loop-test .taken))
 
 add-k : tie.Need-add-k Inv-loop μ-loop
-add-k c = omega (arith, first-words (c .before .before .before .before .before .before .before .before .before .before .before .before .before .before .before .before .before .before .before .before .before .loop .inv .listed) (c .before .before .before .before .before .before .before .before .before .before .before .before .before .before .before .before .before .before .before .before .loop-test .taken), c .before .before .before .before .before .before .before .before .before .before .before .before .before .before .before .before .before .before .before .before .before .before .before .before .before .before .before .before .before .before .good)
+add-k c = omega (arith, first-words (c .before .before .before .before .before .before .before .before .before .before .before .before .before .before .before .before .before .before .before .before .before .before .loop .inv .listed) (c .before .before .before .before .before .before .before .before .before .before .before .before .before .before .before .before .before .before .before .before .before .loop-test .taken), c .before .before .before .before .before .before .before .before .before .before .before .before .before .before .before .before .before .before .before .before .before .before .before .before .before .before .before .before .before .before .before .good)
 
 sub-left : tie.Need-sub-left Inv-loop μ-loop
-sub-left c = omega (arith, c .before .before .before .before .before .before .before .before .before .before .before .before .before .before .before .before .before .before .before .before .loop-test .taken)
+sub-left c = omega (arith, c .before .before .before .before .before .before .before .before .before .before .before .before .before .before .before .before .before .before .before .before .before .loop-test .taken)
 
 loop-less : tie.Need-loop-less Inv-loop μ-loop
-loop-less c = omega (arith, c .before .before .before .before .before .before .before .before .before .before .before .before .before .before .before .before .before .before .before .before .loop-test .taken)
+loop-less c = omega (arith, c .before .before .before .before .before .before .before .before .before .before .before .before .before .before .before .before .before .before .before .before .before .loop-test .taken)
 
 loop-again : tie.Need-loop-again Inv-loop μ-loop
-loop-again c = params-again (c .before .before .before .before .before .before .before .before .before .before .before .before .before .before .before .before .before .before .before .before .before .loop .inv) (c .before .before .before .before .before .before .before .before .before .before .before .before .before .before .before .before .before .before .before .before .loop-test .taken) (omega (arith, c .before .before .before .before .before .before .before .before .before .before .before .before .before .lower-param .kept)) (rw (c .before .c1 .given .1) at (c .before .before .before .before .before .before .before .before .before .before .before .before .before .lower-param .ensures))
+loop-again c = rw (c .next-local .ensures) (params-again (c .before .before .before .before .before .before .before .before .before .before .before .before .before .before .before .before .before .before .before .before .before .before .loop .inv) (c .before .before .before .before .before .before .before .before .before .before .before .before .before .before .before .before .before .before .before .before .before .loop-test .taken) (omega (arith, c .before .before .before .before .before .before .before .before .before .before .before .before .before .before .lower-param .kept)) (rw (c .before .before .c1 .given .1) at (c .before .before .before .before .before .before .before .before .before .before .before .before .before .before .lower-param .ensures)))
 
 same-length-6 : tie.Need-same-length-6 Inv-loop μ-loop
 same-length-6 c = omega (arith, c .before .loop .inv .primed .blocks, c .before .before .before .before .before .before .before .before .before .before .pre .primed .blocks)
@@ -95,7 +95,7 @@ lower-params-spec =
     same-length-5
     returns
     (λ c. search needs)
-    add-l
+    next-local-requires
     add-k
     sub-left
     loop-less

@@ -6,7 +6,7 @@ use Rattle.pattern_parts.proofs.bindings.fill_rest.Lts as lts
 use Rattle.pattern_parts.proofs.bindings.pattern_match_binding.Reads as pattern-match-binding-reads
 use Rattle.place.proofs.project.Reads as project-reads
 use borrow.Author.Tests.{not-true, not-false}
-use Rattle.pattern_parts.proofs.Visiting.{project-stops, project-goes}
+use Rattle.pattern_entering.proofs.Visiting.{project-stops, project-goes}
 use Rattle.pattern_parts.proofs.Filling.{rest-stops, rest-filled}
 
 returns : tie.Need-returns

@@ -5,7 +5,7 @@ use Rattle.pattern_walk.proofs.+adt-pattern_match_adt+adt-pattern_match
 use Rattle.pattern_walk.proofs.pattern_match_inner.Reads as pattern-match-inner
 use Rattle.pattern_matching.proofs.is_check.Reads as is-check-reads
 use Rattle.pattern_idle.proofs.nothing_to_do.Reads as nothing-to-do-reads
-use Rattle.pattern_parts.proofs.entering.visit.Reads as visit-reads
+use Rattle.pattern_entering.proofs.visit.Reads as visit-reads
 use Rattle.pattern_alternatives.proofs.with_else.Reads as with-else-reads
 use Rattle.pattern_walk.proofs.+adt-pattern_match_adt+adt-pattern_match_tuple_like+adt-pattern_matching_variant+pattern_match_inner+pattern_matching_variant_fields+sub-alt+sub-alts+sub-bound+sub-slice.Proof.Measures.{sub·alt-at, pattern-match-inner-below}
 use mathlib.Core.Path.{sym, _∙_}

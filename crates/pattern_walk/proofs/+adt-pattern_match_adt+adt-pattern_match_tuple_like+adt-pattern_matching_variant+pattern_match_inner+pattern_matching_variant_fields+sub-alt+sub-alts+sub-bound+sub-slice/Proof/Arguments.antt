@@ -6,7 +6,7 @@ use Rattle.pattern_rows.proofs.argument_elem.Reads as argument-elem-reads
 use Rattle.place.proofs.project.Reads as project-reads
 use Rattle.pattern_rows.proofs.argument_pat.Reads as argument-pat-reads
 use Rattle.pattern_idle.proofs.nothing_to_do.Reads as nothing-to-do-reads
-use Rattle.pattern_parts.proofs.entering.visit.Reads as visit-reads
+use Rattle.pattern_entering.proofs.visit.Reads as visit-reads
 use Rattle.pattern_walk.proofs.pattern_match_inner.Reads as pattern-match-inner
 use Rattle.pattern_walk.proofs.+adt-pattern_match_adt+adt-pattern_match_tuple_like+adt-pattern_matching_variant+pattern_match_inner+pattern_matching_variant_fields+sub-alt+sub-alts+sub-bound+sub-slice.Proof.Measures.{adt·pattern-match-adt-at, pattern-match-inner-below}
 use mathlib.Core.Path.{refl, sym, _∙_}
@@ -16,7 +16,7 @@ use borrow.Author.Needs.{needs}
 use Rattle.image.specs.Tables.{patternCount}
 use Rattle.walks.specs.Answers.{lent}
 use Rattle.pattern_nodes.proofs.Each.{argument-lies, argument-at}
-use Rattle.pattern_parts.proofs.Visiting.{project-goes}
+use Rattle.pattern_entering.proofs.Visiting.{project-goes}
 use Rattle.walking.proofs.Asking.{walkable-at, asks-visit}
 use Rattle.walking.proofs.Looking.{projected-reaches}
 use Rattle.walking.proofs.Arguments.{arguments-end, argument-full, argument-stops, no-room, some-room, room-taken, argument-fits, ArgumentsGoing, arguments-begin, arguments-again}

@@ -3,8 +3,8 @@ use Rattle.pattern_walk.proofs.entering.enter.Tie as tie
 use Rattle.pattern_walk.proofs.entering.enter.Reads as reads
 use Rattle.pattern_walk.proofs.entering.enter.Lts as lts
 use Rattle.image.proofs.rows.pat_at.Reads as pat-at-reads
-use Rattle.pattern_parts.proofs.entering.deref_place.Reads as deref-place-reads
-use Rattle.pattern_parts.proofs.entering.visit.Reads as visit-reads
+use Rattle.pattern_entering.proofs.deref_place.Reads as deref-place-reads
+use Rattle.pattern_entering.proofs.visit.Reads as visit-reads
 use Rattle.pattern_walk.proofs.entering.passes_on.Reads as passes-on-reads
 use mathlib.Core.Path.{refl, sym, _∙_}
 use mathlib.Core.Bool.{true}

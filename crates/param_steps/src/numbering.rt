@@ -1,0 +1,35 @@
+// The numbers of the parameters' locals.
+use lowered_params::ParamsCall;
+use lowered_params::SelfParam;
+use mir::BasicBlockId;
+use mir::Counts;
+use place::LocalId;
+ghost use mathlib.Core.Path.{_≡_};
+ghost use Prim.Native.Nat.{_+_, _<_};
+ghost use Rattle.lowered_params.specs.declared.ParamsCall.{ParamsCall};
+ghost use Rattle.lowered_params.specs.Params.{selfCount};
+
+// How many locals self has.
+pub fn self_count(receiver: SelfParam) -> u16
+    ensures { λ r. ⌜ r ≡ selfCount receiver ⌝ }
+{
+    match receiver {
+        SelfParam::None => 0,
+        SelfParam::Some(b, ty) => 1,
+    }
+}
+
+// The local of the parameter behind one whose local is l.
+pub fn next_local(l: u16) -> u16
+    requires { ⌜ l < 512 ⌝ }
+    ensures { λ r. ⌜ r ≡ l + 1 ⌝ }
+{
+    l + 1
+}
+
+// The answer of a call whose parameters are lowered: the first parameter's local, self's or not, is the next one when the call comes, the counts being `before` then.
+pub fn lowered_answer(before: Counts, counts: Counts, then: BasicBlockId) -> ParamsCall
+    ensures { λ r. ⌜ r ≡ ParamsCall.Lowered counts then (record { 0 = before .locals }) ⌝ }
+{
+    ParamsCall::Lowered(counts, then, LocalId(before.locals))
+}
