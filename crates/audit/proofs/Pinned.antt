@@ -11,7 +11,6 @@ use lib.IntN.{ℤ, pos, negℤ}
 use lib.ListN.{length, getD, take, drop}
 use lib.Signed.{leZ, ltZ}
 use Rattle.image.specs.Tables.{typeCount}
-use Rattle.place.specs.declared.LocalId.{LocalId}
 use Rattle.place.specs.declared.elems.ProjectionElem.{ProjectionElem}
 use Rattle.place.specs.declared.place_ty.PlaceTy.{PlaceTy}
 use Rattle.mir.specs.declared.BasicBlockId.{BasicBlockId}

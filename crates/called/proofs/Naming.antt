@@ -1,5 +1,4 @@
 -- Nothing names a local from the count of locals on, in the body that an accepted call was handed and in the one that it hands out. Assumes nothing.
-use Prim.Native.Nat.{ℕ}
 use native.Mathlib.Nat.{le-refl}
 use lib.ListN.{length}
 use Rattle.image.specs.Tables.{typeCount, variantCount}
