@@ -1,7 +1,6 @@
 -- The auditor's page on refusals, demand 1: "Refusals 1 and 2 write nothing. Any other leaves every record below the body's and scopes' counts as found and zeros above, and
--- the bindings' locals and the discriminant local as handed in." Each theorem is proved by one citation. It speaks of any answer and tables that the contract of a call
--- allows, where the answer has the three numbers of a refusal. The bindings' locals are lent to be read alone, but to `lower_params_and_bindings`; the discriminant local is
--- handed in and out as a number, and no refusal hands one out. Assumes nothing.
+-- the bindings' locals .. as handed in." Each theorem is proved by one citation. It speaks of any answer and tables that the contract of a call allows, where the answer has
+-- the three numbers of a refusal. The bindings' locals are lent to be read alone, but to `lower_params_and_bindings`. Assumes nothing.
 use Prim.Native.Nat.{ℕ}
 use mathlib.Core.Path.{_≡_}
 use mathlib.Core.Option.{some}

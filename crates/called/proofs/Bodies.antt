@@ -21,7 +21,7 @@ use Rattle.counting.specs.Reaching.{Reached}
 use Rattle.counting.proofs.Tallies.{le-or-lt}
 use Rattle.counting.proofs.Ors.{reached-low}
 use Rattle.match_calls.specs.declared.MatchCall.{MatchCall}
-use Rattle.called.specs.Call.{Call, HandedOut, Accepted, before, after, patternOf, startOf, resultOf}
+use Rattle.called.specs.Call.{Call, HandedOut, Accepted, after, patternOf, startOf, resultOf}
 use Rattle.called.specs.Runs.{placeTyOf, IsReachedIn}
 use Rattle.called.specs.Passes.{pass, TwoPasses}
 use Rattle.called.proofs.Walked.{walkOf, taken, Handing, handing}

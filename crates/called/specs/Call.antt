@@ -16,8 +16,8 @@ use Rattle.pattern_matching.specs.Walking.{Ctx, Out}
 use Rattle.match_calls.specs.declared.MatchCall.{MatchCall}
 use Rattle.match_calls.specs.Calls.{patternMatchCall, Visits}
 
--- what a call is handed: the image, the bindings' locals, the words of the five tables and of the visits', the counts, the local that tests of enums share if there
--- is one, the pattern's number, the block to start from, an else or none, and a place
+-- what a call is handed: the image, the bindings' locals, the words of the five tables and of the visits', the counts, the pattern's
+-- number, the block to start from, an else or none, and a place
 pub record Call : Type 0 where
   pub image : List ℕ
   pub bindings : List ℕ

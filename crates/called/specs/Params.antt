@@ -22,7 +22,7 @@ use Rattle.param_runs.specs.Totals.{ParamsCounted}
 use Rattle.param_runs.specs.Through.{allFit, bindingsDiffer, HeldFrom, ComesThrough}
 
 -- what `lower_params_and_bindings` is handed: the image, the list of the parameters, self or none, the bindings' locals, the words of the five tables and of the visits',
--- the counts, the local that tests of enums share if there is one, and the block to start from
+-- the counts, and the block to start from
 pub record ParamsHanded : Type 0 where
   pub image : List ℕ
   pub list : List ℕ

@@ -29,12 +29,11 @@ use Rattle.meaning.specs.Binding.{restBinds, restBinds?}
 use Rattle.meaning.specs.Typing.{TypeNumber, elementType}
 use Rattle.meaning.specs.Fitting.{itemsAllFit}
 use Rattle.meaning.proofs.Children.{index-valued, end-valued}
-use Rattle.correctness.specs.Demand2.{pathOf}
 use Rattle.correctness.proofs.Standing.{rooted-more, stands-onward, stepped}
 use Rattle.correctness.proofs.Rows.{zipMatch, zip-numbered, last-items, zip-end}
 use Rattle.correctness.proofs.Slicing.{index-is}
 use Rattle.correctness.proofs.Permuting.{Binder}
-use Rattle.correctness.proofs.BindSteps.{Fills, fills-seq, fills-as, fills-binding}
+use Rattle.correctness.proofs.BindSteps.{Fills, fills-seq, fills-binding}
 use Rattle.correctness.proofs.BindingFields.{path-onward, FillsOn, AllCan, SameLength, can-length, fills-adt, Suited, suited-fill}
 use Rattle.correctness.proofs.BindingRows.{match-length, suited-items}
 use Rattle.correctness.proofs.BindingKinds.{fills-nothing}

@@ -35,9 +35,9 @@ use Rattle.correctness.proofs.OfImages.{OfImage, AllOfImage, OfImage?}
 use Rattle.correctness.proofs.Checked.{any-of, all-check}
 use Rattle.correctness.proofs.Choosing.{firstOf}
 use Rattle.correctness.proofs.Permuting.{LocalsApart, Binder}
-use Rattle.correctness.proofs.BindingNames.{AllLocal, once-right, local-left, local-right, within-among, separate}
+use Rattle.correctness.proofs.BindingNames.{AllLocal, local-left, local-right, within-among, separate}
 use Rattle.correctness.proofs.BindSteps.{Fills}
-use Rattle.correctness.proofs.BindingFields.{FillsOn, Can, AllCan, no-child, child}
+use Rattle.correctness.proofs.BindingFields.{Can, AllCan, no-child, child}
 use Rattle.correctness.proofs.BindingKinds.{fills-entered, fills-nothing, fills-tuple, fills-ref, fills-bind, fills-range, fills-lit}
 use Rattle.correctness.proofs.BindingVariants.{fills-tuple-struct, fills-record, fills-path}
 use Rattle.correctness.proofs.BindingSlices.{fills-slice}

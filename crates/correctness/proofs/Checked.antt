@@ -1,12 +1,11 @@
 -- The tests of a pattern lead to the block that goes on where the pattern matches, and else to the else: by induction on the pattern.
 -- Assumes nothing.
-use Prim.Native.Nat.{ℕ, _+_, _-_}
+use Prim.Native.Nat.{ℕ, _-_}
 use native.Mathlib.Omega.{arith}
-use mathlib.Core.Path.{_≡_, refl, sym, ap, subst}
-use mathlib.Core.Bool.{Bool, true, false, _&&_, _||_}
+use mathlib.Core.Path.{_≡_, refl, ap}
+use mathlib.Core.Bool.{Bool, true, false, _||_}
 use mathlib.Core.Option.{some}
 use mathlib.Core.List.{List, map}
-use lib.ListN.{length, drop}
 use Rattle.image.specs.Valid.{valid}
 use Rattle.image.specs.Types.{tyOf}
 use Rattle.image.specs.Tree.{Pat, Pats, nil, cons, PatOpt, no, sub}
@@ -20,9 +19,9 @@ use Rattle.pattern_matching.specs.Slices.{sliceOn}
 use Rattle.pattern_matching.specs.Patterns.{refusing, passing, orPattern, rangePattern, pathPattern, bindPattern, restOf, patternMatchInner, lowerings, lowering?}
 use Rattle.growth.proofs.Walks.{not-ok, Grows}
 use Rattle.growth.proofs.Growing.{grows, grows?}
-use Rattle.meaning.specs.Values.{Value, partsOf}
+use Rattle.meaning.specs.Values.{Value}
 use Rattle.meaning.specs.Running.{Scene}
-use Rattle.meaning.specs.Matching.{crossed, matchAll, longEnough, matches, matchers, matchAny, matches?}
+use Rattle.meaning.specs.Matching.{crossed, matches, matchers, matchAny, matches?}
 use Rattle.meaning.specs.Fitting.{typesFit, fitting, typesFit?}
 use Rattle.meaning.proofs.Cutting.{Bytes}
 use Rattle.meaning.proofs.Constants.{literal-worth, type-sized}

@@ -49,7 +49,7 @@ looks-as {scene} {bindings} {M} m′ e a =
           subst (λ (b : Bool). Lands scene bindings M ctx (c .0) env [] r b) (e w) (a .lands ctx c els place w root s fits h r is x env);
     }
 
--- a visit changes neither the state nor the discriminant's local
+-- a visit does not change the state
 pub unvisited : {scene : Scene} {bindings : List ℕ} {M : Mir} (ctx : Ctx) (p c : ℕ) (env : Env) (r : Out) (b : Bool) → Lands scene bindings M (visited ctx p) c env [] r b →
     Lands scene bindings M ctx c env [] r b
 unfolding visited

@@ -1,7 +1,7 @@
 -- Each kind of pattern, behind its derefs: where its walk in Check leads, if its subpatterns' lead as they mean. Assumes nothing.
 use Prim.Native.Nat.{ℕ, _/_, _<_}
 use mathlib.Core.Path.{_≡_, refl, sym, ap, subst, _∙_}
-use mathlib.Core.Bool.{Bool, true, false, not, _&&_}
+use mathlib.Core.Bool.{Bool, true, false, _&&_}
 use mathlib.Core.Option.{Option, none, some}
 use mathlib.Core.List.{List, [], _∷_, map}
 use lib.ListN.{length}
@@ -35,7 +35,7 @@ use Rattle.meaning.specs.Running.{Env, Scene, constantValue, sameValue, both, s
 use Rattle.meaning.specs.Matching.{operandValue, operandValue?, fromStart, toEnd, matchRow, matchFields, isVariant}
 use Rattle.meaning.specs.Typing.{TypeNumber, referent, tupleFields, discriminantsDiffer}
 use Rattle.meaning.specs.Typing.{variantFields as fieldsOfVariant}
-use Rattle.meaning.specs.Fitting.{isThere, rowFits, byFieldsFit, itemsAllFit}
+use Rattle.meaning.specs.Fitting.{rowFits, byFieldsFit, itemsAllFit}
 use Rattle.meaning.proofs.Parts.{fields-length, fits-tuple}
 use Rattle.meaning.proofs.Typed.{variant-fields}
 use Rattle.meaning.proofs.Children.{tuple-valued, deref-valued}

@@ -1,15 +1,15 @@
 -- Patterns on the elements that lead to their values: fields in a row, by number and from the end, as the Reference has them. Assumes nothing.
 use Prim.Native.Nat.{ℕ, zero, suc, _+_, _-_, _≤_}
-use native.Mathlib.Nat.{add-zero, zero-add}
+use native.Mathlib.Nat.{zero-add}
 use native.Mathlib.Numerals.{add-one}
 use native.Mathlib.Omega.{arith}
 use mathlib.Core.Path.{_≡_, refl, sym, ap, ap₂, _∙_}
 use mathlib.Core.Bool.{Bool, true, false, _&&_, true≢false, false≢true}
 use mathlib.Core.Option.{Option, none, some}
-use mathlib.Core.List.{List, [], _∷_, _++_, map, map-append, reverse, reverseAux, reverseAux-append, reverse-reverse}
+use mathlib.Core.List.{List, [], _∷_, _++_, map, map-append, reverse, reverseAux, reverseAux-append}
 use borrow.Author.Tests.{eqb-true, leb-true}
 use lib.Dec.{ltb}
-use lib.ListN.{length, getD, take, drop, length-take, length-drop, length-map, length-reverse}
+use lib.ListN.{length, getD, take, drop, length-take, length-drop, length-map}
 use lib.Seq.{drop-cons, take-length, drop-length}
 use Rattle.pattern_matching.specs.Slices.{suffixItems}
 use Rattle.image.specs.Lists.{upFrom}

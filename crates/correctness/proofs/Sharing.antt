@@ -1,4 +1,4 @@
--- No walk loses a local, and the discriminant's local stays or is a new one: tests, and how walks are put together. Assumes nothing.
+-- No walk loses a local: tests, and how walks are put together. Assumes nothing.
 use Prim.Native.Nat.{ℕ, zero, suc, _+_, _≤_}
 use native.Mathlib.Nat.{le-refl, le-trans}
 use native.Mathlib.Omega.{arith}

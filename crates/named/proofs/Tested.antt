@@ -1,12 +1,12 @@
 -- The test of an enum makes a local of its own, live in its block: the one that comes next. Assumes nothing.
 use Prim.Native.Nat.{ℕ, _≤_}
-use mathlib.Core.Path.{_≡_, refl, sym, ap, ap₂, _∙_}
-use mathlib.Core.Bool.{Bool, true, false, cond}
+use mathlib.Core.Path.{_≡_, refl, ap, ap₂, _∙_}
+use mathlib.Core.Bool.{Bool, true, false}
 use mathlib.Core.List.{List, [], _∷_, _++_, map, map-append, append-assoc}
 use lib.Dec.{eqb, ltb}
 use lib.ListN.{length}
 use Rattle.refusals.specs.declared.MirLowerError.{MirLowerError}
-use Rattle.refusals.specs.Refusals.{Result, refused, andThen}
+use Rattle.refusals.specs.Refusals.{andThen}
 use Rattle.place.specs.declared.Place.{Place}
 use Rattle.mir.specs.declared.BasicBlockId.{BasicBlockId}
 use Rattle.mir.specs.declared.blocks.Terminator.{Terminator}
@@ -22,7 +22,7 @@ use Rattle.lower.specs.declared.merging.OptBlock.{OptBlock}
 use Rattle.lower.specs.Temps.{isSlice, temp, pushStorageLiveForLocal, discrTempPlace}
 use Rattle.views.specs.Views.{Line, lineOf, mirOf}
 use Rattle.views.proofs.ReadBack.{live-back, place-rvalue-back}
-use Rattle.pattern_matching.specs.Walking.{Ctx, Out, Walk, ok, elseState}
+use Rattle.pattern_matching.specs.Walking.{Ctx, Out, ok, elseState}
 use Rattle.pattern_matching.specs.Variants.{discriminantTest}
 use Rattle.counting.proofs.Holding.{Holds, Gives, holds, gives, stops, holds-step, gives-then}
 use Rattle.named.specs.Named.{TestLocal}
