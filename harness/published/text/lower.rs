@@ -40,6 +40,7 @@ mod calls;
 mod entry;
 mod parameters;
 mod pattern_matching;
+mod rows;
 
 pub use calls::lower_body_to_mir;
 pub use entry::{lower_to_mir_with_store, mir_body_for_closure_query};
