@@ -3,14 +3,16 @@
 
 `wrong_copies.py [NAME..]` copies the crates to a temporary folder, makes one change there,
 compiles replay without a proof and makes the quick run's comparison of listings, or of
-parameters, with it. A line for each change says how many images or calls
-differ; it fails if a change is not found. The harness must be built. NAMEs choose changes.
+parameters, with it, or has it replay the stored lists. A line for each change says how many
+images, calls or lines differ; it fails if a change is not found. The harness must be built.
+NAMEs choose changes.
 """
 
 import shutil
 import subprocess
 import sys
 import tempfile
+from itertools import zip_longest
 from pathlib import Path
 
 HERE = Path(__file__).resolve().parent
@@ -19,15 +21,21 @@ COMPARE = HERE / "target/release/compare"
 
 # What the program answers is compared with these words of `compare`.
 LISTINGS, PARAMETERS = ("run", "--counts"), ("parameters",)
+# What it prints is compared with what is stored.
+STORED = ()
 
 # Edits that the prover must refuse, of crates that the program stands on, whose effect a listing
 # shows: crates/CRATE/must-fail/LABEL.edit.
 REFUSED = (
     "pattern_switching/switch_turned_round",
     "pattern_ranges/then_before_else",
+    "pattern_ranges/gt_on_a_closed_range",
+    "pattern_ranges/le_for_a_half_open_end",
     "listing_body/switch_exchanged",
     "pattern_rows/an_arrays_length_tested",
     "pattern_rows/suffix_item_from_the_front",
+    "pattern_rows/suffix_item_one_too_far",
+    "pattern_rows/suffix_items_reversed",
     "pattern_alternatives/an_alternative_after_a_sure_one",
     "pattern_idle/a_range_not_tested",
     "image_text/reason_of_a_type_error_lost",
@@ -115,12 +123,39 @@ CHANGES = (
     ("every test of an enum has its own local", "lower/src/temps.rt",
      "        DiscrTemp::Some(l) => NewTemp::Local(counts, l),\n",
      "        DiscrTemp::Some(_) => temp(image, tables, statements, locals, entries, counts, I128, block),\n"),
+    ("a half-open range takes its end", "pattern_ranges/src/lib.rt",
+     "        return BinOp::Gt;",
+     "        return BinOp::Ge;"),
+    ("a range of any flag but 0 is half-open", "pattern_ranges/src/lib.rt",
+     "    if half_open == 1 {",
+     "    if half_open != 0 {"),
+    ("gt printed as ge", "listing_text/src/statements.rt",
+     '12 => put_binary(out, pen, b"gt ", row),',
+     '12 => put_binary(out, pen, b"ge ", row),'),
+    ("suffix items reversed beyond Check", "pattern_walk/src/adt.rt",
+     "argument_elem(image, tables, row, from, fields, i)",
+     "argument_elem(image, tables, row, from, fields, match row { ArgumentRow::LastItems => match mode "
+     "{ MatchingMode::Check => i, _ => count - 1 - i }, _ => i })"),
+    ("suffix items reversed in Check alone", "pattern_walk/src/adt.rt",
+     "argument_elem(image, tables, row, from, fields, i)",
+     "argument_elem(image, tables, row, from, fields, match row { ArgumentRow::LastItems => match mode "
+     "{ MatchingMode::Check => count - 1 - i, _ => i }, _ => i })"),
     ("a block less", "mir/src/blocks.rt",
      "    if 512 <= n {",
      "    if 511 <= n {"),
     ("a statement less", "mir/src/statements.rt",
      "    if 1024 <= n {",
      "    if 1023 <= n {"),
+)
+
+# Changes of what a handed-in body may have in it, which document 01 alone judges.
+OF_BODIES = (
+    ("a row of kind 12 is refused", "check_body/src/statement.rt",
+     "    if 12 < kind {",
+     "    if 11 < kind {"),
+    ("a row of kind 13 is taken", "check_body/src/statement.rt",
+     "    if 12 < kind {",
+     "    if 13 < kind {"),
 )
 
 
@@ -143,6 +178,7 @@ def all_changes():
     yield from ((LISTINGS, name, [(file, old, new)]) for name, file, old, new in CHANGES)
     yield from ((LISTINGS, label, must_fail(label)) for label in REFUSED)
     yield from ((PARAMETERS, label, must_fail(label)) for label in REFUSED_OF_PARAMETERS)
+    yield from ((STORED, name, [(file, old, new)]) for name, file, old, new in OF_BODIES)
 
 
 def changed_copy(folder, changes):
@@ -156,6 +192,16 @@ def changed_copy(folder, changes):
         path.write_text(text.replace(old, new), encoding="utf-8")
 
 
+def against_stored(program):
+    """How many lines are others than those stored, and whether any is."""
+    stored = REPOSITORY / "crates/replay"
+    printed = subprocess.run([program], input=(stored / "stdin").read_bytes(), capture_output=True,
+                             check=False).stdout.splitlines()
+    wanted = (stored / "stdout").read_bytes().splitlines()
+    differing = sum(line != want for line, want in zip_longest(printed, wanted))
+    return f"{len(wanted)} lines compared, {differing} differ", differing > 0
+
+
 def found(how, changes):
     """What the comparison says last of the changed program, and whether it differs."""
     with tempfile.TemporaryDirectory() as folder:
@@ -163,6 +209,8 @@ def found(how, changes):
         changed_copy(folder, changes)
         program = folder / "replay"
         subprocess.run([HERE / "build_unproved", "replay", program, folder], check=True)
+        if how == STORED:
+            return against_stored(program)
         done = subprocess.run([COMPARE, *how, "--other", program, "--count", "1500", "--stored",
                                REPOSITORY / "crates/replay/stdin"], capture_output=True, text=True, check=False)
     return done.stdout.rstrip().rsplit("\n", 1)[-1], done.returncode == 1

@@ -1,16 +1,17 @@
-"""The corners of document 01 that are lowered, and more of their kind.
+"""The corners of document 01 that are lowered, document 02's, and more of their kind.
 
 Each function's first line tells what its image holds. `FIRST_LINES` has each with the
 first line of its listing.
 """
 
 from images import (
-    ABSENT, ARRAY, BIND, CONSTANT, C_STRING, ENUM, LIT, NAMES_CONSTANT, NAMES_VARIANT, OR,
-    PATH, RANGE, RECORD, REF, REFERENCE, REST, SLICE, SLICE_TYPE, STR, STRUCT, TUPLE,
-    TUPLE_STRUCT, TUPLE_TYPE, WILD, Image,
+    ABSENT, ARRAY, BIND, CHAR, CHARACTER, CONSTANT, C_STRING, ENUM, INTEGER, LIT,
+    NAMES_CONSTANT, NAMES_VARIANT, OR, PATH, RANGE, RECORD, REF, REFERENCE, REST, SLICE,
+    SLICE_TYPE, STR, STRUCT, TUPLE, TUPLE_STRUCT, TUPLE_TYPE, WILD, Image,
 )
 from readable import (
-    array, constant, half_open, literal7, or_1_2, range_, reference, string, tuple_ellipsis,
+    array, constant, first_three, half_open, last_two, literal7, or_1_2, range_, reference,
+    string, tuple_ellipsis,
 )
 from refusals import SEVEN, many, option, with_u8
 
@@ -147,10 +148,42 @@ def c_string():
 
 
 def half_open_end():
-    """`1..3` on u8, its end a constant: the end is taken, the flag ignored."""
+    """`1..3` on u8, its end a constant: the end is left out."""
     m, u8 = with_u8()
     end = m.add_operand(CONSTANT, bytes([3]))
     m.add_pattern(RANGE, u8, m.add_integer(1), end, 1)
+    return m
+
+
+def half_open_to():
+    """`..-1` on i8: a half-open range without a start."""
+    m = Image()
+    i8 = m.add_type(INTEGER, 1, 1)
+    m.add_pattern(RANGE, i8, ABSENT, m.add_integer(-1), 1)
+    return m
+
+
+def half_open_char():
+    """`'a'..'d'` on char."""
+    m = Image()
+    char = m.add_type(CHAR)
+    ends = [m.add_operand(CHARACTER, ord(end).to_bytes(4, "little")) for end in "ad"]
+    m.add_pattern(RANGE, char, *ends, 1)
+    return m
+
+
+def half_open_nothing():
+    """`3..3` on u8: a range that nothing is in."""
+    m, u8 = with_u8()
+    three = m.add_integer(3)
+    m.add_pattern(RANGE, u8, three, three, 1)
+    return m
+
+
+def flag_2():
+    """A range from 1 to 3 on u8 whose flag is 2: it is closed."""
+    m, u8 = with_u8()
+    m.add_pattern(RANGE, u8, m.add_integer(1), m.add_integer(3), 2)
     return m
 
 
@@ -175,13 +208,39 @@ def rest_binding(kind, length=0):
 
 
 def slice_rest_binding():
-    """`[_, rest @ .., a, b]` on [u8]: suffix items run backwards."""
+    """`[_, rest @ .., a, b]` on [u8]: suffix items in the order of the text."""
     return rest_binding(SLICE_TYPE)
 
 
 def array_rest_binding():
     """The same on [u8; 5], without a test."""
     return rest_binding(ARRAY, 5)
+
+
+def suffix_three():
+    """`[1, .., 2, x, 3..5]` on [u8]: the last three items, tested and bound."""
+    m, u8 = with_u8()
+    legs = m.add_type(SLICE_TYPE, u8, copy=0)
+    items = [m.add_pattern(LIT, u8, m.add_integer(1)), m.add_pattern(LIT, u8, m.add_integer(2)),
+             m.add_pattern(BIND, u8, m.add_binding(u8), ABSENT),
+             m.add_pattern(RANGE, u8, m.add_integer(3), m.add_integer(5), 1)]
+    dots = m.add_pattern(REST, legs)
+    m.add_pattern(SLICE, legs, m.add_words(*items), 1, 3, dots)
+    return m
+
+
+def suffix_in_suffix():
+    """`[.., [.., a, 7, b], _]` on [[u8; 4]; 3]: last items of the last but one."""
+    m, u8 = with_u8()
+    four = m.add_type(ARRAY, u8, 4)
+    three = m.add_type(ARRAY, four, 3)
+    items = [m.add_pattern(BIND, u8, m.add_binding(u8), ABSENT),
+             m.add_pattern(LIT, u8, m.add_integer(7)),
+             m.add_pattern(BIND, u8, m.add_binding(u8), ABSENT)]
+    inner = m.add_pattern(SLICE, four, m.add_words(*items), 0, 3, m.add_pattern(REST, four))
+    last = m.add_pattern(WILD, four)
+    m.add_pattern(SLICE, three, m.add_words(inner, last), 0, 2, m.add_pattern(REST, three))
+    return m
 
 
 def deref_1():
@@ -251,8 +310,11 @@ FIRST_LINES = {
     nested_or: "then 11 else 10", or_of_binds: "then 7 else 6", record: "then 1 else 2",
     struct_ellipsis: "then 3 else 2", string: "then 1 else 2", c_string: "then 1 else 2",
     constant: "then 1 else 2", half_open: "then 2 else 1", half_open_end: "then 3 else 1",
+    first_three: "then 3 else 1", half_open_to: "then 2 else 1", half_open_char: "then 3 else 1",
+    half_open_nothing: "then 3 else 1", flag_2: "then 3 else 1",
     range_no_ends: "then 0 else -", slice_rest_binding: "then 2 else 1",
-    array_rest_binding: "then 0 else -", reference: "then 0 else -",
+    array_rest_binding: "then 0 else -", last_two: "then 2 else 1",
+    suffix_three: "then 6 else 1", suffix_in_suffix: "then 1 else 2", reference: "then 0 else -",
     deref_1: "then 1 else 2", deref_lowest: "then 0 else -", derefs_16: "then 0 else -",
     blocks_512: "then 511 else 2", locals_512: "then 256 else 2",
     statements_1024: "then 0 else -",

@@ -7,7 +7,7 @@ after a call or two, most of the time.
 import random
 
 from calls import (
-    ASSUME, BLOCKS, COPY, COUNTS, DROP, ENTRIES, EQ, GE, GOTO, IS_CONSTANT, LIMITS, LIVE,
+    ASSUME, BLOCKS, COPY, COUNTS, DROP, ENTRIES, EQ, GOTO, GT, IS_CONSTANT, LIMITS, LIVE,
     LOCALS, MERGE, OF_LOCAL, POKE, POP, PUSH, SCOPES, STATEMENTS, SWITCH, TABLES, TEMP, UNTIL,
     UNREACHABLE, WIDTHS, Replay,
 )
@@ -111,7 +111,7 @@ class Chance:
 
     def statement(self, counts):
         """The words of a statement's row, as far as they are not 0."""
-        rng, kind = self.rng, self.rng.choice((LIVE, *range(COPY, GE + 1), 12))
+        rng, kind = self.rng, self.rng.choice((LIVE, *range(COPY, GT + 1), GT + 1))
         words = [self.block(), kind, self.below(counts[LOCALS])] + 12 * [0]
         if kind >= IS_CONSTANT:
             words[3:6] = [2, rng.choice((0, 8, 16, 16, 17)), self.type_word()]

@@ -15,7 +15,7 @@ BLOCKS, STATEMENTS, LOCALS, SCOPES, ENTRIES = range(5)
 # handed in, and the discriminant local.
 ELEMENTS_AT, BOUND_AT, DISCR_AT = 2, 34, 35
 ELEMENT_KINDS = "deref", "f", "i", "e", "s", "v"
-STATEMENT_KINDS = "live", "dead", "copy", "ref", "mut", "len", "discr", "const", "eq", "le", "ge"
+STATEMENT_KINDS = "live", "dead", "copy", "ref", "mut", "len", "discr", "const", "eq", "le", "ge", "gt"
 TERMINATOR_KINDS = "open", "goto", "switch", "unreachable"
 NAMED_TYPES = {256: "bool", 257: "usize", 258: "i128"}
 TYPE_NUMBERS = {name: word for word, name in NAMED_TYPES.items()}
@@ -145,7 +145,7 @@ def statement_row(block, statement):
     words = [block, STATEMENT_KINDS.index(value[0]) + 1, local]
     if value[0] == "const":
         return words + operand_words(value)
-    if value[0] in ("eq", "le", "ge"):
+    if value[0] in ("eq", "le", "ge", "gt"):
         return words + operand_words(value[1]) + place_words(value[2][1])
     return words + [0] * 12 + place_words(value[1])
 

@@ -29,6 +29,11 @@ CORNERS = [
     ("temp_slice", "A temporary of a slice is 8, copy or not, one of str is taken.",
      "blocks=1; push; temp slice 0; temp copySlice 0; temp str 0",
      "now, refused 8, refused 8, local 0"),
+    ("kind_12", "A row of kind 12, gt, is taken with a constant and with a local, one of 13 is not.",
+     "blocks=1; locals=2; statements=2; statement 0: 0 12 1 2 1 u8; statement 0.15: 0 1 3; "
+     "statement 1: 0 12 1 1 1; statement 1.15: 0; push; temp u8 0; pop 0; statement 1.1: 13; push; "
+     "statement 1.1: 12; statement 0.1: 13; push; statement 0.1: 12; push",
+     "now, local 2, block 0, refused 2, refused 2, now"),
     ("place_16", "A place of 16 elements is taken, of 17 and of 65535 refused.",
      "blocks=1; locals=1; statements=1; statement 0: 0 3 0; statement 0.15: 0 16; push; "
      "statement 0.16: 17; push; statement 0.16: 65535; push",

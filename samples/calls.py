@@ -20,7 +20,7 @@ WIDTHS = 12, 49, 1, 1, 1
 ZEROS = tuple((0,) * width for width in WIDTHS)
 TEMP, MERGE, PUSH, ASSUME, POP, UNTIL, POKE = range(7)
 OPEN, GOTO, SWITCH, UNREACHABLE, DROP = range(5)
-(LIVE, DEAD, COPY, REF_TO, MUT_TO, LEN, DISCR, IS_CONSTANT, EQ, LE, GE) = range(1, 12)
+(LIVE, DEAD, COPY, REF_TO, MUT_TO, LEN, DISCR, IS_CONSTANT, EQ, LE, GE, GT) = range(1, 13)
 NONE, OF_LOCAL, OF_CONSTANT = range(3)
 MOST_ELEMENTS, MOST_BYTES = 16, 16
 BOOL_WORD, USIZE_WORD, I128_WORD = 256, 257, 258
@@ -146,18 +146,18 @@ def block_faults(_, counts, row):
 def statement_faults(m, counts, row):
     block, kind, local = row[:3]
     found = failed(("statementNamesBlock", block < counts[BLOCKS]),
-                   ("statementKindExists", LIVE <= kind <= GE),
+                   ("statementKindExists", LIVE <= kind <= GT),
                    ("statementNamesLocal", local < counts[LOCALS]))
     if kind == IS_CONSTANT:
         found += failed(("constantIsOne", row[3] == OF_CONSTANT))
-    if EQ <= kind <= GE:
+    if EQ <= kind <= GT:
         found += failed(("operandKindExists", row[3] in (OF_LOCAL, OF_CONSTANT)))
         if row[3] == OF_LOCAL:
             found += failed(("operandNamesLocal", row[4] < counts[LOCALS]))
-    if IS_CONSTANT <= kind <= GE and row[3] == OF_CONSTANT:
+    if IS_CONSTANT <= kind <= GT and row[3] == OF_CONSTANT:
         found += failed(("constantAtMost16", row[4] <= MOST_BYTES),
                         ("constantNamesType", names_type(m, row[5])))
-    if COPY <= kind <= GE and kind != IS_CONSTANT:
+    if COPY <= kind <= GT and kind != IS_CONSTANT:
         found += place_faults(m, counts, row[15:])
     return found
 

@@ -52,7 +52,7 @@ MODULES = [
     ("pattern_matching", "Variants", "placeTy shapeOf patternMatchAdt patternMatchTupleLike ellipsisAt tupleOn tuplePattern refOn refPattern resolved "
      "recordFields variantFields discriminantTest variantOn adtOn patternMatchingVariant variantPattern"),
     ("pattern_matching", "Slices", "lengthConstant lengthCompared lengthTest restBound sliceItems sliceOn"),
-    ("pattern_matching", "Patterns", "alternatives alternativesEnd orPattern rangePattern pathPattern bindPattern restBy restOf patternMatchInner lowerings "
+    ("pattern_matching", "Patterns", "alternatives alternativesEnd orPattern endOp rangePattern pathPattern bindPattern restBy restOf patternMatchInner lowerings "
      "lowering? patternMatch"),
 ]
 
@@ -71,7 +71,6 @@ FIT_MODULES = [
     ("meaning", "Fit", "boundIn bindingsFit"),
     ("meaning", "Fits", "hasVariant pathTaken nothingRefused present localsDiffer fits"),
     ("meaning", "Matching", "crossed created matchAll matchRow isVariant pathMatches matches"),
-    ("meaning", "Differences", "asTheReference"),
     ("meaning", "Running", "scalarOf bytesOf sameValue"),
 ]
 
@@ -129,7 +128,7 @@ use Rattle.audit.specs.Started.{startState, start, answerBy, Answer, acc
 
 ELEMENTS = {"deref": "Deref", "f": "Field", "i": "Index", "e": "IndexFromEnd", "s": "Subslice", "v": "Downcast"}
 RVALUES = {"copy": "Copy", "ref": "Ref", "mut": "Mut", "len": "Len", "discr": "Discr"}
-OPERATORS = {"eq": "Eq", "le": "Le", "ge": "Ge"}
+OPERATORS = {"eq": "Eq", "le": "Le", "ge": "Ge", "gt": "Gt"}
 WORDS = {"bool": 256, "usize": 257, "i128": 258}
 
 
@@ -258,17 +257,15 @@ def held(of):
     return f"value ({value(of)})"
 
 
-def tried(row, answer, of, bound, then):
+def tried(row, answer, of, bound):
     """A value, with what is wanted of it."""
     if answer == "stranger":
         return f"notOfType ({value(of)})"
-    if then is None and answer == "matched":
-        then = [dict(bound).get(binding, ("tuple",)) for binding in range(len(row.locals))]
-    came = "toElse" if then is None else f"(toThen {row_of(map(held, then))})"
     if answer == "unmatched":
-        return f"unmatched ({value(of)}) {came}"
+        return f"unmatched ({value(of)}) toElse"
+    then = [dict(bound).get(binding, ("tuple",)) for binding in range(len(row.locals))]
     pairs = row_of(f"record {{ binding = {binding}; what = {held(what)} }}" for binding, what in bound)
-    return f"matched ({value(of)}) {pairs} {came}"
+    return f"matched ({value(of)}) {pairs} (toThen {row_of(map(held, then))})"
 
 
 def judged_rows(rows_):

@@ -1,4 +1,4 @@
-"""The corners of document 01: what it says of each is checked.
+"""The corners of document 01 and of document 02: what they say of each is checked.
 
 `CORNERS` has name and image of each: those of accepted.py, then those of refusals.py.
 `python3 samples/corners.py` prints each name with its listing's first line, and then how
@@ -31,6 +31,9 @@ open
 bb 2
 open
 """
+
+# What `[_, rest @ .., a, b]` binds.
+REST_BOUND = ["live 1", "set 1 ref 0.s1-2", "live 2", "set 2 copy 0.e1", "live 3", "set 3 copy 0.e0"]
 
 
 def lowered(make):
@@ -101,12 +104,9 @@ def check_others():
     assert statements(lowered(on.constant)) == [
         "live 1", "set 1 05", "live 2", "set 2 eq copy 1 copy 0"]
     assert sizes(on.half_open) == (2, 2) and sizes(on.half_open_end) == (3, 4)
-    assert statements(lowered(on.half_open_end))[3] == "set 2 ge 03 copy 0"
-    bound = ["live 1", "set 1 ref 0.s1-2", "live 2", "set 2 copy 0.e0",
-             "live 3", "set 3 copy 0.e1"]
     assert statements(lowered(on.slice_rest_binding)) == [
-        "live 4", "set 4 len 0", "live 5", "set 5 le 0300000000000000 copy 4"] + bound
-    assert statements(lowered(on.array_rest_binding)) == bound
+        "live 4", "set 4 len 0", "live 5", "set 5 le 0300000000000000 copy 4"] + REST_BOUND
+    assert statements(lowered(on.array_rest_binding)) == REST_BOUND
     assert statements(lowered(on.deref_1))[1] == "set 1 eq 01 copy 0.deref"
     assert lowered(on.deref_1).locals[0] == 1 and lowered(on.deref_lowest).locals[0] == 2
     assert lowered(on.nested_or).visits == [3, 4, 4, 3, 2, 2]
@@ -114,6 +114,27 @@ def check_others():
     assert len(lowered(on.blocks_512).terminators) == 512
     assert len(lowered(on.locals_512).locals) == 512
     assert len(lowered(on.statements_1024).created) == 1024
+
+
+def tests(make):
+    """What is compared, measured or set to a place, in order, without the local that is set."""
+    sets = [text.split(" ", 2) for text in statements(lowered(make)) if text.startswith("set ")]
+    return [what for _, _, what in sets]
+
+
+def check_reference():
+    """What document 02 takes from the Reference: half-open ranges leave out their end, and items
+    at the end of a slice pattern stand in the order of the text."""
+    assert tests(on.half_open_end) == ["le 01 copy 0", "gt 03 copy 0"]
+    assert tests(on.first_three) == ["le 01 copy 0", "gt 04 copy 0"]
+    assert tests(on.half_open_to) == ["gt ff copy 0"]
+    assert tests(on.half_open_char) == ["le 61000000 copy 0", "gt 64000000 copy 0"]
+    assert tests(on.half_open_nothing) == ["le 03 copy 0", "gt 03 copy 0"]
+    assert tests(on.flag_2) == tests(on.range_) == ["le 01 copy 0", "ge 03 copy 0"]
+    assert tests(on.last_two)[2:] == ["copy 0.e1", "copy 0.e0"]
+    assert tests(on.suffix_three)[2:] == [
+        "eq 01 copy 0.i0", "eq 02 copy 0.e2", "le 03 copy 0.e0", "gt 05 copy 0.e0", "copy 0.e1"]
+    assert tests(on.suffix_in_suffix) == ["eq 07 copy 0.e1.e1", "copy 0.e1.e2", "copy 0.e1.e0"]
 
 
 def check_assignment():
@@ -124,7 +145,7 @@ def check_assignment():
     assert statements(assigned("path_binding")) == ["set 1 copy 0.f0"]
     assert statements(assigned("path_other")) == [] == statements(assigned("lit_float"))
     assert statements(assigned("literal7")) == [] == statements(assigned("range"))
-    assert statements(assigned("slice_rest_binding"))[0] == "live 1"
+    assert statements(assigned("slice_rest_binding")) == REST_BOUND
     assert len(assigned("or_1_2").created) == 4 and assigned("or_1_2").then == 1
     refused = {"expr": 10, "unresolved": 13, "lit_other": 6, "missing": 3, "box": 6}
     for name, number in refused.items():
@@ -159,6 +180,7 @@ def check():
     check_document()
     check_variants()
     check_others()
+    check_reference()
     check_assignment()
     check_handed()
     return len(CORNERS)

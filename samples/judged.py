@@ -39,19 +39,19 @@ class Row:
         self.discr = discr
 
 
-def yes(value, *bound, held=None):
-    """A value that matches, what it binds in order, and what the locals hold where the Rust parts."""
-    return "matched", value, bound, held
+def yes(value, *bound):
+    """A value that matches, and what it binds in order."""
+    return "matched", value, bound
 
 
-def no(value, then=None):
-    """A value that does not match; `then` is what the locals hold where the Rust comes to then."""
-    return "unmatched", value, (), then
+def no(value):
+    """A value that does not match."""
+    return "unmatched", value, ()
 
 
 def stranger(value):
     """A value that is not of the place's type."""
-    return "stranger", value, (), None
+    return "stranger", value, ()
 
 
 def corner(name, fit, *tried):
@@ -116,12 +116,25 @@ KINDS = [
     corner("c_string", False),
     corner("constant", True, yes(5), no(6)),
     corner("half_open", True, no(0), yes(1), yes(255)),
-    # listed differences: the Rust takes the end of a half-open range, and reads two or more items
-    # at the end backwards
-    corner("half_open_end", True, no(0), yes(2), no(3, then=()), no(4)),
+    corner("half_open_end", True, no(0), yes(1), yes(2), no(3), no(4)),
+    corner("first_three", True, no(0), yes(1), yes(2), yes(3), no(4), no(255)),
+    corner("half_open_to", True, yes(-128), yes(-2), no(-1), no(0), no(127)),
+    corner("half_open_char", True, no("`"), yes("a"), yes("c"), no("d"), no("e")),
+    corner("half_open_nothing", True, no(2), no(3), no(4)),
+    corner("flag_2", True, no(0), yes(1), yes(3), no(4)),
     corner("slice_rest_binding", True,
-           yes(("slice", 1, 2, 3, 4), (0, by_ref(("s", 1, 2))), (1, 3), (2, 4),
-               held=(by_ref(("s", 1, 2)), 4, 3)), no(("slice", 1, 2))),
+           yes(("slice", 1, 2, 3, 4), (0, by_ref(("s", 1, 2))), (1, 3), (2, 4)),
+           yes(("slice", 1, 3, 4), (0, by_ref(("s", 1, 2))), (1, 3), (2, 4)), no(("slice", 1, 2))),
+    corner("array_rest_binding", True,
+           yes(("array", 1, 2, 3, 4, 5), (0, by_ref(("s", 1, 2))), (1, 4), (2, 5))),
+    corner("last_two", True, yes(("slice", 1, 2, 3), (0, 2), (1, 3)), yes(("slice", 1, 2), (0, 1), (1, 2)),
+           no(("slice", 1))),
+    corner("suffix_three", True, yes(("slice", 1, 2, 9, 3), (0, 9)), yes(("slice", 1, 0, 2, 9, 4), (0, 9)),
+           no(("slice", 1, 2, 9, 5)), no(("slice", 1, 3, 9, 2)), no(("slice", 2, 9, 3))),
+    corner("suffix_in_suffix", True,
+           yes(("array", ("array", 0, 0, 0, 0), ("array", 1, 2, 7, 4), ("array", 0, 0, 0, 0)),
+               (0, 2), (1, 4)),
+           no(("array", ("array", 0, 0, 0, 0), ("array", 1, 7, 2, 4), ("array", 1, 2, 7, 4)))),
     corner("range_no_ends", False),
     corner("reference", True, yes(("ref", 5), (0, 5))),
     corner("deref_1", True, yes(("ref", 1)), no(("ref", 2)), stranger(1)),
@@ -149,6 +162,9 @@ KINDS = [
     on("range_over_zero", I8, span(I8, -1, 1), no(-2), yes(-1), yes(0), yes(1), no(2)),
     on("char_range", "char", span("char", "b", "d"), no("a"), yes("b"), yes("d"), no("e")),
     on("range_to", U8, span(U8, None, 3), yes(0), yes(3), no(4)),
+    on("range_below_least", I8, span(I8, None, -128, half_open=True), no(-128), no(127)),
+    on("half_open_over_zero", I8, span(I8, -1, 1, half_open=True), no(-2), yes(-1), yes(0), no(1)),
+    on("range_turned_round", U8, span(U8, 4, 2, half_open=True), no(2), no(3), no(4)),
     on("range_of_constants", U8, span(U8, const(2), const(4)), no(1), yes(2), yes(4), no(5)),
     on("constant_true", "bool", constant("bool", 1), yes(True), no(False)),
     on("constant_char", "char", constant("char", 97, 0, 0, 0), yes("a"), no("b")),
@@ -169,6 +185,11 @@ KINDS = [
        yes(("ref", 5), (0, by_ref(("deref",)))), bindings=[U8]),
     on("first_and_last", LEGS, items(LEGS, lit(U8, 1), dots=rest(LEGS), back=[lit(U8, 2)]),
        yes(("slice", 1, 2)), yes(("slice", 1, 9, 2)), no(("slice", 1)), no(("slice", 1, 2, 3))),
+    on("last_two_of_array", THREE,
+       items(THREE, dots=rest(THREE), back=[bind(U8, 0), bind(U8, 1, mode=REF)]),
+       yes(("array", 1, 2, 3), (0, 2), (1, by_ref(("e", 0)))), bindings=[U8, U8]),
+    on("no_rest_before_the_end", THREE, items(THREE, lit(U8, 1), back=[lit(U8, 2), bind(U8, 0)]),
+       yes(("array", 1, 2, 3), (0, 3)), no(("array", 1, 3, 2)), bindings=[U8]),
     on("rest_of_array", THREE,
        items(THREE, wild(U8), dots=bind(THREE, 0, rest(THREE)), back=[wild(U8)]),
        yes(("array", 1, 2, 3), (0, ("array", 2))), bindings=[THREE]),

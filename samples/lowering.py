@@ -1,8 +1,9 @@
 """Judges listings: lowers a pattern as the Rust does, and prints what document 01 says.
 
-Written from pattern_matching.rs and from document 01 alone, so that the project's own
-definitions have something to differ from. `listing` takes the bytes of an image,
-`lower` and `assign` a decoded image and a pattern.
+Written from pattern_matching.rs and from the documents alone, so that the project's own
+definitions have something to differ from. The end of a half-open range and the offsets
+of suffix items are document 02's. `listing` takes the bytes of an image, `lower` and
+`assign` a decoded image and a pattern.
 
 `python3 samples/lowering.py FILE` prints the listing of an image file, or of standard
 input if no file is named.
@@ -20,6 +21,8 @@ from images import (
 )
 
 CHECK, BIND_MODE, ASSIGN = "check", "bind", "assign"
+# The word c of a range that leaves out its end; with any other it is closed.
+HALF_OPEN = 1
 VALUE_WORDS = ("copy", "ref", "mut")
 # A pattern may lie 512 deep, and each level takes up to four calls.
 sys.setrecursionlimit(20_000)
@@ -112,8 +115,9 @@ class Walk(Builder):
         return local
 
     def range(self, current, other, place, p, mode):
-        _, _, _, a, b, _, _ = self.m.patterns[p]
-        for start, word in ((a, "le"), (b, "ge")) if mode == CHECK else ():
+        _, _, _, a, b, c, _ = self.m.patterns[p]
+        end = "gt" if c == HALF_OPEN else "ge"
+        for start, word in ((a, "le"), (b, end)) if mode == CHECK else ():
             if start == ABSENT:
                 continue
             constant = self.literal_or_const(p, start)
@@ -138,7 +142,7 @@ class Walk(Builder):
             at = self.project(place, p, ("s", b, c))
             self.binding(d, at, current, p)
         for number, item in enumerate(self.m.list[a + b:a + b + c]):
-            at = self.project(place, p, ("e", number))
+            at = self.project(place, p, ("e", c - 1 - number))
             current, other = self.inner(current, other, at, item, mode)
         return current, other
 
@@ -319,7 +323,7 @@ def value_text(value):
     """What is set, or an operand of it."""
     if value[0] == "const":
         return value[1].hex()
-    if value[0] in ("eq", "le", "ge"):
+    if value[0] in ("eq", "le", "ge", "gt"):
         return " ".join((value[0], value_text(value[1]), value_text(value[2])))
     return f"{value[0]} {place_text(value[1])}"
 

@@ -43,6 +43,14 @@ def half_open():
     return m
 
 
+def first_three():
+    """`1..4` on u8: places one to three."""
+    m = Image()
+    u8 = m.add_type(INTEGER, 1)
+    m.add_pattern(RANGE, u8, m.add_integer(1), m.add_integer(4), 1)
+    return m
+
+
 def char_range():
     """`'a'..='z'` on char."""
     m = Image()
@@ -102,6 +110,17 @@ def slice_rest():
     middle = m.add_pattern(BIND, legs, rest, dots, BY_REF)
     last = m.add_pattern(BIND, u8, b, ABSENT, BY_REF)
     m.add_pattern(SLICE, legs, m.add_words(first, last), 1, 1, middle, derefs=1)
+    return m
+
+
+def last_two():
+    """`[.., a, b]` on [u8]: the last two races, b the last."""
+    m = Image()
+    u8 = m.add_type(INTEGER, 1)
+    races = m.add_type(SLICE_TYPE, u8, copy=0)
+    items = [m.add_pattern(BIND, u8, m.add_binding(u8), ABSENT) for _ in "ab"]
+    dots = m.add_pattern(REST, races)
+    m.add_pattern(SLICE, races, m.add_words(*items), 0, 2, dots)
     return m
 
 
@@ -195,9 +214,9 @@ def used_twice():
     return m
 
 
-SAMPLES = (literal7, or_1_2, range_, half_open, char_range, negative, string, constant,
-           tuple_ellipsis, slice_rest, array, enum_fields, enum_unit, struct_fields,
-           reference, binding_sub, damaged, used_twice)
+SAMPLES = (literal7, or_1_2, range_, half_open, first_three, char_range, negative, string,
+           constant, tuple_ellipsis, slice_rest, last_two, array, enum_fields, enum_unit,
+           struct_fields, reference, binding_sub, damaged, used_twice)
 
 
 def sample_files():

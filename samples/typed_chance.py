@@ -91,7 +91,8 @@ class Maker:
             return LIT, operand()
         if choice == 1:
             ends = rng.choice(((1, 1), (1, 0), (0, 1)))
-            return RANGE, *[operand() if end else ABSENT for end in ends], 0
+            half_open = rng.randint(0, 1)
+            return RANGE, *[operand() if end else ABSENT for end in ends], half_open
         size = 4 if kind == CHAR else size
         return PATH, NAMES_CONSTANT, m.add_operand(CONSTANT, bytes(size))
 

@@ -33,7 +33,7 @@ use Rattle.pattern_matching.specs.Walking.{visited, project, localPlace, elseSt
 use Rattle.pattern_matching.specs.Tests.{compare, patternMatchConst, literal, litBy, constantPath, rangeEnd, rangeEnd?, bindingRvalue, patternMatchBinding, localPath}
 use Rattle.pattern_matching.specs.Variants.{placeTy, shapeOf, patternMatchAdt, patternMatchTupleLike, ellipsisAt, tupleOn, tuplePattern, refOn, refPattern, resolved, recordFields, variantFields, discriminantTest, variantOn, adtOn, patternMatchingVariant, variantPattern}
 use Rattle.pattern_matching.specs.Slices.{lengthConstant, lengthCompared, lengthTest, restBound, sliceItems, sliceOn}
-use Rattle.pattern_matching.specs.Patterns.{alternatives, alternativesEnd, orPattern, rangePattern, pathPattern, bindPattern, restBy, restOf, patternMatchInner, lowerings, lowering?, patternMatch}
+use Rattle.pattern_matching.specs.Patterns.{alternatives, alternativesEnd, orPattern, endOp, rangePattern, pathPattern, bindPattern, restBy, restOf, patternMatchInner, lowerings, lowering?, patternMatch}
 use Rattle.audit.specs.Call.{lowering}
 use Rattle.audit.specs.Started.{startState, start, answerBy, Answer, accepted, refusal, Row}
 
@@ -71,16 +71,40 @@ abbrev half-open-row : Row
 half-open-row = record { image = 0 ∷ 0 ∷ 0 ∷ 59 ∷ 1 ∷ 0 ∷ 1 ∷ 0 ∷ 0 ∷ 0 ∷ 1 ∷ 0 ∷ 0 ∷ 0 ∷ 3 ∷ 0 ∷ 16 ∷ 0 ∷ 1 ∷ 0 ∷ 1 ∷ 0 ∷ 0 ∷ 0 ∷ 0 ∷ 0 ∷ 1 ∷ 0 ∷ 7 ∷ 0 ∷ 0 ∷ 0 ∷ 0 ∷ 0 ∷ 0 ∷ 255 ∷ 255 ∷ 0 ∷ 1 ∷ 0 ∷ 0 ∷ 0 ∷ 1 ∷ 0 ∷ 0 ∷ 0 ∷ 16 ∷ 1 ∷ 0 ∷ 0 ∷ 0 ∷ 0 ∷ 0 ∷ 0 ∷ 0 ∷ 0 ∷ 0 ∷ 0 ∷ 0 ∷ 0 ∷ 0 ∷ 0 ∷ 0 ∷ []; ty = 0; wanted = accepted (record { 0 = 2 }) (OptBlock.Some (record { 0 = 1 })) (record { terminators = (Terminator.Switch (record { 0 = 1 }) 1 0 (record { 0 = 2 }) (record { 0 = 1 }) ∷ Terminator.Open ∷ Terminator.Open ∷ []); lines = (record { block = 0; statement = live 1 } ∷ record { block = 0; statement = set 1 (binary BinOp.Le (Left.Constant (record { count = 1; ty = 0; offset = 0; low = 1; high = 0 })) (record { local = 0; elems = ([]) })) } ∷ []); locals = (0 ∷ 256 ∷ []) }) (2 ∷ []) }
 
 abbrev half-open-end-row : Row
-half-open-end-row = record { image = 0 ∷ 0 ∷ 0 ∷ 66 ∷ 1 ∷ 0 ∷ 1 ∷ 0 ∷ 0 ∷ 0 ∷ 1 ∷ 0 ∷ 0 ∷ 0 ∷ 6 ∷ 0 ∷ 17 ∷ 0 ∷ 1 ∷ 0 ∷ 1 ∷ 0 ∷ 0 ∷ 0 ∷ 0 ∷ 0 ∷ 1 ∷ 0 ∷ 7 ∷ 0 ∷ 0 ∷ 0 ∷ 0 ∷ 0 ∷ 3 ∷ 0 ∷ 0 ∷ 0 ∷ 1 ∷ 0 ∷ 0 ∷ 0 ∷ 8 ∷ 0 ∷ 0 ∷ 0 ∷ 1 ∷ 0 ∷ 1 ∷ 0 ∷ 1 ∷ 0 ∷ 16 ∷ 3 ∷ 1 ∷ 0 ∷ 0 ∷ 0 ∷ 0 ∷ 0 ∷ 0 ∷ 0 ∷ 0 ∷ 0 ∷ 0 ∷ 0 ∷ 0 ∷ 0 ∷ 0 ∷ 0 ∷ []; ty = 0; wanted = accepted (record { 0 = 3 }) (OptBlock.Some (record { 0 = 1 })) (record { terminators = (Terminator.Switch (record { 0 = 1 }) 1 0 (record { 0 = 2 }) (record { 0 = 1 }) ∷ Terminator.Open ∷ Terminator.Switch (record { 0 = 2 }) 1 0 (record { 0 = 3 }) (record { 0 = 1 }) ∷ Terminator.Open ∷ []); lines = (record { block = 0; statement = live 1 } ∷ record { block = 0; statement = set 1 (binary BinOp.Le (Left.Constant (record { count = 1; ty = 0; offset = 0; low = 1; high = 0 })) (record { local = 0; elems = ([]) })) } ∷ record { block = 2; statement = live 2 } ∷ record { block = 2; statement = set 2 (binary BinOp.Ge (Left.Constant (record { count = 1; ty = 0; offset = 0; low = 3; high = 0 })) (record { local = 0; elems = ([]) })) } ∷ []); locals = (0 ∷ 256 ∷ 256 ∷ []) }) (2 ∷ []) }
+half-open-end-row = record { image = 0 ∷ 0 ∷ 0 ∷ 66 ∷ 1 ∷ 0 ∷ 1 ∷ 0 ∷ 0 ∷ 0 ∷ 1 ∷ 0 ∷ 0 ∷ 0 ∷ 6 ∷ 0 ∷ 17 ∷ 0 ∷ 1 ∷ 0 ∷ 1 ∷ 0 ∷ 0 ∷ 0 ∷ 0 ∷ 0 ∷ 1 ∷ 0 ∷ 7 ∷ 0 ∷ 0 ∷ 0 ∷ 0 ∷ 0 ∷ 3 ∷ 0 ∷ 0 ∷ 0 ∷ 1 ∷ 0 ∷ 0 ∷ 0 ∷ 8 ∷ 0 ∷ 0 ∷ 0 ∷ 1 ∷ 0 ∷ 1 ∷ 0 ∷ 1 ∷ 0 ∷ 16 ∷ 3 ∷ 1 ∷ 0 ∷ 0 ∷ 0 ∷ 0 ∷ 0 ∷ 0 ∷ 0 ∷ 0 ∷ 0 ∷ 0 ∷ 0 ∷ 0 ∷ 0 ∷ 0 ∷ 0 ∷ []; ty = 0; wanted = accepted (record { 0 = 3 }) (OptBlock.Some (record { 0 = 1 })) (record { terminators = (Terminator.Switch (record { 0 = 1 }) 1 0 (record { 0 = 2 }) (record { 0 = 1 }) ∷ Terminator.Open ∷ Terminator.Switch (record { 0 = 2 }) 1 0 (record { 0 = 3 }) (record { 0 = 1 }) ∷ Terminator.Open ∷ []); lines = (record { block = 0; statement = live 1 } ∷ record { block = 0; statement = set 1 (binary BinOp.Le (Left.Constant (record { count = 1; ty = 0; offset = 0; low = 1; high = 0 })) (record { local = 0; elems = ([]) })) } ∷ record { block = 2; statement = live 2 } ∷ record { block = 2; statement = set 2 (binary BinOp.Gt (Left.Constant (record { count = 1; ty = 0; offset = 0; low = 3; high = 0 })) (record { local = 0; elems = ([]) })) } ∷ []); locals = (0 ∷ 256 ∷ 256 ∷ []) }) (2 ∷ []) }
+
+abbrev first-three-row : Row
+first-three-row = record { image = 0 ∷ 0 ∷ 0 ∷ 81 ∷ 1 ∷ 0 ∷ 1 ∷ 0 ∷ 0 ∷ 0 ∷ 1 ∷ 0 ∷ 0 ∷ 0 ∷ 6 ∷ 0 ∷ 32 ∷ 0 ∷ 1 ∷ 0 ∷ 1 ∷ 0 ∷ 0 ∷ 0 ∷ 0 ∷ 0 ∷ 1 ∷ 0 ∷ 7 ∷ 0 ∷ 0 ∷ 0 ∷ 0 ∷ 0 ∷ 0 ∷ 0 ∷ 3 ∷ 0 ∷ 1 ∷ 0 ∷ 0 ∷ 0 ∷ 1 ∷ 0 ∷ 0 ∷ 0 ∷ 16 ∷ 0 ∷ 1 ∷ 0 ∷ 16 ∷ 0 ∷ 16 ∷ 1 ∷ 0 ∷ 0 ∷ 0 ∷ 0 ∷ 0 ∷ 0 ∷ 0 ∷ 0 ∷ 0 ∷ 0 ∷ 0 ∷ 0 ∷ 0 ∷ 0 ∷ 0 ∷ 4 ∷ 0 ∷ 0 ∷ 0 ∷ 0 ∷ 0 ∷ 0 ∷ 0 ∷ 0 ∷ 0 ∷ 0 ∷ 0 ∷ 0 ∷ 0 ∷ 0 ∷ 0 ∷ []; ty = 0; wanted = accepted (record { 0 = 3 }) (OptBlock.Some (record { 0 = 1 })) (record { terminators = (Terminator.Switch (record { 0 = 1 }) 1 0 (record { 0 = 2 }) (record { 0 = 1 }) ∷ Terminator.Open ∷ Terminator.Switch (record { 0 = 2 }) 1 0 (record { 0 = 3 }) (record { 0 = 1 }) ∷ Terminator.Open ∷ []); lines = (record { block = 0; statement = live 1 } ∷ record { block = 0; statement = set 1 (binary BinOp.Le (Left.Constant (record { count = 1; ty = 0; offset = 0; low = 1; high = 0 })) (record { local = 0; elems = ([]) })) } ∷ record { block = 2; statement = live 2 } ∷ record { block = 2; statement = set 2 (binary BinOp.Gt (Left.Constant (record { count = 1; ty = 0; offset = 0; low = 4; high = 0 })) (record { local = 0; elems = ([]) })) } ∷ []); locals = (0 ∷ 256 ∷ 256 ∷ []) }) (2 ∷ []) }
+
+abbrev half-open-to-row : Row
+half-open-to-row = record { image = 0 ∷ 0 ∷ 0 ∷ 59 ∷ 1 ∷ 0 ∷ 1 ∷ 0 ∷ 0 ∷ 0 ∷ 1 ∷ 0 ∷ 0 ∷ 0 ∷ 3 ∷ 0 ∷ 16 ∷ 0 ∷ 1 ∷ 0 ∷ 1 ∷ 0 ∷ 1 ∷ 0 ∷ 0 ∷ 0 ∷ 1 ∷ 0 ∷ 7 ∷ 0 ∷ 0 ∷ 0 ∷ 0 ∷ 255 ∷ 255 ∷ 0 ∷ 0 ∷ 0 ∷ 1 ∷ 0 ∷ 0 ∷ 0 ∷ 1 ∷ 0 ∷ 0 ∷ 0 ∷ 16 ∷ 255 ∷ 255 ∷ 255 ∷ 255 ∷ 255 ∷ 255 ∷ 255 ∷ 255 ∷ 255 ∷ 255 ∷ 255 ∷ 255 ∷ 255 ∷ 255 ∷ 255 ∷ 255 ∷ []; ty = 0; wanted = accepted (record { 0 = 2 }) (OptBlock.Some (record { 0 = 1 })) (record { terminators = (Terminator.Switch (record { 0 = 1 }) 1 0 (record { 0 = 2 }) (record { 0 = 1 }) ∷ Terminator.Open ∷ Terminator.Open ∷ []); lines = (record { block = 0; statement = live 1 } ∷ record { block = 0; statement = set 1 (binary BinOp.Gt (Left.Constant (record { count = 1; ty = 0; offset = 0; low = 255; high = 0 })) (record { local = 0; elems = ([]) })) } ∷ []); locals = (0 ∷ 256 ∷ []) }) (2 ∷ []) }
+
+abbrev half-open-char-row : Row
+half-open-char-row = record { image = 0 ∷ 0 ∷ 0 ∷ 57 ∷ 1 ∷ 0 ∷ 1 ∷ 0 ∷ 0 ∷ 0 ∷ 1 ∷ 0 ∷ 0 ∷ 0 ∷ 6 ∷ 0 ∷ 8 ∷ 0 ∷ 3 ∷ 0 ∷ 0 ∷ 0 ∷ 0 ∷ 0 ∷ 0 ∷ 0 ∷ 1 ∷ 0 ∷ 7 ∷ 0 ∷ 0 ∷ 0 ∷ 0 ∷ 0 ∷ 0 ∷ 0 ∷ 3 ∷ 0 ∷ 1 ∷ 0 ∷ 0 ∷ 0 ∷ 3 ∷ 0 ∷ 0 ∷ 0 ∷ 4 ∷ 0 ∷ 3 ∷ 0 ∷ 4 ∷ 0 ∷ 4 ∷ 97 ∷ 0 ∷ 0 ∷ 0 ∷ 100 ∷ 0 ∷ 0 ∷ 0 ∷ []; ty = 0; wanted = accepted (record { 0 = 3 }) (OptBlock.Some (record { 0 = 1 })) (record { terminators = (Terminator.Switch (record { 0 = 1 }) 1 0 (record { 0 = 2 }) (record { 0 = 1 }) ∷ Terminator.Open ∷ Terminator.Switch (record { 0 = 2 }) 1 0 (record { 0 = 3 }) (record { 0 = 1 }) ∷ Terminator.Open ∷ []); lines = (record { block = 0; statement = live 1 } ∷ record { block = 0; statement = set 1 (binary BinOp.Le (Left.Constant (record { count = 4; ty = 0; offset = 0; low = 97; high = 0 })) (record { local = 0; elems = ([]) })) } ∷ record { block = 2; statement = live 2 } ∷ record { block = 2; statement = set 2 (binary BinOp.Gt (Left.Constant (record { count = 4; ty = 0; offset = 0; low = 100; high = 0 })) (record { local = 0; elems = ([]) })) } ∷ []); locals = (0 ∷ 256 ∷ 256 ∷ []) }) (2 ∷ []) }
+
+abbrev half-open-nothing-row : Row
+half-open-nothing-row = record { image = 0 ∷ 0 ∷ 0 ∷ 59 ∷ 1 ∷ 0 ∷ 1 ∷ 0 ∷ 0 ∷ 0 ∷ 1 ∷ 0 ∷ 0 ∷ 0 ∷ 3 ∷ 0 ∷ 16 ∷ 0 ∷ 1 ∷ 0 ∷ 1 ∷ 0 ∷ 0 ∷ 0 ∷ 0 ∷ 0 ∷ 1 ∷ 0 ∷ 7 ∷ 0 ∷ 0 ∷ 0 ∷ 0 ∷ 0 ∷ 0 ∷ 0 ∷ 0 ∷ 0 ∷ 1 ∷ 0 ∷ 0 ∷ 0 ∷ 1 ∷ 0 ∷ 0 ∷ 0 ∷ 16 ∷ 3 ∷ 0 ∷ 0 ∷ 0 ∷ 0 ∷ 0 ∷ 0 ∷ 0 ∷ 0 ∷ 0 ∷ 0 ∷ 0 ∷ 0 ∷ 0 ∷ 0 ∷ 0 ∷ []; ty = 0; wanted = accepted (record { 0 = 3 }) (OptBlock.Some (record { 0 = 1 })) (record { terminators = (Terminator.Switch (record { 0 = 1 }) 1 0 (record { 0 = 2 }) (record { 0 = 1 }) ∷ Terminator.Open ∷ Terminator.Switch (record { 0 = 2 }) 1 0 (record { 0 = 3 }) (record { 0 = 1 }) ∷ Terminator.Open ∷ []); lines = (record { block = 0; statement = live 1 } ∷ record { block = 0; statement = set 1 (binary BinOp.Le (Left.Constant (record { count = 1; ty = 0; offset = 0; low = 3; high = 0 })) (record { local = 0; elems = ([]) })) } ∷ record { block = 2; statement = live 2 } ∷ record { block = 2; statement = set 2 (binary BinOp.Gt (Left.Constant (record { count = 1; ty = 0; offset = 0; low = 3; high = 0 })) (record { local = 0; elems = ([]) })) } ∷ []); locals = (0 ∷ 256 ∷ 256 ∷ []) }) (2 ∷ []) }
+
+abbrev flag-2-row : Row
+flag-2-row = record { image = 0 ∷ 0 ∷ 0 ∷ 81 ∷ 1 ∷ 0 ∷ 1 ∷ 0 ∷ 0 ∷ 0 ∷ 1 ∷ 0 ∷ 0 ∷ 0 ∷ 6 ∷ 0 ∷ 32 ∷ 0 ∷ 1 ∷ 0 ∷ 1 ∷ 0 ∷ 0 ∷ 0 ∷ 0 ∷ 0 ∷ 1 ∷ 0 ∷ 7 ∷ 0 ∷ 0 ∷ 0 ∷ 0 ∷ 0 ∷ 0 ∷ 0 ∷ 3 ∷ 0 ∷ 2 ∷ 0 ∷ 0 ∷ 0 ∷ 1 ∷ 0 ∷ 0 ∷ 0 ∷ 16 ∷ 0 ∷ 1 ∷ 0 ∷ 16 ∷ 0 ∷ 16 ∷ 1 ∷ 0 ∷ 0 ∷ 0 ∷ 0 ∷ 0 ∷ 0 ∷ 0 ∷ 0 ∷ 0 ∷ 0 ∷ 0 ∷ 0 ∷ 0 ∷ 0 ∷ 0 ∷ 3 ∷ 0 ∷ 0 ∷ 0 ∷ 0 ∷ 0 ∷ 0 ∷ 0 ∷ 0 ∷ 0 ∷ 0 ∷ 0 ∷ 0 ∷ 0 ∷ 0 ∷ 0 ∷ []; ty = 0; wanted = accepted (record { 0 = 3 }) (OptBlock.Some (record { 0 = 1 })) (record { terminators = (Terminator.Switch (record { 0 = 1 }) 1 0 (record { 0 = 2 }) (record { 0 = 1 }) ∷ Terminator.Open ∷ Terminator.Switch (record { 0 = 2 }) 1 0 (record { 0 = 3 }) (record { 0 = 1 }) ∷ Terminator.Open ∷ []); lines = (record { block = 0; statement = live 1 } ∷ record { block = 0; statement = set 1 (binary BinOp.Le (Left.Constant (record { count = 1; ty = 0; offset = 0; low = 1; high = 0 })) (record { local = 0; elems = ([]) })) } ∷ record { block = 2; statement = live 2 } ∷ record { block = 2; statement = set 2 (binary BinOp.Ge (Left.Constant (record { count = 1; ty = 0; offset = 0; low = 3; high = 0 })) (record { local = 0; elems = ([]) })) } ∷ []); locals = (0 ∷ 256 ∷ 256 ∷ []) }) (2 ∷ []) }
 
 abbrev range-no-ends-row : Row
 range-no-ends-row = record { image = 0 ∷ 0 ∷ 0 ∷ 37 ∷ 1 ∷ 0 ∷ 1 ∷ 0 ∷ 0 ∷ 0 ∷ 1 ∷ 0 ∷ 0 ∷ 0 ∷ 0 ∷ 0 ∷ 0 ∷ 0 ∷ 1 ∷ 0 ∷ 1 ∷ 0 ∷ 0 ∷ 0 ∷ 0 ∷ 0 ∷ 1 ∷ 0 ∷ 7 ∷ 0 ∷ 0 ∷ 0 ∷ 0 ∷ 255 ∷ 255 ∷ 255 ∷ 255 ∷ 0 ∷ 0 ∷ 0 ∷ 0 ∷ []; ty = 0; wanted = accepted (record { 0 = 0 }) OptBlock.None (record { terminators = (Terminator.Open ∷ []); lines = ([]); locals = (0 ∷ []) }) (2 ∷ []) }
 
 abbrev slice-rest-binding-row : Row
-slice-rest-binding-row = record { image = 0 ∷ 0 ∷ 0 ∷ 135 ∷ 1 ∷ 0 ∷ 2 ∷ 0 ∷ 0 ∷ 0 ∷ 6 ∷ 0 ∷ 3 ∷ 0 ∷ 3 ∷ 0 ∷ 0 ∷ 0 ∷ 1 ∷ 0 ∷ 1 ∷ 0 ∷ 0 ∷ 0 ∷ 0 ∷ 0 ∷ 1 ∷ 0 ∷ 9 ∷ 0 ∷ 0 ∷ 0 ∷ 0 ∷ 0 ∷ 0 ∷ 0 ∷ 0 ∷ 0 ∷ 1 ∷ 0 ∷ 1 ∷ 0 ∷ 0 ∷ 0 ∷ 0 ∷ 0 ∷ 0 ∷ 0 ∷ 0 ∷ 0 ∷ 0 ∷ 0 ∷ 11 ∷ 0 ∷ 1 ∷ 0 ∷ 0 ∷ 0 ∷ 0 ∷ 0 ∷ 0 ∷ 0 ∷ 1 ∷ 0 ∷ 0 ∷ 0 ∷ 3 ∷ 0 ∷ 0 ∷ 0 ∷ 0 ∷ 0 ∷ 0 ∷ 0 ∷ 0 ∷ 0 ∷ 0 ∷ 0 ∷ 0 ∷ 0 ∷ 11 ∷ 0 ∷ 0 ∷ 0 ∷ 0 ∷ 0 ∷ 1 ∷ 255 ∷ 255 ∷ 0 ∷ 0 ∷ 0 ∷ 0 ∷ 0 ∷ 11 ∷ 0 ∷ 0 ∷ 0 ∷ 0 ∷ 0 ∷ 2 ∷ 255 ∷ 255 ∷ 0 ∷ 0 ∷ 0 ∷ 0 ∷ 0 ∷ 8 ∷ 0 ∷ 1 ∷ 0 ∷ 0 ∷ 0 ∷ 0 ∷ 0 ∷ 1 ∷ 0 ∷ 2 ∷ 0 ∷ 1 ∷ 0 ∷ 1 ∷ 0 ∷ 1 ∷ 0 ∷ 0 ∷ 0 ∷ 1 ∷ 0 ∷ 0 ∷ 0 ∷ 1 ∷ 0 ∷ 2 ∷ 0 ∷ 3 ∷ 0 ∷ 4 ∷ []; ty = 1; wanted = accepted (record { 0 = 2 }) (OptBlock.Some (record { 0 = 1 })) (record { terminators = (Terminator.Switch (record { 0 = 5 }) 1 0 (record { 0 = 2 }) (record { 0 = 1 }) ∷ Terminator.Open ∷ Terminator.Open ∷ []); lines = (record { block = 0; statement = live 4 } ∷ record { block = 0; statement = set 4 (ofPlace PlaceRvalue.Len (record { local = 0; elems = ([]) })) } ∷ record { block = 0; statement = live 5 } ∷ record { block = 0; statement = set 5 (binary BinOp.Le (Left.Constant (record { count = 8; ty = 257; offset = 0; low = 3; high = 0 })) (record { local = 4; elems = ([]) })) } ∷ record { block = 2; statement = live 1 } ∷ record { block = 2; statement = set 1 (ofPlace PlaceRvalue.Ref (record { local = 0; elems = ((ProjectionElem.Subslice 1 2) ∷ []) })) } ∷ record { block = 2; statement = live 2 } ∷ record { block = 2; statement = set 2 (ofPlace PlaceRvalue.Copy (record { local = 0; elems = ((ProjectionElem.IndexFromEnd 0) ∷ []) })) } ∷ record { block = 2; statement = live 3 } ∷ record { block = 2; statement = set 3 (ofPlace PlaceRvalue.Copy (record { local = 0; elems = ((ProjectionElem.IndexFromEnd 1) ∷ []) })) } ∷ []); locals = (1 ∷ 1 ∷ 0 ∷ 0 ∷ 257 ∷ 256 ∷ []) }) (0 ∷ 0 ∷ 2 ∷ 2 ∷ 2 ∷ 2 ∷ []) }
+slice-rest-binding-row = record { image = 0 ∷ 0 ∷ 0 ∷ 135 ∷ 1 ∷ 0 ∷ 2 ∷ 0 ∷ 0 ∷ 0 ∷ 6 ∷ 0 ∷ 3 ∷ 0 ∷ 3 ∷ 0 ∷ 0 ∷ 0 ∷ 1 ∷ 0 ∷ 1 ∷ 0 ∷ 0 ∷ 0 ∷ 0 ∷ 0 ∷ 1 ∷ 0 ∷ 9 ∷ 0 ∷ 0 ∷ 0 ∷ 0 ∷ 0 ∷ 0 ∷ 0 ∷ 0 ∷ 0 ∷ 1 ∷ 0 ∷ 1 ∷ 0 ∷ 0 ∷ 0 ∷ 0 ∷ 0 ∷ 0 ∷ 0 ∷ 0 ∷ 0 ∷ 0 ∷ 0 ∷ 11 ∷ 0 ∷ 1 ∷ 0 ∷ 0 ∷ 0 ∷ 0 ∷ 0 ∷ 0 ∷ 0 ∷ 1 ∷ 0 ∷ 0 ∷ 0 ∷ 3 ∷ 0 ∷ 0 ∷ 0 ∷ 0 ∷ 0 ∷ 0 ∷ 0 ∷ 0 ∷ 0 ∷ 0 ∷ 0 ∷ 0 ∷ 0 ∷ 11 ∷ 0 ∷ 0 ∷ 0 ∷ 0 ∷ 0 ∷ 1 ∷ 255 ∷ 255 ∷ 0 ∷ 0 ∷ 0 ∷ 0 ∷ 0 ∷ 11 ∷ 0 ∷ 0 ∷ 0 ∷ 0 ∷ 0 ∷ 2 ∷ 255 ∷ 255 ∷ 0 ∷ 0 ∷ 0 ∷ 0 ∷ 0 ∷ 8 ∷ 0 ∷ 1 ∷ 0 ∷ 0 ∷ 0 ∷ 0 ∷ 0 ∷ 1 ∷ 0 ∷ 2 ∷ 0 ∷ 1 ∷ 0 ∷ 1 ∷ 0 ∷ 1 ∷ 0 ∷ 0 ∷ 0 ∷ 1 ∷ 0 ∷ 0 ∷ 0 ∷ 1 ∷ 0 ∷ 2 ∷ 0 ∷ 3 ∷ 0 ∷ 4 ∷ []; ty = 1; wanted = accepted (record { 0 = 2 }) (OptBlock.Some (record { 0 = 1 })) (record { terminators = (Terminator.Switch (record { 0 = 5 }) 1 0 (record { 0 = 2 }) (record { 0 = 1 }) ∷ Terminator.Open ∷ Terminator.Open ∷ []); lines = (record { block = 0; statement = live 4 } ∷ record { block = 0; statement = set 4 (ofPlace PlaceRvalue.Len (record { local = 0; elems = ([]) })) } ∷ record { block = 0; statement = live 5 } ∷ record { block = 0; statement = set 5 (binary BinOp.Le (Left.Constant (record { count = 8; ty = 257; offset = 0; low = 3; high = 0 })) (record { local = 4; elems = ([]) })) } ∷ record { block = 2; statement = live 1 } ∷ record { block = 2; statement = set 1 (ofPlace PlaceRvalue.Ref (record { local = 0; elems = ((ProjectionElem.Subslice 1 2) ∷ []) })) } ∷ record { block = 2; statement = live 2 } ∷ record { block = 2; statement = set 2 (ofPlace PlaceRvalue.Copy (record { local = 0; elems = ((ProjectionElem.IndexFromEnd 1) ∷ []) })) } ∷ record { block = 2; statement = live 3 } ∷ record { block = 2; statement = set 3 (ofPlace PlaceRvalue.Copy (record { local = 0; elems = ((ProjectionElem.IndexFromEnd 0) ∷ []) })) } ∷ []); locals = (1 ∷ 1 ∷ 0 ∷ 0 ∷ 257 ∷ 256 ∷ []) }) (0 ∷ 0 ∷ 2 ∷ 2 ∷ 2 ∷ 2 ∷ []) }
 
 abbrev array-rest-binding-row : Row
-array-rest-binding-row = record { image = 0 ∷ 0 ∷ 0 ∷ 135 ∷ 1 ∷ 0 ∷ 2 ∷ 0 ∷ 0 ∷ 0 ∷ 6 ∷ 0 ∷ 3 ∷ 0 ∷ 3 ∷ 0 ∷ 0 ∷ 0 ∷ 1 ∷ 0 ∷ 1 ∷ 0 ∷ 0 ∷ 0 ∷ 0 ∷ 0 ∷ 1 ∷ 0 ∷ 8 ∷ 0 ∷ 0 ∷ 0 ∷ 5 ∷ 0 ∷ 0 ∷ 0 ∷ 0 ∷ 0 ∷ 1 ∷ 0 ∷ 1 ∷ 0 ∷ 0 ∷ 0 ∷ 0 ∷ 0 ∷ 0 ∷ 0 ∷ 0 ∷ 0 ∷ 0 ∷ 0 ∷ 11 ∷ 0 ∷ 1 ∷ 0 ∷ 0 ∷ 0 ∷ 0 ∷ 0 ∷ 0 ∷ 0 ∷ 1 ∷ 0 ∷ 0 ∷ 0 ∷ 3 ∷ 0 ∷ 0 ∷ 0 ∷ 0 ∷ 0 ∷ 0 ∷ 0 ∷ 0 ∷ 0 ∷ 0 ∷ 0 ∷ 0 ∷ 0 ∷ 11 ∷ 0 ∷ 0 ∷ 0 ∷ 0 ∷ 0 ∷ 1 ∷ 255 ∷ 255 ∷ 0 ∷ 0 ∷ 0 ∷ 0 ∷ 0 ∷ 11 ∷ 0 ∷ 0 ∷ 0 ∷ 0 ∷ 0 ∷ 2 ∷ 255 ∷ 255 ∷ 0 ∷ 0 ∷ 0 ∷ 0 ∷ 0 ∷ 8 ∷ 0 ∷ 1 ∷ 0 ∷ 0 ∷ 0 ∷ 0 ∷ 0 ∷ 1 ∷ 0 ∷ 2 ∷ 0 ∷ 1 ∷ 0 ∷ 1 ∷ 0 ∷ 1 ∷ 0 ∷ 0 ∷ 0 ∷ 1 ∷ 0 ∷ 0 ∷ 0 ∷ 1 ∷ 0 ∷ 2 ∷ 0 ∷ 3 ∷ 0 ∷ 4 ∷ []; ty = 1; wanted = accepted (record { 0 = 0 }) OptBlock.None (record { terminators = (Terminator.Open ∷ []); lines = (record { block = 0; statement = live 1 } ∷ record { block = 0; statement = set 1 (ofPlace PlaceRvalue.Ref (record { local = 0; elems = ((ProjectionElem.Subslice 1 2) ∷ []) })) } ∷ record { block = 0; statement = live 2 } ∷ record { block = 0; statement = set 2 (ofPlace PlaceRvalue.Copy (record { local = 0; elems = ((ProjectionElem.IndexFromEnd 0) ∷ []) })) } ∷ record { block = 0; statement = live 3 } ∷ record { block = 0; statement = set 3 (ofPlace PlaceRvalue.Copy (record { local = 0; elems = ((ProjectionElem.IndexFromEnd 1) ∷ []) })) } ∷ []); locals = (1 ∷ 1 ∷ 0 ∷ 0 ∷ []) }) (0 ∷ 0 ∷ 2 ∷ 2 ∷ 2 ∷ 2 ∷ []) }
+array-rest-binding-row = record { image = 0 ∷ 0 ∷ 0 ∷ 135 ∷ 1 ∷ 0 ∷ 2 ∷ 0 ∷ 0 ∷ 0 ∷ 6 ∷ 0 ∷ 3 ∷ 0 ∷ 3 ∷ 0 ∷ 0 ∷ 0 ∷ 1 ∷ 0 ∷ 1 ∷ 0 ∷ 0 ∷ 0 ∷ 0 ∷ 0 ∷ 1 ∷ 0 ∷ 8 ∷ 0 ∷ 0 ∷ 0 ∷ 5 ∷ 0 ∷ 0 ∷ 0 ∷ 0 ∷ 0 ∷ 1 ∷ 0 ∷ 1 ∷ 0 ∷ 0 ∷ 0 ∷ 0 ∷ 0 ∷ 0 ∷ 0 ∷ 0 ∷ 0 ∷ 0 ∷ 0 ∷ 11 ∷ 0 ∷ 1 ∷ 0 ∷ 0 ∷ 0 ∷ 0 ∷ 0 ∷ 0 ∷ 0 ∷ 1 ∷ 0 ∷ 0 ∷ 0 ∷ 3 ∷ 0 ∷ 0 ∷ 0 ∷ 0 ∷ 0 ∷ 0 ∷ 0 ∷ 0 ∷ 0 ∷ 0 ∷ 0 ∷ 0 ∷ 0 ∷ 11 ∷ 0 ∷ 0 ∷ 0 ∷ 0 ∷ 0 ∷ 1 ∷ 255 ∷ 255 ∷ 0 ∷ 0 ∷ 0 ∷ 0 ∷ 0 ∷ 11 ∷ 0 ∷ 0 ∷ 0 ∷ 0 ∷ 0 ∷ 2 ∷ 255 ∷ 255 ∷ 0 ∷ 0 ∷ 0 ∷ 0 ∷ 0 ∷ 8 ∷ 0 ∷ 1 ∷ 0 ∷ 0 ∷ 0 ∷ 0 ∷ 0 ∷ 1 ∷ 0 ∷ 2 ∷ 0 ∷ 1 ∷ 0 ∷ 1 ∷ 0 ∷ 1 ∷ 0 ∷ 0 ∷ 0 ∷ 1 ∷ 0 ∷ 0 ∷ 0 ∷ 1 ∷ 0 ∷ 2 ∷ 0 ∷ 3 ∷ 0 ∷ 4 ∷ []; ty = 1; wanted = accepted (record { 0 = 0 }) OptBlock.None (record { terminators = (Terminator.Open ∷ []); lines = (record { block = 0; statement = live 1 } ∷ record { block = 0; statement = set 1 (ofPlace PlaceRvalue.Ref (record { local = 0; elems = ((ProjectionElem.Subslice 1 2) ∷ []) })) } ∷ record { block = 0; statement = live 2 } ∷ record { block = 0; statement = set 2 (ofPlace PlaceRvalue.Copy (record { local = 0; elems = ((ProjectionElem.IndexFromEnd 1) ∷ []) })) } ∷ record { block = 0; statement = live 3 } ∷ record { block = 0; statement = set 3 (ofPlace PlaceRvalue.Copy (record { local = 0; elems = ((ProjectionElem.IndexFromEnd 0) ∷ []) })) } ∷ []); locals = (1 ∷ 1 ∷ 0 ∷ 0 ∷ []) }) (0 ∷ 0 ∷ 2 ∷ 2 ∷ 2 ∷ 2 ∷ []) }
+
+abbrev last-two-row : Row
+last-two-row = record { image = 0 ∷ 0 ∷ 0 ∷ 101 ∷ 1 ∷ 0 ∷ 2 ∷ 0 ∷ 0 ∷ 0 ∷ 4 ∷ 0 ∷ 2 ∷ 0 ∷ 2 ∷ 0 ∷ 0 ∷ 0 ∷ 1 ∷ 0 ∷ 1 ∷ 0 ∷ 0 ∷ 0 ∷ 0 ∷ 0 ∷ 1 ∷ 0 ∷ 9 ∷ 0 ∷ 0 ∷ 0 ∷ 0 ∷ 0 ∷ 0 ∷ 0 ∷ 0 ∷ 0 ∷ 11 ∷ 0 ∷ 0 ∷ 0 ∷ 0 ∷ 0 ∷ 0 ∷ 255 ∷ 255 ∷ 0 ∷ 0 ∷ 0 ∷ 0 ∷ 0 ∷ 11 ∷ 0 ∷ 0 ∷ 0 ∷ 0 ∷ 0 ∷ 1 ∷ 255 ∷ 255 ∷ 0 ∷ 0 ∷ 0 ∷ 0 ∷ 0 ∷ 1 ∷ 0 ∷ 1 ∷ 0 ∷ 0 ∷ 0 ∷ 0 ∷ 0 ∷ 0 ∷ 0 ∷ 0 ∷ 0 ∷ 0 ∷ 0 ∷ 8 ∷ 0 ∷ 1 ∷ 0 ∷ 0 ∷ 0 ∷ 0 ∷ 0 ∷ 0 ∷ 0 ∷ 2 ∷ 0 ∷ 2 ∷ 0 ∷ 0 ∷ 0 ∷ 1 ∷ 0 ∷ 0 ∷ 0 ∷ 1 ∷ 0 ∷ 0 ∷ 0 ∷ 1 ∷ []; ty = 1; wanted = accepted (record { 0 = 2 }) (OptBlock.Some (record { 0 = 1 })) (record { terminators = (Terminator.Switch (record { 0 = 4 }) 1 0 (record { 0 = 2 }) (record { 0 = 1 }) ∷ Terminator.Open ∷ Terminator.Open ∷ []); lines = (record { block = 0; statement = live 3 } ∷ record { block = 0; statement = set 3 (ofPlace PlaceRvalue.Len (record { local = 0; elems = ([]) })) } ∷ record { block = 0; statement = live 4 } ∷ record { block = 0; statement = set 4 (binary BinOp.Le (Left.Constant (record { count = 8; ty = 257; offset = 0; low = 2; high = 0 })) (record { local = 3; elems = ([]) })) } ∷ record { block = 2; statement = live 1 } ∷ record { block = 2; statement = set 1 (ofPlace PlaceRvalue.Copy (record { local = 0; elems = ((ProjectionElem.IndexFromEnd 1) ∷ []) })) } ∷ record { block = 2; statement = live 2 } ∷ record { block = 2; statement = set 2 (ofPlace PlaceRvalue.Copy (record { local = 0; elems = ((ProjectionElem.IndexFromEnd 0) ∷ []) })) } ∷ []); locals = (1 ∷ 0 ∷ 0 ∷ 257 ∷ 256 ∷ []) }) (2 ∷ 2 ∷ 0 ∷ 2 ∷ []) }
+
+abbrev suffix-three-row : Row
+suffix-three-row = record { image = 0 ∷ 0 ∷ 0 ∷ 217 ∷ 1 ∷ 0 ∷ 2 ∷ 0 ∷ 0 ∷ 0 ∷ 6 ∷ 0 ∷ 1 ∷ 0 ∷ 16 ∷ 0 ∷ 64 ∷ 0 ∷ 1 ∷ 0 ∷ 1 ∷ 0 ∷ 0 ∷ 0 ∷ 0 ∷ 0 ∷ 1 ∷ 0 ∷ 9 ∷ 0 ∷ 0 ∷ 0 ∷ 0 ∷ 0 ∷ 0 ∷ 0 ∷ 0 ∷ 0 ∷ 10 ∷ 0 ∷ 0 ∷ 0 ∷ 0 ∷ 0 ∷ 0 ∷ 0 ∷ 0 ∷ 0 ∷ 0 ∷ 0 ∷ 0 ∷ 0 ∷ 10 ∷ 0 ∷ 0 ∷ 0 ∷ 0 ∷ 0 ∷ 3 ∷ 0 ∷ 0 ∷ 0 ∷ 0 ∷ 0 ∷ 0 ∷ 0 ∷ 11 ∷ 0 ∷ 0 ∷ 0 ∷ 0 ∷ 0 ∷ 0 ∷ 255 ∷ 255 ∷ 0 ∷ 0 ∷ 0 ∷ 0 ∷ 0 ∷ 7 ∷ 0 ∷ 0 ∷ 0 ∷ 0 ∷ 0 ∷ 6 ∷ 0 ∷ 9 ∷ 0 ∷ 1 ∷ 0 ∷ 0 ∷ 0 ∷ 1 ∷ 0 ∷ 1 ∷ 0 ∷ 0 ∷ 0 ∷ 0 ∷ 0 ∷ 0 ∷ 0 ∷ 0 ∷ 0 ∷ 0 ∷ 0 ∷ 8 ∷ 0 ∷ 1 ∷ 0 ∷ 0 ∷ 0 ∷ 12 ∷ 0 ∷ 1 ∷ 0 ∷ 3 ∷ 0 ∷ 4 ∷ 0 ∷ 0 ∷ 0 ∷ 1 ∷ 0 ∷ 1 ∷ 0 ∷ 0 ∷ 0 ∷ 16 ∷ 0 ∷ 1 ∷ 0 ∷ 16 ∷ 0 ∷ 16 ∷ 0 ∷ 1 ∷ 0 ∷ 32 ∷ 0 ∷ 16 ∷ 0 ∷ 1 ∷ 0 ∷ 48 ∷ 0 ∷ 16 ∷ 0 ∷ 0 ∷ 0 ∷ 1 ∷ 0 ∷ 2 ∷ 0 ∷ 3 ∷ 1 ∷ 0 ∷ 0 ∷ 0 ∷ 0 ∷ 0 ∷ 0 ∷ 0 ∷ 0 ∷ 0 ∷ 0 ∷ 0 ∷ 0 ∷ 0 ∷ 0 ∷ 0 ∷ 2 ∷ 0 ∷ 0 ∷ 0 ∷ 0 ∷ 0 ∷ 0 ∷ 0 ∷ 0 ∷ 0 ∷ 0 ∷ 0 ∷ 0 ∷ 0 ∷ 0 ∷ 0 ∷ 3 ∷ 0 ∷ 0 ∷ 0 ∷ 0 ∷ 0 ∷ 0 ∷ 0 ∷ 0 ∷ 0 ∷ 0 ∷ 0 ∷ 0 ∷ 0 ∷ 0 ∷ 0 ∷ 5 ∷ 0 ∷ 0 ∷ 0 ∷ 0 ∷ 0 ∷ 0 ∷ 0 ∷ 0 ∷ 0 ∷ 0 ∷ 0 ∷ 0 ∷ 0 ∷ 0 ∷ 0 ∷ []; ty = 1; wanted = accepted (record { 0 = 6 }) (OptBlock.Some (record { 0 = 1 })) (record { terminators = (Terminator.Switch (record { 0 = 3 }) 1 0 (record { 0 = 2 }) (record { 0 = 1 }) ∷ Terminator.Open ∷ Terminator.Switch (record { 0 = 4 }) 1 0 (record { 0 = 3 }) (record { 0 = 1 }) ∷ Terminator.Switch (record { 0 = 5 }) 1 0 (record { 0 = 4 }) (record { 0 = 1 }) ∷ Terminator.Switch (record { 0 = 6 }) 1 0 (record { 0 = 5 }) (record { 0 = 1 }) ∷ Terminator.Switch (record { 0 = 7 }) 1 0 (record { 0 = 6 }) (record { 0 = 1 }) ∷ Terminator.Open ∷ []); lines = (record { block = 0; statement = live 2 } ∷ record { block = 0; statement = set 2 (ofPlace PlaceRvalue.Len (record { local = 0; elems = ([]) })) } ∷ record { block = 0; statement = live 3 } ∷ record { block = 0; statement = set 3 (binary BinOp.Le (Left.Constant (record { count = 8; ty = 257; offset = 0; low = 4; high = 0 })) (record { local = 2; elems = ([]) })) } ∷ record { block = 2; statement = live 4 } ∷ record { block = 2; statement = set 4 (binary BinOp.Eq (Left.Constant (record { count = 1; ty = 0; offset = 0; low = 1; high = 0 })) (record { local = 0; elems = ((ProjectionElem.Index 0) ∷ []) })) } ∷ record { block = 3; statement = live 5 } ∷ record { block = 3; statement = set 5 (binary BinOp.Eq (Left.Constant (record { count = 1; ty = 0; offset = 0; low = 2; high = 0 })) (record { local = 0; elems = ((ProjectionElem.IndexFromEnd 2) ∷ []) })) } ∷ record { block = 4; statement = live 6 } ∷ record { block = 4; statement = set 6 (binary BinOp.Le (Left.Constant (record { count = 1; ty = 0; offset = 0; low = 3; high = 0 })) (record { local = 0; elems = ((ProjectionElem.IndexFromEnd 0) ∷ []) })) } ∷ record { block = 5; statement = live 7 } ∷ record { block = 5; statement = set 7 (binary BinOp.Gt (Left.Constant (record { count = 1; ty = 0; offset = 0; low = 5; high = 0 })) (record { local = 0; elems = ((ProjectionElem.IndexFromEnd 0) ∷ []) })) } ∷ record { block = 6; statement = live 1 } ∷ record { block = 6; statement = set 1 (ofPlace PlaceRvalue.Copy (record { local = 0; elems = ((ProjectionElem.IndexFromEnd 1) ∷ []) })) } ∷ []); locals = (1 ∷ 0 ∷ 257 ∷ 256 ∷ 256 ∷ 256 ∷ 256 ∷ 256 ∷ []) }) (2 ∷ 2 ∷ 2 ∷ 2 ∷ 0 ∷ 2 ∷ []) }
+
+abbrev suffix-in-suffix-row : Row
+suffix-in-suffix-row = record { image = 0 ∷ 0 ∷ 0 ∷ 195 ∷ 1 ∷ 0 ∷ 3 ∷ 0 ∷ 0 ∷ 0 ∷ 8 ∷ 0 ∷ 2 ∷ 0 ∷ 8 ∷ 0 ∷ 16 ∷ 0 ∷ 1 ∷ 0 ∷ 1 ∷ 0 ∷ 0 ∷ 0 ∷ 0 ∷ 0 ∷ 1 ∷ 0 ∷ 8 ∷ 0 ∷ 0 ∷ 0 ∷ 4 ∷ 0 ∷ 0 ∷ 0 ∷ 1 ∷ 0 ∷ 8 ∷ 0 ∷ 1 ∷ 0 ∷ 3 ∷ 0 ∷ 0 ∷ 0 ∷ 1 ∷ 0 ∷ 11 ∷ 0 ∷ 0 ∷ 0 ∷ 0 ∷ 0 ∷ 0 ∷ 255 ∷ 255 ∷ 0 ∷ 0 ∷ 0 ∷ 0 ∷ 0 ∷ 10 ∷ 0 ∷ 0 ∷ 0 ∷ 0 ∷ 0 ∷ 0 ∷ 0 ∷ 0 ∷ 0 ∷ 0 ∷ 0 ∷ 0 ∷ 0 ∷ 11 ∷ 0 ∷ 0 ∷ 0 ∷ 0 ∷ 0 ∷ 1 ∷ 255 ∷ 255 ∷ 0 ∷ 0 ∷ 0 ∷ 0 ∷ 0 ∷ 1 ∷ 0 ∷ 1 ∷ 0 ∷ 0 ∷ 0 ∷ 0 ∷ 0 ∷ 0 ∷ 0 ∷ 0 ∷ 0 ∷ 0 ∷ 0 ∷ 8 ∷ 0 ∷ 1 ∷ 0 ∷ 0 ∷ 0 ∷ 3 ∷ 0 ∷ 0 ∷ 0 ∷ 3 ∷ 0 ∷ 3 ∷ 0 ∷ 3 ∷ 0 ∷ 1 ∷ 0 ∷ 0 ∷ 0 ∷ 0 ∷ 0 ∷ 0 ∷ 0 ∷ 0 ∷ 0 ∷ 0 ∷ 0 ∷ 1 ∷ 0 ∷ 2 ∷ 0 ∷ 0 ∷ 0 ∷ 0 ∷ 0 ∷ 0 ∷ 0 ∷ 0 ∷ 0 ∷ 0 ∷ 0 ∷ 8 ∷ 0 ∷ 2 ∷ 0 ∷ 0 ∷ 0 ∷ 6 ∷ 0 ∷ 0 ∷ 0 ∷ 2 ∷ 0 ∷ 6 ∷ 0 ∷ 0 ∷ 0 ∷ 1 ∷ 0 ∷ 0 ∷ 0 ∷ 1 ∷ 0 ∷ 1 ∷ 0 ∷ 0 ∷ 0 ∷ 16 ∷ 0 ∷ 0 ∷ 0 ∷ 1 ∷ 0 ∷ 2 ∷ 0 ∷ 4 ∷ 0 ∷ 5 ∷ 7 ∷ 0 ∷ 0 ∷ 0 ∷ 0 ∷ 0 ∷ 0 ∷ 0 ∷ 0 ∷ 0 ∷ 0 ∷ 0 ∷ 0 ∷ 0 ∷ 0 ∷ 0 ∷ []; ty = 2; wanted = accepted (record { 0 = 1 }) (OptBlock.Some (record { 0 = 2 })) (record { terminators = (Terminator.Switch (record { 0 = 3 }) 1 0 (record { 0 = 1 }) (record { 0 = 2 }) ∷ Terminator.Open ∷ Terminator.Open ∷ []); lines = (record { block = 0; statement = live 3 } ∷ record { block = 0; statement = set 3 (binary BinOp.Eq (Left.Constant (record { count = 1; ty = 0; offset = 0; low = 7; high = 0 })) (record { local = 0; elems = ((ProjectionElem.IndexFromEnd 1) ∷ (ProjectionElem.IndexFromEnd 1) ∷ []) })) } ∷ record { block = 1; statement = live 1 } ∷ record { block = 1; statement = set 1 (ofPlace PlaceRvalue.Copy (record { local = 0; elems = ((ProjectionElem.IndexFromEnd 1) ∷ (ProjectionElem.IndexFromEnd 2) ∷ []) })) } ∷ record { block = 1; statement = live 2 } ∷ record { block = 1; statement = set 2 (ofPlace PlaceRvalue.Copy (record { local = 0; elems = ((ProjectionElem.IndexFromEnd 1) ∷ (ProjectionElem.IndexFromEnd 0) ∷ []) })) } ∷ []); locals = (2 ∷ 0 ∷ 0 ∷ 256 ∷ []) }) (2 ∷ 2 ∷ 2 ∷ 0 ∷ 2 ∷ 2 ∷ 0 ∷ 2 ∷ []) }
 
 abbrev reference-row : Row
 reference-row = record { image = 0 ∷ 0 ∷ 0 ∷ 65 ∷ 1 ∷ 0 ∷ 2 ∷ 0 ∷ 0 ∷ 0 ∷ 2 ∷ 0 ∷ 1 ∷ 0 ∷ 0 ∷ 0 ∷ 0 ∷ 0 ∷ 1 ∷ 0 ∷ 1 ∷ 0 ∷ 0 ∷ 0 ∷ 0 ∷ 0 ∷ 1 ∷ 0 ∷ 7 ∷ 0 ∷ 0 ∷ 0 ∷ 0 ∷ 0 ∷ 0 ∷ 0 ∷ 1 ∷ 0 ∷ 11 ∷ 0 ∷ 0 ∷ 0 ∷ 0 ∷ 0 ∷ 0 ∷ 255 ∷ 255 ∷ 0 ∷ 0 ∷ 0 ∷ 0 ∷ 0 ∷ 13 ∷ 0 ∷ 1 ∷ 0 ∷ 0 ∷ 0 ∷ 0 ∷ 0 ∷ 0 ∷ 0 ∷ 0 ∷ 0 ∷ 0 ∷ 0 ∷ 0 ∷ 0 ∷ 1 ∷ []; ty = 1; wanted = accepted (record { 0 = 0 }) OptBlock.None (record { terminators = (Terminator.Open ∷ []); lines = (record { block = 0; statement = live 1 } ∷ record { block = 0; statement = set 1 (ofPlace PlaceRvalue.Copy (record { local = 0; elems = (ProjectionElem.Deref ∷ []) })) } ∷ []); locals = (1 ∷ 0 ∷ []) }) (2 ∷ 2 ∷ []) }
@@ -200,9 +224,9 @@ abbrev unresolved-row : Row
 unresolved-row = record { image = 0 ∷ 0 ∷ 0 ∷ 69 ∷ 1 ∷ 0 ∷ 2 ∷ 0 ∷ 0 ∷ 0 ∷ 2 ∷ 0 ∷ 1 ∷ 0 ∷ 2 ∷ 0 ∷ 0 ∷ 0 ∷ 1 ∷ 0 ∷ 1 ∷ 0 ∷ 0 ∷ 0 ∷ 0 ∷ 0 ∷ 1 ∷ 0 ∷ 5 ∷ 0 ∷ 0 ∷ 0 ∷ 1 ∷ 0 ∷ 0 ∷ 0 ∷ 1 ∷ 0 ∷ 9 ∷ 0 ∷ 0 ∷ 0 ∷ 0 ∷ 0 ∷ 0 ∷ 0 ∷ 0 ∷ 0 ∷ 0 ∷ 0 ∷ 0 ∷ 0 ∷ 4 ∷ 0 ∷ 1 ∷ 0 ∷ 0 ∷ 0 ∷ 1 ∷ 0 ∷ 1 ∷ 255 ∷ 255 ∷ 0 ∷ 0 ∷ 0 ∷ 0 ∷ 0 ∷ 1 ∷ 0 ∷ 0 ∷ 0 ∷ 0 ∷ []; ty = 1; wanted = refusal (record { number = 13; pattern = 0; reason = 0 }) }
 
 abbrev pub rows : List Row
-rows = surplus-row ∷ enum-twice-row ∷ bind-some-row ∷ nested-or-row ∷ or-of-binds-row ∷ record-row ∷ struct-ellipsis-row ∷ string-row ∷ c-string-row ∷ constant-row ∷ half-open-row ∷ half-open-end-row ∷ range-no-ends-row ∷ slice-rest-binding-row ∷ array-rest-binding-row ∷ reference-row ∷ deref-1-row ∷ deref-lowest-row ∷ derefs-16-row ∷ missing-row ∷ rest-row ∷ not-null-row ∷ no-tuple-row ∷ no-slice-row ∷ no-reference-row ∷ no-adt-row ∷ another-adt-row ∷ no-adts-variant-row ∷ union-row ∷ field-absent-row ∷ field-past-row ∷ record-variant-absent-row ∷ struct-variant-absent-row ∷ path-binding-row ∷ path-other-row ∷ box-row ∷ deref-row ∷ lit-constant-row ∷ lit-other-row ∷ lit-float-row ∷ lit-on-bool-row ∷ end-other-row ∷ end-float-row ∷ end-on-char-row ∷ struct-ellipsis-1-row ∷ slice-constant-row ∷ expr-row ∷ place-17-row ∷ unit-17-row ∷ missing-17-row ∷ tuple-no-place-row ∷ adt-no-place-row ∷ ref-no-place-row ∷ unresolved-row ∷ []
+rows = surplus-row ∷ enum-twice-row ∷ bind-some-row ∷ nested-or-row ∷ or-of-binds-row ∷ record-row ∷ struct-ellipsis-row ∷ string-row ∷ c-string-row ∷ constant-row ∷ half-open-row ∷ half-open-end-row ∷ first-three-row ∷ half-open-to-row ∷ half-open-char-row ∷ half-open-nothing-row ∷ flag-2-row ∷ range-no-ends-row ∷ slice-rest-binding-row ∷ array-rest-binding-row ∷ last-two-row ∷ suffix-three-row ∷ suffix-in-suffix-row ∷ reference-row ∷ deref-1-row ∷ deref-lowest-row ∷ derefs-16-row ∷ missing-row ∷ rest-row ∷ not-null-row ∷ no-tuple-row ∷ no-slice-row ∷ no-reference-row ∷ no-adt-row ∷ another-adt-row ∷ no-adts-variant-row ∷ union-row ∷ field-absent-row ∷ field-past-row ∷ record-variant-absent-row ∷ struct-variant-absent-row ∷ path-binding-row ∷ path-other-row ∷ box-row ∷ deref-row ∷ lit-constant-row ∷ lit-other-row ∷ lit-float-row ∷ lit-on-bool-row ∷ end-other-row ∷ end-float-row ∷ end-on-char-row ∷ struct-ellipsis-1-row ∷ slice-constant-row ∷ expr-row ∷ place-17-row ∷ unit-17-row ∷ missing-17-row ∷ tuple-no-place-row ∷ adt-no-place-row ∷ ref-no-place-row ∷ unresolved-row ∷ []
 
 -- each row's image comes to the answer that is wanted
 pub as-wanted : map (λ (row : Row). answerBy lowering (row .image) (row .ty)) rows ≡ map (λ (row : Row). row .wanted) rows
-unfolding wordAt littleEndian tablesOf typeAt variantAt patAt bindingAt listAt operandAt operandBytes member upFrom listed shapeBy tyOf variantOf bindingOf operandOf word? operand? trees tree? target nodeBy node treeOf tree elemOf wordOf projectionOf fieldOf derefTy adtFieldTy fieldTy elementTy subsliceTy adtDowncastTy downcastTy tyProjection variantProjection partProjection projectionTy multiProjectionTy termRow halves placeWords localTy constantWords leftWords placeRvalueKind binaryKind liveRow deadRow placeRvalueRow constantRow binaryRow newBlock setTerminator pushStatement newLocal pushScope pushEntry tryBlock tryStatement tryLocal tryScope tryEntry constantOf stringConstant integerConstant literalBy lowerLiteralToOperand lowerConstToOperand literalOrConstBy lowerLiteralOrConstToOperand isSlice pushStorageLiveForLocal temp bindingLocal discrTempPlace discrLocal terminatorOf elemsAt pathOf constantAt leftOf lineOf mirOf numberOf reasonOf refusalAt visited project localPlace elseState elseBlock derefed entered compare patternMatchConst literal litBy constantPath rangeEnd rangeEnd? bindingRvalue patternMatchBinding localPath placeTy shapeOf patternMatchAdt patternMatchTupleLike ellipsisAt tupleOn tuplePattern refOn refPattern resolved recordFields variantFields discriminantTest variantOn adtOn patternMatchingVariant variantPattern lengthConstant lengthCompared lengthTest restBound sliceItems sliceOn alternatives alternativesEnd orPattern rangePattern pathPattern bindPattern restBy restOf patternMatchInner lowerings lowering? patternMatch startState start answerBy
+unfolding wordAt littleEndian tablesOf typeAt variantAt patAt bindingAt listAt operandAt operandBytes member upFrom listed shapeBy tyOf variantOf bindingOf operandOf word? operand? trees tree? target nodeBy node treeOf tree elemOf wordOf projectionOf fieldOf derefTy adtFieldTy fieldTy elementTy subsliceTy adtDowncastTy downcastTy tyProjection variantProjection partProjection projectionTy multiProjectionTy termRow halves placeWords localTy constantWords leftWords placeRvalueKind binaryKind liveRow deadRow placeRvalueRow constantRow binaryRow newBlock setTerminator pushStatement newLocal pushScope pushEntry tryBlock tryStatement tryLocal tryScope tryEntry constantOf stringConstant integerConstant literalBy lowerLiteralToOperand lowerConstToOperand literalOrConstBy lowerLiteralOrConstToOperand isSlice pushStorageLiveForLocal temp bindingLocal discrTempPlace discrLocal terminatorOf elemsAt pathOf constantAt leftOf lineOf mirOf numberOf reasonOf refusalAt visited project localPlace elseState elseBlock derefed entered compare patternMatchConst literal litBy constantPath rangeEnd rangeEnd? bindingRvalue patternMatchBinding localPath placeTy shapeOf patternMatchAdt patternMatchTupleLike ellipsisAt tupleOn tuplePattern refOn refPattern resolved recordFields variantFields discriminantTest variantOn adtOn patternMatchingVariant variantPattern lengthConstant lengthCompared lengthTest restBound sliceItems sliceOn alternatives alternativesEnd orPattern endOp rangePattern pathPattern bindPattern restBy restOf patternMatchInner lowerings lowering? patternMatch startState start answerBy
 as-wanted = refl

@@ -76,14 +76,14 @@ unfoldable pub leftHolds : ℕ → List ℕ → Counts → ℕ → Bool
 leftHolds types table c i = cond (eqb (wordOf 49 table i 3) 1) (isLocal c (wordOf 49 table i 4)) (constantHolds types table i)
 
 -- what a statement of this kind makes its local of: nothing for live and dead; a place for copy, ref, mut, len and discr; a constant; two operands for eq,
--- le and ge
+-- le, ge and gt
 unfoldable pub rvalueHolds : ℕ → ℕ → List ℕ → Counts → ℕ → ℕ → Bool
 rvalueHolds types variants table c i kind =
     cond (ltb kind 1) false
     (cond (leb kind 2) true
     (cond (leb kind 7) (placeHolds variants table c i)
     (cond (eqb kind 8) (constantHolds types table i)
-    (cond (leb kind 11) (leftHolds types table c i && placeHolds variants table c i) false))))
+    (cond (leb kind 12) (leftHolds types table c i && placeHolds variants table c i) false))))
 
 -- the statement i stands in a block that there is, is about a local that there is, and names nothing else that is missing
 unfoldable pub statementHolds : ℕ → ℕ → List ℕ → Counts → ℕ → Bool

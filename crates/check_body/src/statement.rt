@@ -116,7 +116,7 @@ fn rvalue_holds(
     if kind == 8 {
         return constant_holds(types, statements, i);
     }
-    if 11 < kind {
+    if 12 < kind {
         return false;
     }
     if !left_holds(types, statements, counts, i) {

@@ -78,16 +78,16 @@ module _ (row : List ℕ) where
   rvalue-kind k e = ap (λ (n : ℕ). getD (rvalueKinds row) n unknown) e
 
   -- one of no kind, to nothing known
-  pub rvalue-unknown : NoneOf (word row 1) 3 9 → rvalueOf row ≡ unknown
+  pub rvalue-unknown : NoneOf (word row 1) 3 10 → rvalueOf row ≡ unknown
   unfolding rvalueOf
   rvalue-unknown w = by-kind (word row 1) w
     where
-      by-kind : (k : ℕ) → NoneOf k 3 9 → getD (rvalueKinds row) k unknown ≡ unknown
+      by-kind : (k : ℕ) → NoneOf k 3 10 → getD (rvalueKinds row) k unknown ≡ unknown
       by-kind zero n = refl
       by-kind (suc zero) n = refl
       by-kind (suc (suc zero)) n = refl
       by-kind (suc (suc (suc k))) n =
-          let long = past (suc (suc (suc k))) 3 9 (omega arith) n in
+          let long = past (suc (suc (suc k))) 3 10 (omega arith) n in
           List·getD-eq-default (rvalueKinds row) unknown {n = suc (suc (suc k))} (omega arith)
 
   -- the statement of a row of the kind k

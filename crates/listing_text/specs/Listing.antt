@@ -12,7 +12,7 @@ use Rattle.mir.specs.declared.rvalues.Left.{Left}
 use Rattle.mir.specs.declared.rvalues.PlaceRvalue.{PlaceRvalue}
 use Rattle.lower.specs.declared.merging.OptBlock.{OptBlock}
 use Rattle.views.specs.Views.{Path, Rvalue, ofPlace, ofConstant, binary, unknown, Statement, live, dead, set, Line, Mir}
-use Rattle.listing_text.specs.Words.{thenWord, elseWord, localWord, boolWord, usizeWord, i128Word, typeWord, blockWord, liveWord, deadWord, setWord, copyWord, refWord, mutWord, lenWord, discrWord, eqWord, leWord, geWord, switchWord, gotoWord, unreachableWord, dropWord, openWord, derefWord, fieldWord, indexWord, fromEndWord, subsliceWord, downcastWord, refusedWord, andCopyWord, space, dash, newline}
+use Rattle.listing_text.specs.Words.{thenWord, elseWord, localWord, boolWord, usizeWord, i128Word, typeWord, blockWord, liveWord, deadWord, setWord, copyWord, refWord, mutWord, lenWord, discrWord, eqWord, leWord, geWord, gtWord, switchWord, gotoWord, unreachableWord, dropWord, openWord, derefWord, fieldWord, indexWord, fromEndWord, subsliceWord, downcastWord, refusedWord, andCopyWord, space, dash, newline}
 use Rattle.listing_text.specs.Numbers.{decimal, hexHalves, constantBytes}
 
 -- "`.deref`, `.f`N, `.i`N (from the front), `.e`N (from the end), `.s`A`-`B, `.v`N"
@@ -41,11 +41,12 @@ placeRvalueWord PlaceRvalue.Mut = mutWord
 placeRvalueWord PlaceRvalue.Len = lenWord
 placeRvalueWord PlaceRvalue.Discr = discrWord
 
--- "an operator (eq, le, ge) with two operands"
+-- "an operator (eq, le, ge) with two operands"; gt is request S-1's
 unfoldable pub operatorWord : BinOp → List ℕ
 operatorWord BinOp.Eq = eqWord
 operatorWord BinOp.Le = leWord
 operatorWord BinOp.Ge = geWord
+operatorWord BinOp.Gt = gtWord
 
 unfoldable pub leftText : Left → List ℕ
 leftText (Left.Local l) = copyWord ++ decimal (l .0)

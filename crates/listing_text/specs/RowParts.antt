@@ -28,6 +28,7 @@ rvalueKinds row =
     ∷ binary BinOp.Eq (leftOf row) (pathOf row)
     ∷ binary BinOp.Le (leftOf row) (pathOf row)
     ∷ binary BinOp.Ge (leftOf row) (pathOf row)
+    ∷ binary BinOp.Gt (leftOf row) (pathOf row)
     ∷ []
 
 -- what the statement of a row sets its local to

@@ -78,6 +78,10 @@ leWord = 108 ∷ 101 ∷ 32 ∷ []
 unfoldable pub geWord : List ℕ
 geWord = 103 ∷ 101 ∷ 32 ∷ []
 
+-- "gt "
+unfoldable pub gtWord : List ℕ
+gtWord = 103 ∷ 116 ∷ 32 ∷ []
+
 -- "switch "
 unfoldable pub switchWord : List ℕ
 switchWord = 115 ∷ 119 ∷ 105 ∷ 116 ∷ 99 ∷ 104 ∷ 32 ∷ []

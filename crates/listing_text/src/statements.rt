@@ -70,6 +70,7 @@ fn put_rvalue(out: &mut [u8], pen: Pen, row: &[u16]) -> Pen
         9 => put_binary(out, pen, b"eq ", row),
         10 => put_binary(out, pen, b"le ", row),
         11 => put_binary(out, pen, b"ge ", row),
+        12 => put_binary(out, pen, b"gt ", row),
         _ => put(out, pen, b""),
     }
 }

@@ -1,4 +1,4 @@
--- The rows of the statements of the listing. A kind is 1 live, 2 dead, 3 copy, 4 ref, 5 mut, 6 len, 7 discr, 8 constant, 9 eq, 10 le, 11 ge. The left
+-- The rows of the statements of the listing. A kind is 1 live, 2 dead, 3 copy, 4 ref, 5 mut, 6 len, 7 discr, 8 constant, 9 eq, 10 le, 11 ge, 12 gt. The left
 -- operand begins with 0 where there is none, 1 for a local, 2 for a constant. Assumes nothing: these are definitions.
 use Prim.Native.Nat.{ℕ}
 use mathlib.Core.List.{List, [], _∷_, _++_}
@@ -35,6 +35,7 @@ unfoldable pub binaryKind : BinOp → ℕ
 binaryKind BinOp.Eq = 9
 binaryKind BinOp.Le = 10
 binaryKind BinOp.Ge = 11
+binaryKind BinOp.Gt = 12
 
 -- a row: its block, its kind and a local, a left operand and a place
 abbrev pub statementRow : BasicBlockId → ℕ → LocalId → List ℕ → List ℕ → List ℕ

@@ -33,6 +33,7 @@ pub enum BinOp {
     Eq,
     Le,
     Ge,
+    Gt,
 }
 
 // The left operand of an operator; the right one is a copy of a place.
@@ -91,6 +92,7 @@ fn binary_kind(op: BinOp) -> u16
         BinOp::Eq => 9,
         BinOp::Le => 10,
         BinOp::Ge => 11,
+        BinOp::Gt => 12,
     }
 }
 

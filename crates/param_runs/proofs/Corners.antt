@@ -36,7 +36,7 @@ use Rattle.pattern_matching.specs.Walking.{visited, project, localPlace, elseSt
 use Rattle.pattern_matching.specs.Tests.{compare, patternMatchConst, literal, litBy, constantPath, rangeEnd, rangeEnd?, bindingRvalue, patternMatchBinding, localPath}
 use Rattle.pattern_matching.specs.Variants.{placeTy, shapeOf, patternMatchAdt, patternMatchTupleLike, ellipsisAt, tupleOn, tuplePattern, refOn, refPattern, resolved, recordFields, variantFields, discriminantTest, variantOn, adtOn, patternMatchingVariant, variantPattern}
 use Rattle.pattern_matching.specs.Slices.{lengthConstant, lengthCompared, lengthTest, restBound, sliceItems, sliceOn}
-use Rattle.pattern_matching.specs.Patterns.{alternatives, alternativesEnd, orPattern, rangePattern, pathPattern, bindPattern, restBy, restOf, patternMatchInner, lowerings, lowering?, patternMatch}
+use Rattle.pattern_matching.specs.Patterns.{alternatives, alternativesEnd, orPattern, endOp, rangePattern, pathPattern, bindPattern, restBy, restOf, patternMatchInner, lowerings, lowering?, patternMatch}
 use Rattle.lowered_params.specs.Params.{paramLocal, byValue, plainBind, plainBinding, boundTo, declareSelf, declareParam, declareParams, declareBinding, declareBindings, declare, shutElse, shut, unlessBound, unlessOwn, lowerParam, lowerParams, selfCount, lowerAll, lowerParamsAndBindings}
 use Rattle.lowered_params.specs.Calls.{bindsReceiver, noneBindsReceiver, receiverApart}
 use Rattle.image.specs.Lists.{allTrue, distinct}
@@ -47,7 +47,6 @@ use Rattle.meaning.specs.Fitting.{literalFits, pathFits, rowFits, eachFits, typ
 use Rattle.meaning.specs.Fit.{boundIn, bindingsFit}
 use Rattle.meaning.specs.Fits.{hasVariant, pathTaken, nothingRefused, present, localsDiffer, fits}
 use Rattle.meaning.specs.Matching.{crossed, created, matchAll, matchRow, isVariant, pathMatches, matches}
-use Rattle.meaning.specs.Differences.{asTheReference}
 use Rattle.meaning.specs.Running.{scalarOf, bytesOf, sameValue}
 use Rattle.param_runs.specs.Returned.{ownLocal}
 use Rattle.param_runs.specs.Through.{plain, patternFits, paramFits, paramsFit, allFit, paramsBound}
@@ -106,10 +105,10 @@ rows = plain-row ∷ mutable-row ∷ bound-some-row ∷ by-reference-row ∷ ref
 
 -- each row's image comes to the answer that is wanted
 pub as-wanted : map (λ (row : Row). answer (row .image) (row .self) (row .params)) rows ≡ map (λ (row : Row). row .wanted) rows
-unfolding wordAt littleEndian tablesOf typeAt variantAt patAt bindingAt listAt operandAt operandBytes member upFrom listed shapeBy tyOf variantOf bindingOf operandOf word? operand? trees tree? target nodeBy node treeOf tree elemOf wordOf projectionOf fieldOf derefTy adtFieldTy fieldTy elementTy subsliceTy adtDowncastTy downcastTy tyProjection variantProjection partProjection projectionTy multiProjectionTy termRow halves placeWords localTy constantWords leftWords placeRvalueKind binaryKind liveRow deadRow placeRvalueRow constantRow binaryRow newBlock setTerminator pushStatement newLocal pushScope pushEntry tryBlock tryStatement tryLocal tryScope tryEntry constantOf stringConstant integerConstant literalBy lowerLiteralToOperand lowerConstToOperand literalOrConstBy lowerLiteralOrConstToOperand isSlice pushStorageLiveForLocal temp bindingLocal discrTempPlace discrLocal terminatorOf elemsAt pathOf constantAt leftOf lineOf mirOf numberOf reasonOf refusalAt visited project localPlace elseState elseBlock derefed entered compare patternMatchConst literal litBy constantPath rangeEnd rangeEnd? bindingRvalue patternMatchBinding localPath placeTy shapeOf patternMatchAdt patternMatchTupleLike ellipsisAt tupleOn tuplePattern refOn refPattern resolved recordFields variantFields discriminantTest variantOn adtOn patternMatchingVariant variantPattern lengthConstant lengthCompared lengthTest restBound sliceItems sliceOn alternatives alternativesEnd orPattern rangePattern pathPattern bindPattern restBy restOf patternMatchInner lowerings lowering? patternMatch paramLocal byValue plainBind plainBinding boundTo declareSelf declareParam declareParams declareBinding declareBindings declare shutElse shut unlessBound unlessOwn lowerParam lowerParams selfCount lowerAll lowerParamsAndBindings bindsReceiver noneBindsReceiver receiverApart start unbound answer
+unfolding wordAt littleEndian tablesOf typeAt variantAt patAt bindingAt listAt operandAt operandBytes member upFrom listed shapeBy tyOf variantOf bindingOf operandOf word? operand? trees tree? target nodeBy node treeOf tree elemOf wordOf projectionOf fieldOf derefTy adtFieldTy fieldTy elementTy subsliceTy adtDowncastTy downcastTy tyProjection variantProjection partProjection projectionTy multiProjectionTy termRow halves placeWords localTy constantWords leftWords placeRvalueKind binaryKind liveRow deadRow placeRvalueRow constantRow binaryRow newBlock setTerminator pushStatement newLocal pushScope pushEntry tryBlock tryStatement tryLocal tryScope tryEntry constantOf stringConstant integerConstant literalBy lowerLiteralToOperand lowerConstToOperand literalOrConstBy lowerLiteralOrConstToOperand isSlice pushStorageLiveForLocal temp bindingLocal discrTempPlace discrLocal terminatorOf elemsAt pathOf constantAt leftOf lineOf mirOf numberOf reasonOf refusalAt visited project localPlace elseState elseBlock derefed entered compare patternMatchConst literal litBy constantPath rangeEnd rangeEnd? bindingRvalue patternMatchBinding localPath placeTy shapeOf patternMatchAdt patternMatchTupleLike ellipsisAt tupleOn tuplePattern refOn refPattern resolved recordFields variantFields discriminantTest variantOn adtOn patternMatchingVariant variantPattern lengthConstant lengthCompared lengthTest restBound sliceItems sliceOn alternatives alternativesEnd orPattern endOp rangePattern pathPattern bindPattern restBy restOf patternMatchInner lowerings lowering? patternMatch paramLocal byValue plainBind plainBinding boundTo declareSelf declareParam declareParams declareBinding declareBindings declare shutElse shut unlessBound unlessOwn lowerParam lowerParams selfCount lowerAll lowerParamsAndBindings bindsReceiver noneBindsReceiver receiverApart start unbound answer
 as-wanted = refl
 
 -- whether the parameters fit the values beside them, as the theorem on runs asks
 pub fit-as-said : map cornerFits rows ≡ map (λ (row : Row). row .fit) rows
-unfolding wordAt littleEndian tablesOf typeAt variantAt patAt bindingAt listAt operandAt operandBytes member upFrom listed shapeBy tyOf variantOf bindingOf operandOf word? operand? trees tree? target nodeBy node treeOf tree allTrue distinct leastValue greatestValue inRange integerValue items partsOf intFits kindNumber fieldTypes valueFits referent behind typeIsThePlaces tupleFields variantsOf argumentsFit discriminantsDiffer integerFits literalFits pathFits rowFits eachFits typesFit boundIn bindingsFit hasVariant pathTaken nothingRefused present localsDiffer fits crossed created matchAll matchRow isVariant pathMatches matches asTheReference scalarOf bytesOf sameValue Rattle.meaning.specs.Typing.variantFields ownLocal plain patternFits paramFits paramsFit allFit paramsBound cornerFits
+unfolding wordAt littleEndian tablesOf typeAt variantAt patAt bindingAt listAt operandAt operandBytes member upFrom listed shapeBy tyOf variantOf bindingOf operandOf word? operand? trees tree? target nodeBy node treeOf tree allTrue distinct leastValue greatestValue inRange integerValue items partsOf intFits kindNumber fieldTypes valueFits referent behind typeIsThePlaces tupleFields variantsOf argumentsFit discriminantsDiffer integerFits literalFits pathFits rowFits eachFits typesFit boundIn bindingsFit hasVariant pathTaken nothingRefused present localsDiffer fits crossed created matchAll matchRow isVariant pathMatches matches scalarOf bytesOf sameValue Rattle.meaning.specs.Typing.variantFields ownLocal plain patternFits paramFits paramsFit allFit paramsBound cornerFits
 fit-as-said = refl

@@ -187,6 +187,7 @@ pub fn pattern_match_leaf(
             row.ty,
             row.a,
             row.b,
+            row.c,
             current,
             els,
             place,

@@ -1,6 +1,7 @@
 -- The lowering of patterns, as pattern_matching.rs does it: a transcription by recursion over the tree. Refusals come in the order in which it meets them.
 -- Assumes nothing: these are definitions.
 use Prim.Native.Nat.{ℕ}
+use mathlib.Core.Bool.{Bool, true, false}
 use mathlib.Core.Option.{Option, none}
 use mathlib.Core.List.{List, [], _∷_}
 use Rattle.image.specs.declared.kinds.BindingMode.{BindingMode}
@@ -72,12 +73,17 @@ orPattern p alts mode ctx current else place =
     next (alternatives p alts mode (withState ctx st) (nextBlock (ctx .state)) current place) (λ r.
     alternativesEnd p mode r (nextBlock (ctx .state)) else))
 
+-- the test of a range's end: it is not below the value, and of a half-open range it is above it (request S-1)
+unfoldable pub endOp : Bool → BinOp
+endOp true = BinOp.Gt
+endOp false = BinOp.Ge
+
 -- the start is tested whole before the end is looked at
-unfoldable pub rangePattern : List ℕ → ℕ → ℕ → Option Operand → Option Operand → Lowering
-rangePattern image p ty start end mode ctx current else place =
+unfoldable pub rangePattern : List ℕ → ℕ → ℕ → Option Operand → Option Operand → Bool → Lowering
+rangePattern image p ty start end halfOpen mode ctx current else place =
     inCheck mode
     (next (rangeEnd? image p ty BinOp.Le start ctx current else place) (λ r.
-    rangeEnd? image p ty BinOp.Ge end (r .ctx) (r .then) (r .else) place))
+    rangeEnd? image p ty (endOp halfOpen) end (r .ctx) (r .then) (r .else) place))
     (out ctx current else)
 
 -- a Path by what it names
@@ -131,7 +137,7 @@ module _ (image bindings : List ℕ) where
     patternMatchInner (Pat.Or h alts) = entered (h .number) (h .derefs) (orPattern (h .number) (lowerings alts))
     patternMatchInner (Pat.Record h fields args v) =
         entered (h .number) (h .derefs) (variantPattern image (h .number) v (AdtPatternShape.Record fields (lowerings args)))
-    patternMatchInner (Pat.Range h start end halfOpen) = entered (h .number) (h .derefs) (rangePattern image (h .number) (h .ty) start end)
+    patternMatchInner (Pat.Range h start end halfOpen) = entered (h .number) (h .derefs) (rangePattern image (h .number) (h .ty) start end halfOpen)
     patternMatchInner (Pat.Slice h prefix rest suffix) =
         entered (h .number) (h .derefs) (sliceOn (tyOf image (h .ty) .shape) image bindings (h .number) (lowerings prefix) (restOf rest) (lowerings suffix))
     patternMatchInner (Pat.Path h target) = entered (h .number) (h .derefs) (pathPattern target image bindings (h .number) (h .ty))

@@ -1,6 +1,6 @@
 -- Slice patterns: a slice's length is tested, an array's never; then the items in front, the rest's binding, and the items at the end.
 -- Assumes nothing: these are definitions.
-use Prim.Native.Nat.{ℕ, _+_}
+use Prim.Native.Nat.{ℕ, _+_, _-_}
 use mathlib.Core.List.{List, map}
 use lib.ListN.{length}
 use Rattle.image.specs.declared.kinds.BindingMode.{BindingMode}
@@ -60,12 +60,16 @@ restBound (binds q b how) bindings p front end mode ctx current else place =
     inCheck mode (out ctx current else)
     (step p (project place (ProjectionElem.Subslice front end)) (λ place′. patternMatchBinding bindings p q b how ctx current else place′))
 
--- the items in front, the rest, and the items at the end: item i at the end gets offset i from the end
+-- the items at the end, in the order of the text: item i of s lies s - 1 - i before the last (request S-1)
+abbrev pub suffixItems : ℕ → List ProjectionElem
+suffixItems s = map (λ i. ProjectionElem.IndexFromEnd (s - 1 - i)) (upFrom 0 s)
+
+-- the items in front, the rest, and the items at the end
 unfoldable pub sliceItems : List ℕ → ℕ → List Lowering → RestOf → List Lowering → Lowering
 sliceItems bindings p prefix rest suffix mode ctx current else place =
     next (patternMatchAdt p (map (λ i. ProjectionElem.Index i) (upFrom 0 (length prefix))) prefix mode ctx current else place) (λ r.
     next (restBound rest bindings p (length prefix) (length suffix) mode (r .ctx) (r .then) (r .else) place) (λ s.
-    patternMatchAdt p (map (λ i. ProjectionElem.IndexFromEnd i) (upFrom 0 (length suffix))) suffix mode (s .ctx) (s .then) (s .else) place))
+    patternMatchAdt p (suffixItems (length suffix)) suffix mode (s .ctx) (s .then) (s .else) place))
 
 -- a Slice pattern by its own type: neither an array nor a slice is refused
 unfoldable pub sliceOn : Shape → List ℕ → List ℕ → ℕ → List Lowering → RestOf → List Lowering → Lowering

@@ -15,6 +15,7 @@ use Rattle.refusals.specs.declared.MirLowerError.{MirLowerError}
 use Rattle.place.specs.declared.elems.ProjectionElem.{ProjectionElem}
 use Rattle.pattern_matching.specs.Walking.{refused, Lowering, next, step, project}
 use Rattle.pattern_matching.specs.Variants.{patternMatchAdt, fieldsUpTo, patternMatchTupleLike, ellipsisAt}
+use Rattle.pattern_matching.specs.Slices.{suffixItems}
 use Rattle.pattern_matching.specs.Patterns.{refusing, passing, patternMatchInner, lowerings}
 use Rattle.pattern_rows.specs.declared.ArgumentRow.{ArgumentRow}
 use Rattle.pattern_rows.specs.Rows.{argumentElem, argumentPat, beforeEllipsis, smaller}
@@ -154,12 +155,12 @@ module _ (image bindings : List ℕ) (p : ℕ) where
       rw (items-elems image from fields 0 count, items-pats image from 0 count, e)
 
   -- the last items
-  pub last-items-by-rows : (from fields count : ℕ) →
-      patternMatchAdt p (map (λ i. ProjectionElem.IndexFromEnd i) (upFrom 0 count)) (lowered image bindings from count) ≡ argumentsFrom ArgumentRow.LastItems image bindings p from fields 0 count
+  pub last-items-by-rows : (from count : ℕ) →
+      patternMatchAdt p (suffixItems count) (lowered image bindings from count) ≡ argumentsFrom ArgumentRow.LastItems image bindings p from count 0 count
   unfolding lowered
-  last-items-by-rows from fields count =
+  last-items-by-rows from count =
       let e : from + 0 ≡ from = omega arith in
-      rw (last-items-elems image from fields 0 count, last-items-pats image from 0 count, e)
+      rw (last-items-elems image from count 0 count, last-items-pats image from 0 count, e)
 
   -- fields by their numbers
   pub record-fields-by-rows : (from fields count : ℕ) →

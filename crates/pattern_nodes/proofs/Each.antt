@@ -24,15 +24,15 @@ module _ (image : List ℕ) (p from fields count i : ℕ) (h : i < count) where
   argument-lies ArgumentRow.LastFields t = (omega (arith, t .lies), t .lies .1)
   argument-lies ArgumentRow.RecordFields t = omega (arith, t .lies)
   argument-lies ArgumentRow.Items t = omega (arith, t .lies)
-  argument-lies ArgumentRow.LastItems t = omega (arith, t .lies)
+  argument-lies ArgumentRow.LastItems t = omega (arith, t .lies .0)
 
-  -- and there is a field for it
+  -- and there is a field or an item for it
   pub argument-at : (row : ArgumentRow) → ArgumentsThere row image p from fields count → ArgumentAt row image from fields i
   argument-at ArgumentRow.Fields t = tt
   argument-at ArgumentRow.LastFields t = omega (arith, t .lies)
   argument-at ArgumentRow.RecordFields t = omega (arith, t .lies)
   argument-at ArgumentRow.Items t = tt
-  argument-at ArgumentRow.LastItems t = tt
+  argument-at ArgumentRow.LastItems t = omega (arith, t .lies .1)
 
 -- the smaller of two numbers is neither above the one nor above the other
 pub smaller-first : (m n : ℕ) → smaller m n ≤ m
@@ -96,7 +96,7 @@ module _ (image : List ℕ) (p from count : ℕ) (t : ArgumentsThere ArgumentRow
 -- a Slice's items at the end stand in the list behind those in front
 module _ (image : List ℕ) (p rest from front back : ℕ) (t : SliceThere image p rest from front back) where
   pub back-lies : from + front + back ≤ listCount image
-  back-lies = t .at-end .lies
+  back-lies = t .at-end .lies .0
 
   -- so many at most
   pub back-few : valid image ≡ true → from + front + back ≤ 2048

@@ -26,10 +26,10 @@ module _ (image : List ℕ) (from fields : ℕ) where
   items-elems i zero = refl
   items-elems i (suc n) = ap (λ (es : List ProjectionElem). ProjectionElem.Index i ∷ es) (items-elems (i + 1) n)
 
-  pub last-items-elems : (i n : ℕ) → argumentElems ArgumentRow.LastItems image from fields i n ≡ map (λ i. ProjectionElem.IndexFromEnd i) (upFrom i n)
+  pub last-items-elems : (i n : ℕ) → argumentElems ArgumentRow.LastItems image from fields i n ≡ map (λ i. ProjectionElem.IndexFromEnd (fields - 1 - i)) (upFrom i n)
   unfolding argumentElems argumentElem upFrom
   last-items-elems i zero = refl
-  last-items-elems i (suc n) = ap (λ (es : List ProjectionElem). ProjectionElem.IndexFromEnd i ∷ es) (last-items-elems (i + 1) n)
+  last-items-elems i (suc n) = ap (λ (es : List ProjectionElem). ProjectionElem.IndexFromEnd (fields - 1 - i) ∷ es) (last-items-elems (i + 1) n)
 
   pub record-elems : (i n : ℕ) → argumentElems ArgumentRow.RecordFields image from fields i n ≡ map (λ i. ProjectionElem.Field i) (listed image 2 (from + 2 * i) n)
   unfolding argumentElems argumentElem listed

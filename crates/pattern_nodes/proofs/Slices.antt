@@ -9,7 +9,7 @@ use Rattle.image.specs.Tree.{tree, tree?}
 use Rattle.place.specs.declared.elems.ProjectionElem.{ProjectionElem}
 use Rattle.pattern_matching.specs.Walking.{Lowering}
 use Rattle.pattern_matching.specs.Variants.{patternMatchAdt}
-use Rattle.pattern_matching.specs.Slices.{RestOf, restBound, sliceItems}
+use Rattle.pattern_matching.specs.Slices.{RestOf, restBound, suffixItems, sliceItems}
 use Rattle.pattern_matching.specs.Patterns.{restBy, restOf}
 use Rattle.pattern_rows.specs.declared.ArgumentRow.{ArgumentRow}
 use Rattle.pattern_nodes.specs.Arguments.{lowered}
@@ -21,9 +21,9 @@ module _ (image bindings : List ℕ) (p rest from front back : ℕ) where
   -- behind the items in front: the rest, and then the items at the end
   pub slice-behind-by-rows :
       sliceBehind image bindings p rest from front back
-      ≡ inTurn (restBound (restOf (tree? (tree image) rest)) bindings p front back) (argumentsFrom ArgumentRow.LastItems image bindings p from 0 0 back)
+      ≡ inTurn (restBound (restOf (tree? (tree image) rest)) bindings p front back) (argumentsFrom ArgumentRow.LastItems image bindings p from back 0 back)
   unfolding sliceBehind
-  slice-behind-by-rows = ap (inTurn (restBound (restOf (tree? (tree image) rest)) bindings p front back)) (last-items-by-rows image bindings p from 0 back)
+  slice-behind-by-rows = ap (inTurn (restBound (restOf (tree? (tree image) rest)) bindings p front back)) (last-items-by-rows image bindings p from back)
 
   -- the items in front, and then what is behind them
   pub slice-items-by-rows :
@@ -32,7 +32,7 @@ module _ (image bindings : List ℕ) (p rest from front back : ℕ) where
   unfolding sliceItems sliceBehind
   slice-items-by-rows =
       ap₂ (λ (m n : ℕ). inTurn (patternMatchAdt p (map (λ i. ProjectionElem.Index i) (upFrom 0 m)) (lowered image bindings from front))
-      (inTurn (restBound (restOf (tree? (tree image) rest)) bindings p m n) (patternMatchAdt p (map (λ i. ProjectionElem.IndexFromEnd i) (upFrom 0 n)) (lowered image bindings (from + front) back))))
+      (inTurn (restBound (restOf (tree? (tree image) rest)) bindings p m n) (patternMatchAdt p (suffixItems n) (lowered image bindings (from + front) back))))
       (lowered-length image bindings from front) (lowered-length image bindings (from + front) back)
       ∙ ap (λ (first : Lowering). inTurn first (sliceBehind image bindings p rest (from + front) front back)) (items-by-rows image bindings p from 0 front)
 

@@ -55,9 +55,9 @@ unfolding argumentPat
 items-there image p from count e b = record { lies = e; below = λ i h. each-below image p from count i b h }
 
 -- and at the end
-last-items-there : (image : List ℕ) (p from count : ℕ) → from + count ≤ listCount image → allIn (λ q. ltb q p) (listed image 1 from count) ≡ true → ArgumentsThere ArgumentRow.LastItems image p from 0 count
+last-items-there : (image : List ℕ) (p from count : ℕ) → from + count ≤ listCount image → allIn (λ q. ltb q p) (listed image 1 from count) ≡ true → ArgumentsThere ArgumentRow.LastItems image p from count count
 unfolding argumentPat
-last-items-there image p from count e b = record { lies = e; below = λ i h. each-below image p from count i b h }
+last-items-there image p from count e b = record { lies = (e, omega arith); below = λ i h. each-below image p from count i b h }
 
 -- fields by their numbers
 record-fields-there : (image : List ℕ) (p from count : ℕ) → from + 2 * count ≤ listCount image → allIn (λ q. ltb q p) (listed image 2 (from + 1) count) ≡ true →

@@ -38,13 +38,13 @@ shapeOf image bindings (code.AdtPatternShape.Record from count) =
     AdtPatternShape.Record (map word? (listed image 2 from count)) (lowerings image bindings (trees (tree image) (listed image 2 (from + 1) count)))
 shapeOf image bindings code.AdtPatternShape.Unit = AdtPatternShape.Unit
 
--- the words of so many arguments lie in the list, and there is a field for each of the last ones
+-- the words of so many arguments lie in the list, and there is a field or an item for each of the last ones
 abbrev pub RowLies : ArgumentRow → List ℕ → ℕ → ℕ → ℕ → Type 0
 RowLies ArgumentRow.Fields image from fields count = from + count ≤ listCount image
 RowLies ArgumentRow.LastFields image from fields count = (count ≤ from) × (from ≤ listCount image) × (count ≤ fields)
 RowLies ArgumentRow.RecordFields image from fields count = from + 2 * count ≤ listCount image
 RowLies ArgumentRow.Items image from fields count = from + count ≤ listCount image
-RowLies ArgumentRow.LastItems image from fields count = from + count ≤ listCount image
+RowLies ArgumentRow.LastItems image from fields count = (from + count ≤ listCount image) × (count ≤ fields)
 
 -- so many arguments are there, and their patterns' numbers are below p
 pub record ArgumentsThere (row : ArgumentRow) (image : List ℕ) (p from fields count : ℕ) : Type 0 where
@@ -73,5 +73,5 @@ RestThere image rest = eqb rest 65535 || ltb rest (patternCount image) ≡ true
 -- the items of a Slice pattern and its rest are there
 pub record SliceThere (image : List ℕ) (p rest from front back : ℕ) : Type 0 where
   pub in-front : ArgumentsThere ArgumentRow.Items image p from 0 front
-  pub at-end : ArgumentsThere ArgumentRow.LastItems image p (from + front) 0 back
+  pub at-end : ArgumentsThere ArgumentRow.LastItems image p (from + front) back back
   pub rests : RestThere image rest

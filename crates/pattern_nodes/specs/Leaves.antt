@@ -6,7 +6,7 @@ use Rattle.image.specs.declared.kinds.PatKind.{PatKind}
 use Rattle.image.specs.declared.kinds.PathKind.{PathKind}
 use Rattle.image.specs.declared.rows.PatRow.{PatRow}
 use Rattle.image.specs.Kinds.{pathKind}
-use Rattle.image.specs.Types.{operandOf}
+use Rattle.image.specs.Types.{operandOf, isSet}
 use Rattle.image.specs.Tree.{unresolved, local, constant, other, operand?}
 use Rattle.refusals.specs.declared.MirLowerError.{MirLowerError}
 use Rattle.pattern_matching.specs.Walking.{Lowering}
@@ -61,7 +61,7 @@ leafPattern PatKind.Wild image bindings p row = passing
 leafPattern PatKind.Tuple image bindings p row = refusing MirLowerError.IncompletePattern p
 leafPattern PatKind.Or image bindings p row = refusing MirLowerError.IncompletePattern p
 leafPattern PatKind.Record image bindings p row = refusing MirLowerError.IncompletePattern p
-leafPattern PatKind.Range image bindings p row = rangePattern image p (row .ty) (operand? image (row .a)) (operand? image (row .b))
+leafPattern PatKind.Range image bindings p row = rangePattern image p (row .ty) (operand? image (row .a)) (operand? image (row .b)) (isSet (row .c))
 leafPattern PatKind.Slice image bindings p row = refusing MirLowerError.IncompletePattern p
 leafPattern PatKind.Path image bindings p row = pathLeaf (pathKind (row .a)) image bindings p (row .ty) (row .b)
 leafPattern PatKind.Lit image bindings p row = litBy (operandOf image (row .a) .kind) image p (row .ty) (operandOf image (row .a))

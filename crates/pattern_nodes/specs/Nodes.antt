@@ -1,20 +1,18 @@
 -- The lowering of a pattern by its row, where `patternMatchInner` has it by the tree; cut where the code is cut. Assumes nothing: these are definitions.
 use Prim.Native.Nat.{ℕ, _+_}
-use mathlib.Core.List.{List, map}
+use mathlib.Core.List.{List}
 use Rattle.image.specs.declared.kinds.PatKind.{PatKind}
 use Rattle.image.specs.declared.rows.PatRow.{PatRow}
 use Rattle.image.specs.Kinds.{pathKind, bindingMode}
 use Rattle.image.specs.Types.{tyOf}
 use Rattle.image.specs.Tree.{tree, tree?, word?, target}
-use Rattle.image.specs.Lists.{upFrom}
 use Rattle.place.specs.declared.Place.{Place}
-use Rattle.place.specs.declared.elems.ProjectionElem.{ProjectionElem}
 use Rattle.mir.specs.declared.BasicBlockId.{BasicBlockId}
 use Rattle.lower.specs.declared.merging.OptBlock.{OptBlock}
 use Rattle.pattern_matching.specs.declared.MatchingMode.{MatchingMode}
 use Rattle.pattern_matching.specs.Walking.{Ctx, Out, Walk, Lowering, next}
 use Rattle.pattern_matching.specs.Variants.{patternMatchAdt, tuplePattern, refPattern, variantPattern}
-use Rattle.pattern_matching.specs.Slices.{restBound, sliceOn}
+use Rattle.pattern_matching.specs.Slices.{restBound, suffixItems, sliceOn}
 use Rattle.pattern_matching.specs.Patterns.{alternatives, alternativesEnd, orPattern, pathPattern, bindPattern, restOf, patternMatchInner, lowering?}
 use Rattle.pattern_rows.specs.Rows.{variantWord, variantShape}
 use Rattle.pattern_nodes.specs.Leaves.{leafPattern}
@@ -52,4 +50,4 @@ alternativesFrom image bindings p from count mode ctx join current els place =
 unfoldable pub sliceBehind : List ℕ → List ℕ → ℕ → ℕ → ℕ → ℕ → ℕ → Lowering
 sliceBehind image bindings p rest from front back mode ctx current els place =
     next (restBound (restOf (tree? (tree image) rest)) bindings p front back mode ctx current els place) (λ r.
-    patternMatchAdt p (map (λ i. ProjectionElem.IndexFromEnd i) (upFrom 0 back)) (lowered image bindings from back) mode (r .ctx) (r .then) (r .else) place)
+    patternMatchAdt p (suffixItems back) (lowered image bindings from back) mode (r .ctx) (r .then) (r .else) place)

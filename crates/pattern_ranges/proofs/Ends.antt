@@ -1,6 +1,6 @@
 -- The ends of a range, by the ways through the code. Assumes nothing.
 use mathlib.Core.Path.{_≡_, refl, ap}
-use mathlib.Core.Bool.{true, false}
+use mathlib.Core.Bool.{Bool, true, false}
 use mathlib.Core.List.{List}
 use Prim.Native.Nat.{ℕ}
 use borrow.Author.Tests.{eq-eqb, ne-eqb}
@@ -29,7 +29,7 @@ use Rattle.pattern_matching.specs.declared.MatchingMode.{MatchingMode}
 use Rattle.pattern_matching.specs.Modes.{isCheck}
 use Rattle.pattern_matching.specs.Walking.{Ctx, Out, Walk, next, step, out, elseState, elseBlock}
 use Rattle.pattern_matching.specs.Tests.{rangeEnd, rangeEnd?}
-use Rattle.pattern_matching.specs.Patterns.{rangePattern}
+use Rattle.pattern_matching.specs.Patterns.{endOp, rangePattern}
 use Rattle.walks.specs.declared.Lowered.{Lowered}
 use Rattle.walks.specs.Answers.{Lent, Primed, Begins, Lowers}
 use Rattle.walks.proofs.Sequences.{lowers-skips, lowers-refuses, lowers-by, lowers-stops, lowers-then}
@@ -100,15 +100,15 @@ module _ (image : List ℕ) (t : Lent) (c : Counts) (discr : DiscrTemp) (p : Pat
     end-tests is L = lowers-by (tests is) L
 
 -- `pattern_match_range`, of the operands that begin at the words start and end
-module _ (image : List ℕ) (t : Lent) (c : Counts) (discr : DiscrTemp) (mode : MatchingMode) (p : PatId) (ty start end : ℕ) (current : BasicBlockId) (els : OptBlock) (place : Place) where
+module _ (image : List ℕ) (t : Lent) (c : Counts) (discr : DiscrTemp) (mode : MatchingMode) (p : PatId) (ty start end : ℕ) (halfOpen : Bool) (current : BasicBlockId) (els : OptBlock) (place : Place) where
   abbrev Range : Lowered → Lent → Type 0
-  Range = Lowers (λ ctx. rangePattern image (p .0) ty (operand? image start) (operand? image end) mode ctx current els place) c discr current els t
+  Range = Lowers (λ ctx. rangePattern image (p .0) ty (operand? image start) (operand? image end) halfOpen mode ctx current els place) c discr current els t
 
   abbrev first : Ctx → Walk Out
   first ctx = rangeEnd? image (p .0) ty BinOp.Le (operand? image start) ctx current els place
 
   abbrev second : Out → Walk Out
-  second r = rangeEnd? image (p .0) ty BinOp.Ge (operand? image end) (r .ctx) (r .then) (r .else) place
+  second r = rangeEnd? image (p .0) ty (endOp halfOpen) (operand? image end) (r .ctx) (r .then) (r .else) place
 
   -- nothing is tested beyond Check
   pub range-skips : isCheck mode ≡ false → Begins c current els → Range (Lowered.Done c discr current els) t
@@ -116,7 +116,7 @@ module _ (image : List ℕ) (t : Lent) (c : Counts) (discr : DiscrTemp) (mode : 
   range-skips beyond h = lowers-skips (λ ctx. not-in-check mode (next (first ctx) second) (out ctx current els) beyond) h
 
   module _ (check : isCheck mode ≡ true) where
-    both : (ctx : Ctx) → next (first ctx) second ≡ rangePattern image (p .0) ty (operand? image start) (operand? image end) mode ctx current els place
+    both : (ctx : Ctx) → next (first ctx) second ≡ rangePattern image (p .0) ty (operand? image start) (operand? image end) halfOpen mode ctx current els place
     unfolding rangePattern
     both ctx = in-check mode (next (first ctx) second) (out ctx current els) check
 
@@ -126,5 +126,5 @@ module _ (image : List ℕ) (t : Lent) (c : Counts) (discr : DiscrTemp) (mode : 
 
     -- the start, and then the end
     pub range-both : {c₁ : Counts} {d₁ : DiscrTemp} {on : BasicBlockId} {els₁ : OptBlock} {t₁ t₂ : Lent} {r : Lowered} → Primed t c → Lowers first c discr current els t (Lowered.Done c₁ d₁ on els₁) t₁ →
-        Lowers (λ ctx. rangeEnd? image (p .0) ty BinOp.Ge (operand? image end) ctx on els₁ place) c₁ d₁ on els₁ t₁ r t₂ → Range r t₂
-    range-both P L S = lowers-by both (lowers-then second P L S)
+        {op : BinOp} → op ≡ endOp halfOpen → Lowers (λ ctx. rangeEnd? image (p .0) ty op (operand? image end) ctx on els₁ place) c₁ d₁ on els₁ t₁ r t₂ → Range r t₂
+    range-both P L is S = lowers-by both (lowers-then second P L (rw is at S))

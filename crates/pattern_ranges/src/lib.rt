@@ -25,10 +25,11 @@ ghost use mathlib.Core.Bool.{true};
 ghost use Prim.Native.Nat.{_<_};
 ghost use Rattle.image.specs.Tables.{Whole, typeCount};
 ghost use Rattle.image.specs.Patterns.{operandOrAbsent};
+ghost use Rattle.image.specs.Types.{isSet};
 ghost use Rattle.image.specs.Tree.{operand?};
 ghost use Rattle.image.specs.Valid.{valid};
 ghost use Rattle.pattern_matching.specs.Tests.{rangeEnd?};
-ghost use Rattle.pattern_matching.specs.Patterns.{rangePattern};
+ghost use Rattle.pattern_matching.specs.Patterns.{endOp, rangePattern};
 ghost use Rattle.walks.specs.Answers.{lent, Primed, Begins, Lowers};
 ghost use Rattle.pattern_ranges.specs.Ranges.{rangeTest};
 
@@ -124,6 +125,16 @@ fn range_end(
     }
 }
 
+// The test of a range's end, by the word that is 1 for a half-open range.
+fn end_op(half_open: u16) -> BinOp
+    ensures { λ r. ⌜ r ≡ endOp (isSet half_open) ⌝ }
+{
+    if half_open == 1 {
+        return BinOp::Gt;
+    }
+    BinOp::Ge
+}
+
 // Both ends of a range of the type ty, in Check: the start is tested whole before the end is looked at.
 pub fn pattern_match_range(
     image: &[u8],
@@ -139,13 +150,14 @@ pub fn pattern_match_range(
     ty: u16,
     start: u16,
     end: u16,
+    half_open: u16,
     current: BasicBlockId,
     els: OptBlock,
     place: Place,
 ) -> Lowered
     requires { ⌜ (valid (now image) ≡ true) × Whole (now image) tables × (ty < typeCount (now image)) × (operandOrAbsent (now image) start ≡ true) × (operandOrAbsent (now image) end ≡ true) ⌝ }
     requires { ⌜ Primed (lent (now blocks) (now statements) (now locals) (now entries)) counts × Begins counts current els ⌝ }
-    ensures { λ r. ⌜ Lowers (λ ctx. rangePattern (now (image .entry)) (p .0) ty (operand? (now (image .entry)) start) (operand? (now (image .entry)) end) mode ctx current els place) counts discr current els (lent (now (blocks .entry)) (now (statements .entry)) (now (locals .entry)) (now (entries .entry))) r (lent (now (blocks .exit)) (now (statements .exit)) (now (locals .exit)) (now (entries .exit))) ⌝ }
+    ensures { λ r. ⌜ Lowers (λ ctx. rangePattern (now (image .entry)) (p .0) ty (operand? (now (image .entry)) start) (operand? (now (image .entry)) end) (isSet half_open) mode ctx current els place) counts discr current els (lent (now (blocks .entry)) (now (statements .entry)) (now (locals .entry)) (now (entries .entry))) r (lent (now (blocks .exit)) (now (statements .exit)) (now (locals .exit)) (now (entries .exit))) ⌝ }
 {
     if !is_check(mode) {
         return Lowered::Done(counts, discr, current, els);
@@ -179,7 +191,7 @@ pub fn pattern_match_range(
             d1,
             p,
             ty,
-            BinOp::Ge,
+            end_op(half_open),
             end,
             then,
             other,

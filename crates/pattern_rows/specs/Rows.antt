@@ -35,13 +35,13 @@ compoundKind PatKind.Box = CompoundKind.Variant
 compoundKind PatKind.Deref = CompoundKind.Variant
 compoundKind PatKind.Unknown = CompoundKind.Variant
 
--- the element that the argument i stands for, where there are so many fields
+-- the element that the argument i stands for, where there are so many fields, or so many last items
 unfoldable pub argumentElem : ArgumentRow → List ℕ → ℕ → ℕ → ℕ → ProjectionElem
 argumentElem ArgumentRow.Fields image from fields i = ProjectionElem.Field i
 argumentElem ArgumentRow.LastFields image from fields i = ProjectionElem.Field (fields - 1 - i)
 argumentElem ArgumentRow.RecordFields image from fields i = ProjectionElem.Field (listAt image (from + 2 * i))
 argumentElem ArgumentRow.Items image from fields i = ProjectionElem.Index i
-argumentElem ArgumentRow.LastItems image from fields i = ProjectionElem.IndexFromEnd i
+argumentElem ArgumentRow.LastItems image from fields i = ProjectionElem.IndexFromEnd (fields - 1 - i)
 
 -- the number of the pattern that the argument i is
 unfoldable pub argumentPat : ArgumentRow → List ℕ → ℕ → ℕ → ℕ
@@ -59,13 +59,13 @@ ArgumentLies ArgumentRow.RecordFields image from i = from + 2 * i + 1 < listCoun
 ArgumentLies ArgumentRow.Items image from i = from + i < listCount image
 ArgumentLies ArgumentRow.LastItems image from i = from + i < listCount image
 
--- and there is a field for it
+-- and there is a field or an item for it
 abbrev pub ArgumentAt : ArgumentRow → List ℕ → ℕ → ℕ → ℕ → Type 0
 ArgumentAt ArgumentRow.Fields image from fields i = Unit
 ArgumentAt ArgumentRow.LastFields image from fields i = i < fields
 ArgumentAt ArgumentRow.RecordFields image from fields i = from + 2 * i < listCount image
 ArgumentAt ArgumentRow.Items image from fields i = Unit
-ArgumentAt ArgumentRow.LastItems image from fields i = Unit
+ArgumentAt ArgumentRow.LastItems image from fields i = i < fields
 
 -- the variant's word in the row of a Record (6), a TupleStruct (12) or a Path
 unfoldable pub variantWord : PatRow → ℕ

@@ -80,7 +80,7 @@ pub fn compound_kind(kind: PatKind) -> CompoundKind
     }
 }
 
-// The element that the argument i stands for, where there are so many fields.
+// The element that the argument i stands for, where there are so many fields, or so many last items.
 pub fn argument_elem(
     image: &[u8],
     tables: Tables,
@@ -97,7 +97,7 @@ pub fn argument_elem(
         ArgumentRow::LastFields => ProjectionElem::Field(fields - 1 - i),
         ArgumentRow::RecordFields => ProjectionElem::Field(list_at(image, tables, from + 2 * i)),
         ArgumentRow::Items => ProjectionElem::Index(i),
-        ArgumentRow::LastItems => ProjectionElem::IndexFromEnd(i),
+        ArgumentRow::LastItems => ProjectionElem::IndexFromEnd(fields - 1 - i),
     }
 }
 

@@ -360,7 +360,7 @@ pub fn slice(
                         p,
                         ArgumentRow::LastItems,
                         row.a + row.b,
-                        0,
+                        row.c,
                         row.c,
                         b3,
                         e3,

@@ -154,3 +154,4 @@ binary-back block target op left place s h k = by op ∙ ap₂ (line op) (left-b
     by BinOp.Eq = refl
     by BinOp.Le = refl
     by BinOp.Ge = refl
+    by BinOp.Gt = refl

@@ -90,6 +90,7 @@ statementKinds row =
     ∷ set (word row 2) (binary BinOp.Eq (leftOf row) (pathOf row))
     ∷ set (word row 2) (binary BinOp.Le (leftOf row) (pathOf row))
     ∷ set (word row 2) (binary BinOp.Ge (leftOf row) (pathOf row))
+    ∷ set (word row 2) (binary BinOp.Gt (leftOf row) (pathOf row))
     ∷ []
 
 unfoldable pub lineOf : List ℕ → Line

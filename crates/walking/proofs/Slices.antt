@@ -50,7 +50,7 @@ slice-tested unknown image bindings p prefix rest suffix mode ctx current els pl
 module _ (image bindings : List ℕ) (p : PatId) (rest from front back : ℕ) (mode : MatchingMode) (c : Counts) (discr : DiscrTemp) (current : BasicBlockId) (els : OptBlock) (place : Place) where
   -- the items at the end, behind the rest
   abbrev behindRest : Out → Walk Out
-  behindRest r = argumentsFrom ArgumentRow.LastItems image bindings (p .0) from 0 0 back mode (r .ctx) (r .then) (r .else) place
+  behindRest r = argumentsFrom ArgumentRow.LastItems image bindings (p .0) from back 0 back mode (r .ctx) (r .then) (r .else) place
 
   behind-as : (ctx : Ctx) →
       next (restBound (restOf (tree? (tree image) rest)) bindings (p .0) front back mode ctx current els place) behindRest ≡ sliceBehind image bindings (p .0) rest from front back mode ctx current els place
@@ -66,7 +66,7 @@ module _ (image bindings : List ℕ) (p : PatId) (rest from front back : ℕ) (m
     -- the items at the end
     pub slice-behind-then : {c₁ : Counts} {d₁ : DiscrTemp} {then : BasicBlockId} {other : OptBlock} {r : Lowered} {t₂ : Lent} {v₂ : List ℕ} →
         Fills (λ ctx. restBound (restOf (tree? (tree image) rest)) bindings (p .0) front back mode ctx current els place) c discr current els s e (Lowered.Done c₁ d₁ then other) s₁ e₁ →
-        Walks (λ ctx. argumentsFrom ArgumentRow.LastItems image bindings (p .0) from 0 0 back mode ctx then other place) c₁ d₁ then other (lent bl s₁ l e₁) v r t₂ v₂ →
+        Walks (λ ctx. argumentsFrom ArgumentRow.LastItems image bindings (p .0) from back 0 back mode ctx then other place) c₁ d₁ then other (lent bl s₁ l e₁) v r t₂ v₂ →
         Walks (λ ctx. sliceBehind image bindings (p .0) rest from front back mode ctx current els place) c discr current els (lent bl s l e) v r t₂ v₂
     slice-behind-then F S = walks-by behind-as (walks-then (fills-walks v P F) P behindRest S)
 
@@ -75,8 +75,8 @@ module _ (image bindings : List ℕ) (p : PatId) (rest from front back : ℕ) (m
         Fills (λ ctx. restBound (restOf (tree? (tree image) rest)) bindings (p .0) front back mode ctx current els place) c discr current els s e (Lowered.Done c₁ d₁ then other) s₁ e₁ → back ≡ 0 →
         Walks (λ ctx. sliceBehind image bindings (p .0) rest from front back mode ctx current els place) c discr current els (lent bl s l e) v (Lowered.Done c₁ d₁ then other) (lent bl s₁ l e₁) v
     slice-behind-none {c₁} {d₁} {then} {other} F none =
-        slice-behind-then F (walks-by (λ ctx. ap (λ (k : ℕ). argumentsFrom ArgumentRow.LastItems image bindings (p .0) from 0 0 k mode ctx then other place) (sym none))
-        (arguments-end ArgumentRow.LastItems image bindings p from 0 0 mode place 0 c₁ d₁ then other (lent bl s₁ l e₁) v (omega arith) (fills-walks v P F .onward .begins)))
+        slice-behind-then F (walks-by (λ ctx. ap (λ (k : ℕ). argumentsFrom ArgumentRow.LastItems image bindings (p .0) from back 0 k mode ctx then other place) (sym none))
+        (arguments-end ArgumentRow.LastItems image bindings p from back 0 mode place 0 c₁ d₁ then other (lent bl s₁ l e₁) v (omega arith) (fills-walks v P F .onward .begins)))
 
   -- what `slice` promises of the items, behind its test
   abbrev Items : Lent → List ℕ → Lowered → Lent → List ℕ → Type 0

@@ -29,7 +29,7 @@ compare parameters OPTIONS  compares calls of lower_params_and_bindings with ano
   --stored FILE          the calls of a stored list too
 compare meaning OPTIONS  compares where listings lead values with what rustc says:
   --other COMMAND, --seed N
-  --count N              so many files of 150 patterns, four values each";
+  --count N              so many files of 300 patterns, four values each";
 
 /// The images that are kept are chosen from so many of each sort, by chance from this seed.
 const KEPT_OF: usize = 1500;
@@ -137,6 +137,7 @@ fn of_parameters(options: &Options) -> ExitCode {
 }
 
 fn meant(options: &Options) -> ExitCode {
-    let settings = meaning::Settings { files: options.count, patterns: 150, seed: options.seed };
+    let settings =
+        meaning::Settings { files: options.count, patterns: 150, of_shape: 75, seed: options.seed };
     told(meaning::compare(&settings, &options.other))
 }

@@ -27,9 +27,19 @@ pub enum Answer {
     Stopped(Refusal, String),
 }
 
+/// A listing after document 02's two replacements.
+#[derive(Debug, Clone, Default)]
+pub struct Listed {
+    pub text: String,
+    /// Without them it is another.
+    pub replaced: bool,
+}
+
 pub struct Outcome {
     pub answer: Answer,
     pub trace: Trace,
+    /// The answer is a listing that is another without document 02's two replacements.
+    pub replaced: bool,
 }
 
 /// How the last pattern of an image is lowered and listed.
@@ -49,13 +59,14 @@ pub fn lower(tables: &Tables, place_type: usize, how: How) -> Outcome {
     let store = store::store(tables);
     let inference = store::inference(&world);
     let db: &dyn HirDatabase = &*world;
-    let root = PatId::from_number(tables.patterns.len() - 1);
+    let root = tables.patterns.len() - 1;
+    let pattern = PatId::from_number(root);
     trace::start(tables.patterns.len());
     let place_type = Ty::numbered(place_type as u16);
     let made = quietly(|| {
         panic::catch_unwind(AssertUnwindSafe(|| {
-            lower_to_mir_with_store(db, &store, &inference, place_type, root, how.assigns)
-                .map(|lowered| lowered.listing(db, how.contents))
+            lower_to_mir_with_store(db, &store, &inference, place_type, pattern, how.assigns)
+                .map(|lowered| lowered.listing(db, tables, &[root as u16], how.contents))
         }))
     });
     let mut outcome = of_made(made, trace::so_far());
@@ -66,13 +77,14 @@ pub fn lower(tables: &Tables, place_type: usize, how: How) -> Outcome {
 }
 
 /// A listing, an error or a panic, in document 01's words.
-pub(crate) fn of_made(made: std::thread::Result<Result<String, MirLowerError<'_>>>, trace: Trace) -> Outcome {
+pub(crate) fn of_made(made: std::thread::Result<Result<Listed, MirLowerError<'_>>>, trace: Trace) -> Outcome {
+    let replaced = matches!(&made, Ok(Ok(listed)) if listed.replaced);
     let answer = match made {
-        Ok(Ok(listing)) => Answer::Listing(listing),
+        Ok(Ok(listed)) => Answer::Listing(listed.text),
         Ok(Err(error)) => of_error(&error, &trace),
         Err(_) => of_panic(&trace),
     };
-    Outcome { answer, trace }
+    Outcome { answer, trace, replaced }
 }
 
 fn number(pattern: Option<usize>) -> u16 {

@@ -61,6 +61,7 @@ pub fn lower_parameters(tables: &Tables, parameters: &Parameters, setting: Setti
     let binding = |number: u16| BindingId::from_number(number.into());
     let pattern = |&(p, type_): &(u16, u16)| (PatId::from_number(p.into()), Ty::numbered(type_));
     let list: Vec<(PatId, Ty<'_>)> = parameters.list.iter().map(pattern).collect();
+    let roots: Vec<u16> = parameters.list.iter().map(|parameter| parameter.0).collect();
     let picked: Vec<bool> = tables.bindings.iter().map(|row| row[1] == 1).collect();
     let handed = HandedParameters {
         locals: setting.locals,
@@ -73,7 +74,7 @@ pub fn lower_parameters(tables: &Tables, parameters: &Parameters, setting: Setti
     let made = quietly(|| {
         panic::catch_unwind(AssertUnwindSafe(|| {
             let lowered = mir_body_query(db, &store, &inference, handed, setting.after);
-            (lowered.bound(picked.len()), lowered.listing(db, picked.len()))
+            (lowered.bound(picked.len()), lowered.listing(db, tables, &roots, picked.len()))
         }))
     });
     let (bound, made) = match made {

@@ -4,19 +4,21 @@
 use std::panic::{self, AssertUnwindSafe};
 use std::thread;
 
+use super::replacements::replace;
 use super::rows::{self, Element, Rows};
 use super::{
     Arena, BasicBlock, BasicBlockId, BindingId, DropScope, DropScopeToken, ExpressionStore, HirDatabase,
     InferBodyId, InferenceResult, Local, LocalId, MirLowerCtx, MirSpan, PatId, Place, PlaceElem,
     ProjectionElem, Result, Ty,
 };
+use crate::answer::Listed;
 use crate::calls::{Call, CallAnswer, Handed, Made};
 use crate::mir::{FieldIndex, Projection};
 use crate::trace;
 use crate::world::World;
 
 /// What a call on a pattern came to: its answer's words, an error or a panic.
-pub type Matched<'db> = thread::Result<Result<'db, String>>;
+pub type Matched<'db> = thread::Result<Result<'db, Listed>>;
 
 /// Does a call on a body whose blocks have no statements and no terminators, as what they have is
 /// not looked at.
@@ -73,12 +75,13 @@ fn element(world: &World, [kind, a, b]: Element) -> PlaceElem {
     }
 }
 
+/// Answers a call on a pattern, and makes document 02's replacements in what it made.
 fn matched<'db>(
     ctx: &mut MirLowerCtx<'_, 'db>,
     world: &'db World,
     handed: &Handed,
     call: Call,
-) -> Result<'db, String> {
+) -> Result<'db, Listed> {
     let block = BasicBlockId::from_number;
     let told = |number: Option<usize>| number.map_or("-".to_owned(), |number| number.to_string());
     let words = |(then, other): (BasicBlockId, Option<BasicBlockId>)| {
@@ -87,20 +90,24 @@ fn matched<'db>(
     let elements = handed.elements.iter().map(|&parts| element(world, parts));
     let place =
         Place { local: LocalId::from_number(handed.root), projection: Projection::new_from_iter(elements) };
-    let answer = match call {
+    let (pattern, blocks) = match call {
         Call::PatternMatch(p, current, other) => {
-            words(ctx.pattern_match(block(current), other.map(block), place, PatId::from_number(p))?)
+            (p, ctx.pattern_match(block(current), other.map(block), place, PatId::from_number(p))?)
         }
         Call::PatternMatchAssignment(p, current) => {
-            words((ctx.pattern_match_assignment(block(current), place, PatId::from_number(p))?, None))
+            (p, (ctx.pattern_match_assignment(block(current), place, PatId::from_number(p))?, None))
         }
         Call::MatchSelfParam(binding, current, local) => {
             let (binding, local) = (BindingId::from_number(binding), LocalId::from_number(local));
-            return Ok(words(ctx.match_self_param(binding, block(current), local)?));
+            let text = words(ctx.match_self_param(binding, block(current), local)?);
+            return Ok(Listed { text, replaced: false });
         }
         other => panic!("{other:?} is on no pattern"),
     };
-    Ok(format!("{answer} discr {}", told(ctx.discr_temp.as_ref().map(|place| place.local.number()))))
+    let discr = told(ctx.discr_temp.as_ref().map(|place| place.local.number()));
+    trace::finish(ctx.result.basic_blocks.values());
+    let replaced = replace(&mut ctx.result, &world.tables, &[pattern as u16], handed.elements.len());
+    Ok(Listed { text: format!("{} discr {discr}", words(blocks)), replaced })
 }
 
 fn answer(ctx: &mut MirLowerCtx<'_, '_>, call: Call) -> CallAnswer {

@@ -4,10 +4,14 @@
 
 use std::panic::{self, AssertUnwindSafe};
 
+use image::Tables;
+
+use super::replacements::replace;
 use super::{
     BasicBlockId, BindingId, ExpressionStore, HirDatabase, InferBodyId, InferenceResult, Local, LocalId,
     MirBody, MirLowerCtx, PatId, Result, Ty,
 };
+use crate::answer::Listed;
 use crate::mir::pretty;
 use crate::trace;
 
@@ -19,9 +23,11 @@ pub struct LoweredPattern<'db> {
 }
 
 impl LoweredPattern<'_> {
-    /// Document 01's listing; with `contents` the memory of strings stands in it too.
-    pub fn listing(&self, db: &dyn HirDatabase, contents: bool) -> String {
-        pretty::listing(&self.body, self.then, self.other, db, contents)
+    /// Document 01's listing after document 02's replacements, for the patterns that were walked from
+    /// a whole local; with `contents` the memory of strings stands in it too.
+    pub fn listing(mut self, db: &dyn HirDatabase, tables: &Tables, roots: &[u16], contents: bool) -> Listed {
+        let replaced = replace(&mut self.body, tables, roots, 0);
+        Listed { text: pretty::listing(&self.body, self.then, self.other, db, contents), replaced }
     }
 }
 

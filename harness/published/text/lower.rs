@@ -40,6 +40,7 @@ mod calls;
 mod entry;
 mod parameters;
 mod pattern_matching;
+mod replacements;
 mod rows;
 
 pub use calls::lower_body_to_mir;

@@ -2,11 +2,14 @@
 
 use std::panic::{self, AssertUnwindSafe};
 
+use image::Tables;
+
 use super::entry::LoweredPattern;
 use super::{
     BasicBlockId, BindingId, DropScope, DropScopeToken, ExpressionStore, HirDatabase, InferBodyId,
     InferenceResult, Local, MirBody, MirLowerCtx, MirSpan, Result, Ty,
 };
+use crate::answer::Listed;
 use crate::parameters::{After, HandedParameters};
 use crate::trace;
 
@@ -24,17 +27,24 @@ impl<'db> LoweredParameters<'db> {
         (0..bindings).map(|number| local(number).map(|local| local.number())).collect()
     }
 
-    /// The listing, and lines with the parameters' locals, the bindings' locals and the entries of
-    /// the scopes.
-    pub fn listing(self, db: &dyn HirDatabase, bindings: usize) -> Result<'db, String> {
+    /// The listing for the patterns that were walked, and lines with the parameters' locals, the
+    /// bindings' locals and the entries of the scopes.
+    pub fn listing(
+        self,
+        db: &dyn HirDatabase,
+        tables: &Tables,
+        roots: &[u16],
+        bindings: usize,
+    ) -> Result<'db, Listed> {
         let word = |local: Option<usize>| local.map_or("-".to_owned(), |local| local.to_string());
         let line = |name: &str, words: Vec<String>| [vec![name.to_owned()], words].concat().join(" ") + "\n";
         let bound = self.bound(bindings).into_iter().map(word).collect();
         let params = self.body.param_locals.iter().map(|local| local.number().to_string()).collect();
         let entries = self.entries.iter().map(usize::to_string).collect();
         let lowered = LoweredPattern { body: self.body, then: self.then?, other: None };
-        let lines = line("params", params) + &line("bindings", bound) + &line("entries", entries);
-        Ok(lowered.listing(db, false) + &lines)
+        let mut listed = lowered.listing(db, tables, roots, false);
+        listed.text += &(line("params", params) + &line("bindings", bound) + &line("entries", entries));
+        Ok(listed)
     }
 }
 

@@ -98,6 +98,7 @@ impl Printer<'_> {
                     BinOp::Eq => "eq",
                     BinOp::Le => "le",
                     BinOp::Ge => "ge",
+                    BinOp::Gt => "gt",
                     _ => "unlisted",
                 };
                 format!("{operator} {} {}", self.operand(left), self.operand(right))

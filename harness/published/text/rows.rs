@@ -25,6 +25,7 @@ const IS_CONSTANT: u16 = 8;
 const EQ: u16 = 9;
 const LE: u16 = 10;
 const GE: u16 = 11;
+const GT: u16 = 12;
 
 const OF_LOCAL: u16 = 1;
 const OF_CONSTANT: u16 = 2;
@@ -110,10 +111,11 @@ impl Rows<'_> {
                     BinOp::Eq => EQ,
                     BinOp::Le => LE,
                     BinOp::Ge => GE,
+                    BinOp::Gt => GT,
                     other => panic!("no test is {other:?}"),
                 };
                 let OperandKind::Copy(of) = &right.kind else { panic!("a test looks at {right:?}") };
-                (kind, [self.operand(left, span, kind == GE), place(of)].concat())
+                (kind, [self.operand(left, span, kind != LE), place(of)].concat())
             }
             other => panic!("a call makes no {other:?}"),
         }

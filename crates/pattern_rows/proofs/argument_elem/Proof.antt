@@ -13,6 +13,12 @@ sub-t8 c = omega (arith, (rw (c .enum-told2 .given .1) at (c .before .before .be
 sub-t9 : tie.Need-sub-t9
 sub-t9 c = omega (arith, (rw (c .enum-told2 .given .1) at (c .before .before .before .pre .2)))
 
+sub-t13 : tie.Need-sub-t13
+sub-t13 c = omega (arith, (rw (c .enum-told5 .given .1) at (c .before .before .before .pre .2)))
+
+sub-t14 : tie.Need-sub-t14
+sub-t14 c = omega (arith, (rw (c .enum-told5 .given .1) at (c .before .before .before .pre .2)))
+
 mul-list-at : tie.Need-mul-list-at
 mul-list-at c = omega (arith, c .before .before .before .pre .1, (rw (c .enum-told3 .given .1) at (c .before .before .before .pre .2)))
 
@@ -56,6 +62,8 @@ argument-elem-spec =
     list-at-requires
     (λ c. search needs)
     (λ c. search needs)
+    sub-t13
+    sub-t14
     returns
     returns-2
     returns-3

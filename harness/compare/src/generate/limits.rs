@@ -33,6 +33,12 @@ pub fn images() -> Vec<(String, Vec<u8>)> {
         add(format!("{n} tuples in each other"), nested_tuples(n));
         add(format!("{n} references in each other"), nested_refs(n));
     }
+    for n in [2, 3, 255, 256, 257, 508, 509, 510, 511] {
+        add(format!("slice of {n} suffix Binds"), suffix_binds(n));
+    }
+    for n in 0..=17 {
+        add(format!("{n} arrays in each other, each the second last item"), nested_suffixes(n));
+    }
     for n in [1, 2, 3, 4, 5, 6, 7, 8, 30] {
         add(format!("{n} Ors over one literal"), nested_ors(n));
     }
@@ -177,6 +183,31 @@ fn nested_tuples(n: u16) -> Tables {
         let whole = m.add_tuple_type(&[depth]);
         let list = m.add_words(&[inner]);
         inner = m.add_pattern(TUPLE, whole, 0, [list, 1, ABSENT, 0]);
+    }
+    m
+}
+
+/// A slice pattern of n Binds, all of them suffix items, and no rest.
+fn suffix_binds(n: usize) -> Tables {
+    let mut m = with_u8();
+    m.bindings.push([0, 1]);
+    let items: Vec<u16> = (0..n).map(|number| bind(&mut m, number)).collect();
+    let whole = m.add_type(SLICE_TYPE, 0, 0, 0, 0);
+    let list = m.add_words(&items);
+    m.add_pattern(SLICE, whole, 0, [list, 0, n as u16, ABSENT]);
+    m
+}
+
+/// An array of its own type, so that arrays may lie in each other, over a Bind.
+fn nested_suffixes(n: u16) -> Tables {
+    let mut m = Tables::default();
+    m.add_type(ARRAY, 0, 2, 0, 1);
+    m.bindings.push([0, 1]);
+    let mut inner = bind(&mut m, 0);
+    for _ in 0..n {
+        let last = m.add_pattern(WILD, 0, 0, [0; 4]);
+        let list = m.add_words(&[inner, last]);
+        inner = m.add_pattern(SLICE, 0, 0, [list, 0, 2, ABSENT]);
     }
     m
 }

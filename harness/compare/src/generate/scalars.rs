@@ -30,7 +30,7 @@ impl Maker<'_> {
     fn range(&mut self, type_: u16) -> Kind {
         let start = self.rng.percent(70).then(|| self.range_end(type_));
         let end = (start.is_none() || self.rng.percent(60)).then(|| self.range_end(type_));
-        let half_open = end.is_none() || self.rng.percent(15);
+        let half_open = end.is_none() || self.rng.percent(30);
         Kind::Range { start, end, half_open }
     }
 

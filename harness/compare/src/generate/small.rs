@@ -195,8 +195,9 @@ fn leaves(type_: u16) -> Vec<Kind> {
     ];
     match type_ {
         U8 => {
-            let (start, end) = (Some(number(1)), Some(number(3)));
-            kinds.push(Kind::Range { start, end, half_open: false });
+            for half_open in [false, true] {
+                kinds.push(Kind::Range { start: Some(number(1)), end: Some(number(3)), half_open });
+            }
             kinds.push(Kind::Range { start: Some(number(1)), end: None, half_open: true });
             kinds.push(Kind::Constant(Operand { kind: CONSTANT, bytes: vec![5] }));
         }

@@ -115,7 +115,7 @@ impl Run<'_> {
                 Held::Value(Value::Variant(variant, _)) => Ok(Held::Number(self.discriminant(variant))),
                 other => Err(format!("the discriminant of {other:?}")),
             },
-            [operator @ ("eq" | "le" | "ge"), rest @ ..] => {
+            [operator @ ("eq" | "le" | "ge" | "gt"), rest @ ..] => {
                 let (left, right) = rest.split_at(rest.len() - 2);
                 let (left, right) = (self.operand(left)?, self.operand(right)?);
                 compare(operator, &left, &right).map(|is| Held::Number(is.into()))
@@ -198,7 +198,8 @@ fn compare(operator: &str, left: &Held, right: &Held) -> Result<bool, String> {
     let order = |is: std::cmp::Ordering| match operator {
         "eq" => is.is_eq(),
         "le" => is.is_le(),
-        _ => is.is_ge(),
+        "ge" => is.is_ge(),
+        _ => is.is_gt(),
     };
     Ok(match (left, right) {
         (Held::Constant(bytes, _), Held::Value(Value::Integer(other, signed))) => {

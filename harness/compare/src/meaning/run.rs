@@ -12,16 +12,45 @@ use crate::generate::fitting::Maker;
 use crate::generate::types::types;
 use crate::meaning::form::Form;
 use crate::meaning::interpret::{self, End};
-use crate::meaning::source::{Reading, Source, debug};
+use crate::meaning::source::{Source, debug};
 use crate::meaning::value::{Value, Values};
 use crate::other::Other;
 use crate::rng::Rng;
 use crate::tree::{Kind, Node};
 
+/// So many files, each with so many patterns, and so many more with each of the two shapes.
 pub struct Settings {
     pub files: usize,
     pub patterns: usize,
+    pub of_shape: usize,
     pub seed: u64,
+}
+
+/// What document 02 has the port read as the Reference does, and not as the Rust.
+#[derive(Clone, Copy)]
+enum Shape {
+    HalfOpenRange,
+    SuffixItems,
+}
+
+const SHAPES: [Shape; 2] = [Shape::HalfOpenRange, Shape::SuffixItems];
+
+impl Shape {
+    fn stands_in(self, node: &Node) -> bool {
+        let own = match (self, &node.kind) {
+            (Shape::HalfOpenRange, Kind::Range { end, half_open, .. }) => *half_open && end.is_some(),
+            (Shape::SuffixItems, Kind::Slice { suffix, .. }) => suffix.len() > 1,
+            _ => false,
+        };
+        own || node.children().into_iter().any(|child| self.stands_in(child))
+    }
+
+    fn told(self) -> &'static str {
+        match self {
+            Shape::HalfOpenRange => "on a pattern with a half-open range that has an end",
+            Shape::SuffixItems => "on a pattern with two or more suffix items",
+        }
+    }
 }
 
 /// Values for each pattern.
@@ -36,62 +65,77 @@ struct Case {
     place_type: u16,
     values: Vec<Value>,
     ends: Vec<String>,
-    /// The pattern has a shape that the Rust lowers as another.
-    listed: bool,
 }
 
 /// Compares so many files of patterns; answers how many values were led elsewhere than rustc's.
 pub fn compare(settings: &Settings, other: &Other) -> usize {
     let mut rng = Rng::new(settings.seed);
-    let mut tally = BTreeMap::new();
+    let (mut sorts, mut of_shapes) = (BTreeMap::new(), [0; SHAPES.len()]);
     for number in 0..settings.files {
-        let tries = std::iter::repeat_with(|| case(&mut rng));
-        let cases: Vec<Case> = tries.flatten().take(settings.patterns).collect();
+        let cases = cases(&mut rng, settings);
         same_listings(&cases, other);
-        let reference = run_by_rustc(&cases, number, Reading::Reference);
-        let lowered = run_by_rustc(&cases, number, Reading::Lowered);
-        for (case, (reference, lowered)) in cases.iter().zip(reference.iter().zip(&lowered)) {
-            for place in 0..case.values.len() {
-                let sort = sort(case, place, &reference[place], &lowered[place]);
-                if sort == "differ" {
-                    report(case, place, &reference[place]);
+        for (case, by_rustc) in cases.iter().zip(run_by_rustc(&cases, number)) {
+            for (place, rustc) in by_rustc.iter().enumerate() {
+                let sort = sort(&case.ends[place], rustc);
+                if sort == DIFFER {
+                    report(case, place, rustc);
                 }
-                *tally.entry(sort).or_default() += 1;
+                *sorts.entry(sort).or_default() += 1;
+            }
+            for (count, shape) in of_shapes.iter_mut().zip(SHAPES) {
+                *count += if shape.stands_in(&case.root) { by_rustc.len() } else { 0 };
             }
         }
     }
-    for (sort, count) in &tally {
+    tell(&sorts, of_shapes)
+}
+
+/// Prints what was counted; answers how many values differ.
+fn tell(sorts: &BTreeMap<&str, usize>, of_shapes: [usize; SHAPES.len()]) -> usize {
+    for (sort, count) in sorts {
         println!("  {sort}: {count}");
     }
-    let differing = tally.get("differ").copied().unwrap_or(0);
-    println!("{} values run, {differing} differ", tally.values().sum::<usize>());
+    for (count, shape) in of_shapes.iter().zip(SHAPES) {
+        println!("  {}: {count}", shape.told());
+    }
+    let differing = sorts.get(DIFFER).copied().unwrap_or(0);
+    println!("{} values run, {differing} differ", sorts.values().sum::<usize>());
     differing
 }
 
-/// How a value's run compares with rustc's answers for the two readings of its pattern.
-fn sort(case: &Case, place: usize, reference: &str, lowered: &str) -> &'static str {
-    let end = case.ends[place].as_str();
-    let matched = end.starts_with("then");
-    match (case.listed, end == reference, end == lowered) {
-        (false, true, true) if matched => "led to then, with the same bindings",
-        (false, true, true) => "led to else",
-        (true, true, true) => "of a listed shape, as both readings say",
-        (true, false, true) => "of a listed shape, as the Rust reads it and not as the Reference does",
-        _ => "differ",
+/// A file's cases: any, and then those of each shape.
+fn cases(rng: &mut Rng, settings: &Settings) -> Vec<Case> {
+    let mut tries = std::iter::repeat_with(|| case(rng)).flatten();
+    let mut cases: Vec<Case> = tries.by_ref().take(settings.patterns).collect();
+    for shape in SHAPES {
+        let of_shape = tries.by_ref().filter(|case| shape.stands_in(&case.root));
+        cases.extend(of_shape.take(settings.of_shape));
+    }
+    cases
+}
+
+const DIFFER: &str = "differ";
+
+/// How a value's run compares with rustc's answer.
+fn sort(end: &str, rustc: &str) -> &'static str {
+    match end.starts_with("then") {
+        _ if end != rustc => DIFFER,
+        true => "led to then, with the same bindings",
+        false => "led to else",
     }
 }
 
-fn report(case: &Case, place: usize, reference: &str) {
-    let mut source = source(case, Reading::Reference);
+fn report(case: &Case, place: usize, rustc: &str) {
+    let mut source = source(case);
     let text = source.pattern(&case.root, false);
     println!("differ: {text}");
     println!("  on {}", source.typed_value(&case.values[place], case.place_type));
     println!("  {} {}", source.declarations().replace('\n', " "), source.constants.replace('\n', " "));
-    println!("  the run of the listing: {}\n  rustc: {reference}", case.ends[place]);
+    println!("  the run of the listing: {}\n  rustc: {rustc}", case.ends[place]);
 }
 
-fn source(case: &Case, reading: Reading) -> Source<'_> {
-    Source { m: &case.m, constants: String::new(), reading }
+fn source(case: &Case) -> Source<'_> {
+    Source { m: &case.m, constants: String::new() }
 }
 
 /// A random case whose pattern is accepted and whose type has values.
@@ -113,24 +157,14 @@ fn case(rng: &mut Rng) -> Option<Case> {
     }
     let outcome = published::lower(&m, place_type.into(), How { contents: true, ..How::default() });
     let Answer::Listing(listing) = outcome.answer else { return None };
-    let listed = has_listed_shape(&root);
-    let mut case = Case { m, root, place_type, values, ends: Vec::new(), listed };
+    let mut case = Case { m, root, place_type, values, ends: Vec::new() };
     case.ends = case.values.iter().map(|value| told_end(&case, &listing, value)).collect();
     Some(case)
 }
 
-fn has_listed_shape(node: &Node) -> bool {
-    let own = match &node.kind {
-        Kind::Range { end, half_open, .. } => *half_open && end.is_some(),
-        Kind::Slice { suffix, .. } => suffix.len() > 1,
-        _ => false,
-    };
-    own || node.children().into_iter().any(has_listed_shape)
-}
-
 /// The listing's run on a value, told as the compiled program tells it.
 fn told_end(case: &Case, listing: &str, value: &Value) -> String {
-    let source = source(case, Reading::Reference);
+    let source = source(case);
     match interpret::run(&case.m, listing, value.clone()) {
         Ok(End::Else) => "else".to_owned(),
         Ok(End::Then(locals)) => {
@@ -159,8 +193,8 @@ fn same_listings(cases: &[Case], other: &Other) {
 }
 
 /// What the compiled patterns say of each case's values.
-fn run_by_rustc(cases: &[Case], file: usize, reading: Reading) -> Vec<Vec<String>> {
-    let text: String = cases.iter().enumerate().map(|(n, case)| module(n, case, reading)).collect();
+fn run_by_rustc(cases: &[Case], file: usize) -> Vec<Vec<String>> {
+    let text: String = cases.iter().enumerate().map(|(number, case)| module(number, case)).collect();
     let calls: String = (0..cases.len()).map(|number| format!("    m{number}::all();\n")).collect();
     let folder = env::temp_dir().join(format!("harness-meaning-{}", std::process::id()));
     fs::create_dir_all(&folder).expect("a folder for sources");
@@ -192,8 +226,8 @@ fn compile(path: &PathBuf, program: &PathBuf) {
 }
 
 /// A module with a case's types, constants, pattern and values.
-fn module(number: usize, case: &Case, reading: Reading) -> String {
-    let mut source = source(case, reading);
+fn module(number: usize, case: &Case) -> String {
+    let mut source = source(case);
     let declarations = source.declarations();
     let type_ = source.type_name(case.place_type);
     let pattern = source.pattern(&case.root, false);

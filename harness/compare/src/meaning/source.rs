@@ -8,19 +8,10 @@ use image::kinds::*;
 use crate::meaning::value::{Value, number, scalar};
 use crate::tree::{Kind, Node, Operand};
 
-/// How a pattern is written: as the Reference reads it, or as the Rust lowers it where the two
-/// part (a half-open range with an end as a closed one, suffix items in reverse order).
-#[derive(Clone, Copy, PartialEq, Eq)]
-pub enum Reading {
-    Reference,
-    Lowered,
-}
-
 pub struct Source<'a> {
     pub m: &'a Tables,
     /// Constants that patterns name, declared before the function.
     pub constants: String,
-    pub reading: Reading,
 }
 
 /// The names of a type's parts have the number of the image's tables in them.
@@ -180,11 +171,7 @@ impl Source<'_> {
             Some(_) => items.push("..".to_owned()),
             None => {}
         }
-        let mut last: Vec<String> = suffix.iter().map(|item| self.pattern(item, by_ref)).collect();
-        if self.reading == Reading::Lowered {
-            last.reverse();
-        }
-        items.extend(last);
+        items.extend(suffix.iter().map(|item| self.pattern(item, by_ref)));
         format!("[{}]", items.join(", "))
     }
 
@@ -198,8 +185,7 @@ impl Source<'_> {
         let mut text =
             |end: &Option<Operand>| end.as_ref().map_or(String::new(), |end| self.operand(end, type_));
         let (first, last) = (text(start), text(end));
-        let exclusive = last.is_empty() || (half_open && self.reading == Reading::Reference);
-        format!("({first}..{}{last})", if exclusive { "" } else { "=" })
+        format!("({first}..{}{last})", if half_open || last.is_empty() { "" } else { "=" })
     }
 
     fn operand(&mut self, operand: &Operand, type_: u16) -> String {

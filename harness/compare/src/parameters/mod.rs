@@ -7,8 +7,8 @@ mod shrink;
 
 use image::kinds::BIND;
 use image::{ABSENT, Tables};
+use published::Answer;
 use published::parameters::{Parameters, lower_parameters};
-use published::{Answer, Outcome};
 
 use crate::judge::{self, Expected};
 use crate::other::Other;
@@ -91,11 +91,11 @@ impl Given for Call {
             return refused(2, "self (document 01");
         }
         let parameters = Parameters { scopes: self.scopes.into(), self_binding: self.own, list };
-        let Outcome { mut answer, trace } = lower_parameters(&tables, &parameters, other.setting);
-        if let (Answer::Listing(listing), true) = (&mut answer, other.how.visits) {
-            *listing += &trace.visits_line();
+        let mut outcome = lower_parameters(&tables, &parameters, other.setting);
+        if let (Answer::Listing(listing), true) = (&mut outcome.answer, other.how.visits) {
+            *listing += &outcome.trace.visits_line();
         }
-        judge::of_outcome(&tables, Outcome { answer, trace })
+        judge::of_outcome(&tables, outcome)
     }
 
     fn smallest(&self, other: &Other) -> Self {

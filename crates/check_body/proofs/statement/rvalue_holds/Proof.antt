@@ -27,15 +27,15 @@ returns-4 c = rw (le-ltb _ 1 (c .before .before .before .before .if1 .left), lt-
 
 returns-5 : tie.Need-returns-5
 unfolding rvalueHolds
-returns-5 c = rw (le-ltb _ 1 (c .before .before .before .before .if1 .left), lt-leb _ 2 (c .before .before .before .if2 .left), lt-leb _ 7 (c .before .before .if3 .left), ne-eqb _ 8 (c .before .if4 .left), lt-leb _ 11 (c .if5 .taken))
+returns-5 c = rw (le-ltb _ 1 (c .before .before .before .before .if1 .left), lt-leb _ 2 (c .before .before .before .if2 .left), lt-leb _ 7 (c .before .before .if3 .left), ne-eqb _ 8 (c .before .if4 .left), lt-leb _ 12 (c .if5 .taken))
 
 returns-6 : tie.Need-returns-6
 unfolding rvalueHolds
-returns-6 c = rw (le-ltb _ 1 (c .before .before .before .before .before .before .if1 .left), lt-leb _ 2 (c .before .before .before .before .before .if2 .left), lt-leb _ 7 (c .before .before .before .before .if3 .left), ne-eqb _ 8 (c .before .before .before .if4 .left), le-leb _ 11 (c .before .before .if5 .left), ← c .before .left-holds .ensures, not-true (c .before .left-holds .result) (c .if6 .taken))
+returns-6 c = rw (le-ltb _ 1 (c .before .before .before .before .before .before .if1 .left), lt-leb _ 2 (c .before .before .before .before .before .if2 .left), lt-leb _ 7 (c .before .before .before .before .if3 .left), ne-eqb _ 8 (c .before .before .before .if4 .left), le-leb _ 12 (c .before .before .if5 .left), ← c .before .left-holds .ensures, not-true (c .before .left-holds .result) (c .if6 .taken))
 
 returns-7 : tie.Need-returns-7
 unfolding rvalueHolds
-returns-7 c = rw (le-ltb _ 1 (c .before .before .before .before .before .before .before .if1 .left), lt-leb _ 2 (c .before .before .before .before .before .before .if2 .left), lt-leb _ 7 (c .before .before .before .before .before .if3 .left), ne-eqb _ 8 (c .before .before .before .before .if4 .left), le-leb _ 11 (c .before .before .before .if5 .left), ← c .before .before .left-holds .ensures, not-false (c .before .before .left-holds .result) (c .before .if6 .left)) (c .place-holds2 .ensures)
+returns-7 c = rw (le-ltb _ 1 (c .before .before .before .before .before .before .before .if1 .left), lt-leb _ 2 (c .before .before .before .before .before .before .if2 .left), lt-leb _ 7 (c .before .before .before .before .before .if3 .left), ne-eqb _ 8 (c .before .before .before .before .if4 .left), le-leb _ 12 (c .before .before .before .if5 .left), ← c .before .before .left-holds .ensures, not-false (c .before .before .left-holds .result) (c .before .if6 .left)) (c .place-holds2 .ensures)
 
 pub rvalue-holds-spec : {M : Type 1} → statement M
 rvalue-holds-spec =

@@ -7,7 +7,7 @@ use Rattle.listing_text.proofs.pen.put.Reads as put-reads
 use Rattle.listing_text.proofs.statements.put_binary.Reads as put-binary-reads
 use Rattle.listing_text.proofs.statements.put_constant.Reads as put-constant-reads
 use Rattle.listing_text.proofs.statements.put_of_place.Reads as put-of-place-reads
-use Rattle.listing_text.specs.Words.{copyWord, refWord, mutWord, lenWord, discrWord, eqWord, leWord, geWord}
+use Rattle.listing_text.specs.Words.{copyWord, refWord, mutWord, lenWord, discrWord, eqWord, leWord, geWord, gtWord}
 use Rattle.listing_text.specs.Listing.{placeRvalueWord, operatorWord, rvalueText}
 use Rattle.listing_text.proofs.Readings.{rvalue-kind, rvalue-unknown}
 
@@ -47,8 +47,12 @@ unfolding rvalueText operatorWord geWord
 returns-9 c = rw (rvalue-kind (c .before .before .before .before .before .before .before .before .before .args .row .now) 11 (c .before .before .before .before .before .match .keys9)) (c .before .before .put-binary3 .ensures)
 
 returns-10 : tie.Need-returns-10
+unfolding rvalueText operatorWord gtWord
+returns-10 c = rw (rvalue-kind (c .before .before .before .before .before .before .before .before .before .args .row .now) 12 (c .before .before .before .before .before .match .keys10)) (c .before .before .put-binary4 .ensures)
+
+returns-11 : tie.Need-returns-11
 unfolding rvalueText
-returns-10 c = rw (rvalue-unknown (c .before .before .before .before .before .before .before .before .before .args .row .now) (c .before .before .before .before .before .match .rest)) (c .before .before .put .ensures)
+returns-11 c = rw (rvalue-unknown (c .before .before .before .before .before .before .before .before .before .args .row .now) (c .before .before .before .before .before .match .rest)) (c .before .before .put .ensures)
 
 pub put-rvalue-spec : {M : Type 1} → statement M
 put-rvalue-spec =
@@ -65,6 +69,8 @@ put-rvalue-spec =
     (λ c κs. search needs)
     (λ c. search needs)
     (λ c κs. search needs)
+    (λ c κs. search needs)
+    (λ c. search needs)
     (λ c κs. search needs)
     (λ c. search needs)
     (λ c κs. search needs)
@@ -93,4 +99,6 @@ put-rvalue-spec =
     (λ c. search needs)
     returns-9
     (λ c. search needs)
-    returns-10)
+    returns-10
+    (λ c. search needs)
+    returns-11)
