@@ -37,6 +37,40 @@ pub struct Script {
     pub commands: Vec<[u16; 4]>,
 }
 
+impl Script {
+    /// `pattern_match` of an image's last pattern from block 0, with one scope open and no else: local
+    /// 0 has a type, the bindings' locals follow it, and the elements lead on from local 0.
+    pub fn of_match(m: &Tables, root_type: u16, elements: &[[u16; 3]]) -> Script {
+        let mut commands = Vec::new();
+        let mut set = |table: usize, at: usize, word: usize| {
+            commands.push([SET_WORD, table as u16, at as u16, word as u16]);
+        };
+        let bound = m.bindings.len();
+        set(5, BLOCKS, 1);
+        set(5, LOCALS, 1 + bound);
+        set(5, SCOPES, 1);
+        set(LOCALS, 0, root_type.into());
+        for (binding, row) in m.bindings.iter().enumerate() {
+            set(LOCALS, binding + 1, row[0].into());
+            set(6, binding, binding + 1);
+        }
+        set(7, 1, elements.len());
+        set(7, BOUND_AT, bound);
+        set(7, DISCR_AT, ABSENT.into());
+        for (number, &[kind, a, b]) in elements.iter().enumerate() {
+            set(7, 2 + 2 * number, (kind + 8 * b).into());
+            set(7, 3 + 2 * number, a.into());
+        }
+        commands.push([7, m.patterns.len() as u16 - 1, 0, ABSENT]);
+        Script { image: m.encode(), commands }
+    }
+
+    /// As the other side reads it.
+    pub fn entry(&self) -> Vec<u8> {
+        records::entry_with(records::SCRIPT, &self.image, &self.commands.concat())
+    }
+}
+
 /// The scripts of a list, and how many images before them are answered by a line.
 pub fn scripts(list: &[u8]) -> (Vec<Script>, usize) {
     let records = records::read(list);
@@ -56,13 +90,15 @@ struct Body {
     bindings: Vec<u16>,
     words: Vec<u16>,
     visits: Vec<u16>,
+    /// The listing of what a call on a pattern makes is asked for.
+    listed: bool,
 }
 
 impl Body {
-    fn new() -> Body {
+    fn new(listed: bool) -> Body {
         let tables = std::array::from_fn(|n| vec![0; WIDTHS[n] * LIMITS[n]]);
         let (bindings, words, visits) = (vec![0; BINDINGS], vec![0; WORDS], vec![0; VISITS]);
-        Body { tables, counts: [0; 5], bindings, words, visits }
+        Body { tables, counts: [0; 5], bindings, words, visits, listed }
     }
 
     fn set_word(&mut self, table: u16, at: u16, word: u16) {
@@ -118,6 +154,7 @@ impl Body {
             root: self.words[0].into(),
             elements: elements.map(|word| [word[0] % 8, word[1], word[0] / 8]).collect(),
             discr: number(self.words[DISCR_AT]),
+            listed: self.listed,
         }
     }
 
@@ -177,6 +214,7 @@ fn read_call([op, a, b, c]: [u16; 4]) -> Option<Call> {
 struct Line {
     lines: Vec<String>,
     sort: String,
+    listing: Option<String>,
 }
 
 /// What is expected for a call. Whether a body may be handed in at all, number 2, only document 01
@@ -185,6 +223,7 @@ fn line(tables: Option<&Tables>, body: &mut Body, command: Call, answer: &str) -
     let told = |number: u16, body: &Body| Line {
         lines: vec![format!("refused {number} 65535 0{}", body.told(command.on_a_pattern()))],
         sort: format!("refused {number} (document 01 alone)"),
+        listing: None,
     };
     let Some(tables) = tables else { return told(1, body) };
     if answer.starts_with("refused 2 ") {
@@ -212,7 +251,7 @@ fn line(tables: Option<&Tables>, body: &mut Body, command: Call, answer: &str) -
     if sort == "accepted" {
         *body = after;
     }
-    Line { lines: vec![answer + &body.told(false)], sort: sort.to_owned() }
+    Line { lines: vec![answer + &body.told(false)], sort: sort.to_owned(), listing: None }
 }
 
 /// The same for a call on a pattern: a refusal of the walk leaves the tables, and no visits.
@@ -234,7 +273,25 @@ fn match_line(tables: &Tables, body: &mut Body, command: Call, made: Made, mut a
         *body = after;
     }
     let line = |answer: String| answer.trim_end().to_owned() + &body.told(true);
-    Line { lines: expected.answers().into_iter().map(line).collect(), sort: expected.sort + " (on a pattern)" }
+    let replaced = if expected.replaced { " by document 02's replacements" } else { "" };
+    Line {
+        lines: expected.answers().into_iter().map(line).collect(),
+        sort: format!("{}{replaced} (on a pattern)", expected.sort),
+        listing: made.listing,
+    }
+}
+
+/// Whether the line that a script's only call is answered with is as expected, and the listing of
+/// what the Rust made.
+pub fn of_one_call(script: &Script, answer: &str) -> (bool, Option<String>) {
+    let tables = image::read(&script.image);
+    let mut body = Body::new(true);
+    for &[_, a, b, c] in script.commands.iter().filter(|command| command[0] == SET_WORD) {
+        body.set_word(a, b, c);
+    }
+    let called = script.commands.iter().copied().find_map(read_call).expect("a call");
+    let expected = line(tables.as_ref(), &mut body, called, answer);
+    (expected.lines.iter().any(|line| line == answer), expected.listing)
 }
 
 /// Compares a list of scripts with the lines that the other side printed for it; answers how many
@@ -245,7 +302,7 @@ pub fn compare((scripts, before): &(Vec<Script>, usize), printed: &str) -> usize
     let mut differing = 0;
     for (number, script) in scripts.iter().enumerate() {
         let tables = image::read(&script.image);
-        let mut body = Body::new();
+        let mut body = Body::new(false);
         for (place, &command) in script.commands.iter().enumerate() {
             let [op, a, b, c] = command;
             if op == SET_WORD {

@@ -23,6 +23,8 @@ pub struct Handed {
     pub root: usize,
     pub elements: Vec<[u16; 3]>,
     pub discr: Option<usize>,
+    /// The listing is asked for, with the memory of strings in it.
+    pub listed: bool,
 }
 
 /// A call with its numbers.
@@ -66,6 +68,7 @@ pub enum CallAnswer {
 pub struct Made {
     pub answer: CallAnswer,
     pub outcome: Option<Outcome>,
+    pub listing: Option<String>,
     pub blocks: usize,
     pub locals: Vec<u16>,
     pub scopes: Vec<Vec<usize>>,

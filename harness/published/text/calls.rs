@@ -13,7 +13,7 @@ use super::{
 };
 use crate::answer::Listed;
 use crate::calls::{Call, CallAnswer, Handed, Made};
-use crate::mir::{FieldIndex, Projection};
+use crate::mir::{FieldIndex, Projection, pretty};
 use crate::trace;
 use crate::world::World;
 
@@ -41,16 +41,17 @@ pub fn lower_body_to_mir<'db>(
         locals: locals.iter().map(|&local| LocalId::from_number(local)).collect(),
     };
     ctx.drop_scopes = handed.scopes.iter().map(scope).collect();
-    let (answer, matched) = if call.on_a_pattern() {
-        hand_in(&mut ctx, handed);
-        let matched = panic::catch_unwind(AssertUnwindSafe(|| matched(&mut ctx, world, handed, call)));
-        (CallAnswer::Done, Some(matched))
-    } else {
+    if !call.on_a_pattern() {
         let answer = panic::catch_unwind(AssertUnwindSafe(|| answer(&mut ctx, call)));
-        (answer.unwrap_or(CallAnswer::Panicked), None)
-    };
+        trace::finish(ctx.result.basic_blocks.values());
+        return (made(&ctx, world, answer.unwrap_or(CallAnswer::Panicked)), None);
+    }
+    hand_in(&mut ctx, handed);
+    let mut listing = None;
+    let matched =
+        panic::catch_unwind(AssertUnwindSafe(|| matched(&mut ctx, world, handed, call, &mut listing)));
     trace::finish(ctx.result.basic_blocks.values());
-    (made(&ctx, world, answer), matched)
+    (Made { listing, ..made(&ctx, world, CallAnswer::Done) }, Some(matched))
 }
 
 /// The bindings' locals and the discriminant local.
@@ -75,12 +76,14 @@ fn element(world: &World, [kind, a, b]: Element) -> PlaceElem {
     }
 }
 
-/// Answers a call on a pattern, and makes document 02's replacements in what it made.
+/// Answers a call on a pattern, and makes document 02's replacements in what it made; where that is
+/// asked for, its listing too.
 fn matched<'db>(
     ctx: &mut MirLowerCtx<'_, 'db>,
     world: &'db World,
     handed: &Handed,
     call: Call,
+    listing: &mut Option<String>,
 ) -> Result<'db, Listed> {
     let block = BasicBlockId::from_number;
     let told = |number: Option<usize>| number.map_or("-".to_owned(), |number| number.to_string());
@@ -107,6 +110,7 @@ fn matched<'db>(
     let discr = told(ctx.discr_temp.as_ref().map(|place| place.local.number()));
     trace::finish(ctx.result.basic_blocks.values());
     let replaced = replace(&mut ctx.result, &world.tables, &[pattern as u16], handed.elements.len());
+    *listing = handed.listed.then(|| pretty::listing(&ctx.result, blocks.0, blocks.1, world, true));
     Ok(Listed { text: format!("{} discr {discr}", words(blocks)), replaced })
 }
 
@@ -154,6 +158,7 @@ fn made(ctx: &MirLowerCtx<'_, '_>, world: &World, answer: CallAnswer) -> Made {
     Made {
         answer,
         outcome: None,
+        listing: None,
         blocks: blocks.len(),
         locals: ctx.result.locals.iter().map(|(_, local)| local.ty.number()).collect(),
         scopes: ctx.drop_scopes.iter().map(locals_of).collect(),
