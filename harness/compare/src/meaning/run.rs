@@ -141,7 +141,11 @@ fn report(case: &Case, place: usize, rustc: &str) {
     let mut source = source(case);
     let text = source.pattern(&case.root, false);
     println!("differ: {text}");
-    println!("  on {} of {}", case.way.expression("value"), source.typed_value(&case.values[place], case.way.root_type));
+    println!(
+        "  on {} of {}",
+        case.way.expression("value"),
+        source.typed_value(&case.values[place], case.way.root_type)
+    );
     println!("  {} {}", source.declarations().replace('\n', " "), source.constants.replace('\n', " "));
     println!("  the run of the listing: {}\n  rustc: {rustc}", case.ends[place]);
 }
@@ -214,8 +218,9 @@ fn told_end(case: &Case, listing: &str, value: &Value) -> String {
 
 /// The other side prints the same listings, so what is run is its listing too.
 fn same_listings(cases: &[Case], other: &Other) {
-    let by_program =
-        |case: &&Case| case.way.is_empty() && case.m.root_type(case.m.patterns.len() - 1) == Some(case.place_type.into());
+    let by_program = |case: &&Case| {
+        case.way.is_empty() && case.m.root_type(case.m.patterns.len() - 1) == Some(case.place_type.into())
+    };
     let compared: Vec<&Case> = cases.iter().filter(by_program).collect();
     let images: Vec<Vec<u8>> = compared.iter().map(|case| case.m.encode()).collect();
     for (case, answer) in compared.iter().zip(other.answers(&images)) {

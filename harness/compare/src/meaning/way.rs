@@ -89,7 +89,11 @@ fn around(m: &mut Tables, rng: &mut Rng, type_: u16) -> Step {
             Step { kind: FIELD, number, of: m.add_adt(STRUCT, variant, 1) }
         }
         3 => Step { kind: rng.pick(&[INDEX, INDEX_FROM_END]), number, of: m.add_type(ARRAY, type_, 3, 0, 1) },
-        _ => Step { kind: rng.pick(&[INDEX, INDEX_FROM_END]), number, of: m.add_type(SLICE_TYPE, type_, 0, 0, 0) },
+        _ => Step {
+            kind: rng.pick(&[INDEX, INDEX_FROM_END]),
+            number,
+            of: m.add_type(SLICE_TYPE, type_, 0, 0, 0),
+        },
     }
 }
 
