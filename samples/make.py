@@ -70,12 +70,15 @@ same; with `--check` it writes none and fails if one differs.
 
 ## Listings
 
-Written from document 01 and the Rust alone, not from the definitions:
+Written from the documents and the Rust alone, not from the definitions:
 
-- `lowering.py`: what the listing program prints. `python3 samples/lowering.py FILE`
-  prints the listing of an image. `builder.py` holds what lower.rs and mir.rs give it.
-- `corners.py`: checks document 01's corners, which are in `accepted.py` and
-  `refusals.py`. `python3 samples/corners.py` prints each with its listing's first line.
+- `lowering.py`: what the listing program prints; the end of a half-open range and the
+  offsets of suffix items are document 02's, all else is the Rust's. `python3
+  samples/lowering.py FILE` prints the listing of an image. `builder.py` holds what lower.rs
+  and mir.rs give it.
+- `corners.py`: checks document 01's corners and document 02's on these two shapes, which are
+  in `accepted.py` and `refusals.py`. `python3 samples/corners.py` prints each with its
+  listing's first line.
 - `judged.py`: whether patterns fit, which values match, what they bind and where a run comes,
   judged by hand from document 01 and the Reference; `sketch.py` is the short notation for
   their images. `corner_theorems.py` prints these and the corners as rows of theorems.
@@ -133,7 +136,7 @@ answer to a call on a pattern is `then N else N discr N`, `-` for none and witho
 and of the bindings' locals. `calls.txt` has for each script the number of its first line in
 `crates/replay/stdout`, its name, and what it shows.
 
-- `calls.py`: answers the calls, by document 01 and the rows of `docs/BODY.md` alone, and
+- `calls.py`: answers the calls, by the documents and the rows of `docs/BODY.md` alone, and
   names the rules that number 2 is given for. `call_matches.py` has the calls on patterns, which
   `lowering.py` lowers on the body that is handed in.
 - `call_notation.py`: the scripts' image, and a short notation for commands.
@@ -141,7 +144,8 @@ and of the bindings' locals. `calls.txt` has for each script the number of its f
 - `match_corners.py`: the same for calls on patterns: an else that is supplied, places with a
   projection of every sort, of 16 and of 17 elements, several scopes, bindings without a local;
   and number 2, every rule broken alone.
-- `call_faults.py`: numbers 1 and 2 on bodies; every rule is broken alone at least once.
+- `call_faults.py`: numbers 1 and 2 on bodies; every rule is broken alone at least once. Of a
+  statement's kinds 12 is the last one and 13 the first that there is not.
 - `call_chance.py`, `match_chance.py`: random scripts, from a fixed seed.
 - `call_list.py`: judges them all, and holds them to the answers that they state.
 

@@ -67,7 +67,7 @@ module _ (image bindings : List ℕ) where
     counts (Pat.Tuple h args ellipsis) = counts-entered (inside-tuple h ellipsis (each args))
     counts (Pat.Or h alts) = counts-entered (inside-or h (each alts))
     counts (Pat.Record h fields args v) = counts-entered (inside-variant h v (fielded-record fields (each args)))
-    counts (Pat.Range h start end halfOpen) = counts-entered (inside-range image h start end)
+    counts (Pat.Range h start end halfOpen) = counts-entered (inside-range image h start end halfOpen)
     counts (Pat.Slice h prefix rest suffix) = counts-entered (inside-slice bindings h (restOf rest) (each prefix) (each suffix))
     counts (Pat.Path h target) = counts-entered (inside-path image bindings h target)
     counts (Pat.Lit h operand) = counts-entered (inside-lit image h operand)

@@ -12,7 +12,7 @@ use Rattle.place.specs.declared.elems.ProjectionElem.{ProjectionElem}
 use Rattle.place.specs.declared.place_ty.PlaceTy.{PlaceTy}
 use Rattle.place.specs.PlaceTypes.{projectionTy, multiProjectionTy}
 use Rattle.pattern_matching.specs.Variants.{shapeOf, fieldsUpTo}
-use Rattle.pattern_matching.specs.Slices.{RestOf}
+use Rattle.pattern_matching.specs.Slices.{RestOf, suffixItems}
 use Rattle.pattern_matching.specs.Patterns.{restOf}
 
 -- the type of a place behind so many references
@@ -104,7 +104,7 @@ ofVariant image ty (some v) args = downcast (isEnum (shapeOf image ty)) v (args 
 unfoldable pub items : {A : Type 0} → List A → List A → List (Argument A)
 items prefix suffix =
     zip (map (λ i. ProjectionElem.Index i) (upFrom 0 (length prefix))) prefix
-    ++ zip (map (λ i. ProjectionElem.IndexFromEnd i) (upFrom 0 (length suffix))) suffix
+    ++ zip (suffixItems (length suffix)) suffix
 
 -- what holds of one of the arguments, each at its type
 unfoldable pub someArgument : List ℕ → PlaceTy → List (Argument (PlaceTy → Bool)) → Bool

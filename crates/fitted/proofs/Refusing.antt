@@ -205,7 +205,7 @@ module _ (image bindings : List ℕ) (v : valid image ≡ true) where
         inside-variant (h .number) (h .ty) w _ there has (fielded-record fields (variantFields image shape w) (each args below) row present))
     good (Pat.Range h start end halfOpen) t here fits taken =
         let (_, _, first, last) = range-fits image h (some t) start end halfOpen fits in
-        at-head (Pat.Range h start end halfOpen) t here fits (λ there. good-range image (few-types image v) (h .number) (h .ty) start end (PlaceTy.Ty (h .ty)) first last)
+        at-head (Pat.Range h start end halfOpen) t here fits (λ there. good-range image (few-types image v) (h .number) (h .ty) start end halfOpen (PlaceTy.Ty (h .ty)) first last)
     good (Pat.Slice h prefix rest suffix) t here fits taken =
         let shape = tyOf image (h .ty) .shape in
         let (kind, has, front, back) = four (leb 8 (kindNumber shape)) (restTaken? bindings rest) (noneRefused image bindings prefix) (noneRefused image bindings suffix) taken in

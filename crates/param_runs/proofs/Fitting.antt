@@ -12,7 +12,6 @@ use Rattle.lowered_params.specs.Params.{Param}
 use Rattle.meaning.specs.Values.{Value, valueFits}
 use Rattle.meaning.specs.Matching.{matches}
 use Rattle.meaning.specs.Fits.{fits}
-use Rattle.meaning.specs.Differences.{asTheReference}
 use Rattle.correctness.proofs.Walking.{Shares}
 use Rattle.param_runs.specs.Returned.{ownLocal}
 use Rattle.param_runs.specs.Through.{plain, patternFits, paramFits, paramsFit}
@@ -21,9 +20,8 @@ use Rattle.param_runs.proofs.Differing.{BoundBelow, fits-later}
 use Rattle.param_runs.proofs.Typing.{TypedFrom}
 
 -- what is asked of a parameter that is lowered
-pub record Lowered (image bindings : List ℕ) (discr : DiscrTemp) (q : Param) (l : ℕ) : Type 0 where
-  pub fitting : fits image bindings l discr (q .ty) (tree image (q .pattern)) ≡ true
-  pub unlisted : asTheReference (tree image (q .pattern)) ≡ true
+abbrev pub Lowered : List ℕ → List ℕ → DiscrTemp → Param → ℕ → Type 0
+Lowered image bindings discr q l = fits image bindings l discr (q .ty) (tree image (q .pattern)) ≡ true
 
 -- what is asked of any parameter
 pub record Asked (image bindings : List ℕ) (discr : DiscrTemp) (q : Param) (l : ℕ) (v : Value) : Type 0 where
@@ -44,10 +42,8 @@ module _ (image bindings : List ℕ) where
       let first = and-left (a && b) c e in
       let shape = and-left a b first in
       record {
-        owns = λ own. plain-owns image bindings pat l v (chosen (plain pat) (fits image bindings l discr (q .ty) pat && asTheReference pat) own shape) own;
-        lowered = λ other.
-            let both = left (plain pat) (fits image bindings l discr (q .ty) pat && asTheReference pat) other shape in
-            record { fitting = and-left (fits image bindings l discr (q .ty) pat) (asTheReference pat) both; unlisted = and-right (fits image bindings l discr (q .ty) pat) (asTheReference pat) both };
+        owns = λ own. plain-owns image bindings pat l v (chosen (plain pat) (fits image bindings l discr (q .ty) pat) own shape) own;
+        lowered = λ other. left (plain pat) (fits image bindings l discr (q .ty) pat) other shape;
         valued = and-right a b first;
         matched = and-right (a && b) c e;
       }
@@ -81,14 +77,10 @@ module _ (image bindings : List ℕ) where
         and-true (patternFits image bindings (ctx₁ .discr) pat l (q .ty) && b) c
         (and-true (patternFits image bindings (ctx₁ .discr) pat l (q .ty)) b (by (ownLocal bindings pat l) (and-left a b first)) (and-right a b first)) (and-right (a && b) c e)
       where
-        by : (t : Bool) → cond t (plain (tree image (q .pattern))) (fits image bindings l (ctx .discr) (q .ty) (tree image (q .pattern)) && asTheReference (tree image (q .pattern))) ≡ true →
-            cond t (plain (tree image (q .pattern))) (fits image bindings l (ctx₁ .discr) (q .ty) (tree image (q .pattern)) && asTheReference (tree image (q .pattern))) ≡ true
+        by : (t : Bool) → cond t (plain (tree image (q .pattern))) (fits image bindings l (ctx .discr) (q .ty) (tree image (q .pattern))) ≡ true →
+            cond t (plain (tree image (q .pattern))) (fits image bindings l (ctx₁ .discr) (q .ty) (tree image (q .pattern))) ≡ true
         by true e = e
-        by false e =
-            let pat = tree image (q .pattern) in
-            let f = fits image bindings l (ctx .discr) (q .ty) pat in
-            and-true (fits image bindings l (ctx₁ .discr) (q .ty) pat) (asTheReference pat)
-            (fits-later image bindings l ctx ctx₁ (q .ty) pat s i below (and-left f (asTheReference pat) e)) (and-right f (asTheReference pat) e)
+        by false e = fits-later image bindings l ctx ctx₁ (q .ty) (tree image (q .pattern)) s i below e
 
     -- all of them
     pub fit-later : (qs : List Param) (l : ℕ) (vs : List Value) → TypedFrom (ctx .state .locals) l qs → paramsFit image bindings (ctx .discr) qs l vs ≡ true →

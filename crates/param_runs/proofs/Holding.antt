@@ -16,7 +16,6 @@ use Rattle.meaning.specs.Binding.{binds}
 use Rattle.meaning.specs.Fit.{boundIn}
 use Rattle.meaning.specs.Fits.{present}
 use Rattle.correctness.specs.Demand2.{IsNotDiscr, after}
-use Rattle.correctness.proofs.Reading.{reads-the-same}
 use Rattle.correctness.proofs.Permuting.{Each, each-map, localOf, after-untouched}
 use Rattle.correctness.proofs.BindingNames.{names, Among, binds-among, locals-apart, present-member, member-left, member-right}
 use Rattle.correctness.proofs.BindingLocals.{all-local}
@@ -48,19 +47,18 @@ module _ (image bindings : List ℕ) (ctx : Ctx) (q : Param) (l : ℕ) (v : Valu
 
   -- its locals
   locals-differ : Differ bindings l (ctx .discr)
-  locals-differ = differ bindings l (ctx .discr) (clauses image bindings l ctx (q .ty) pat (low .fitting) .locals)
+  locals-differ = differ bindings l (ctx .discr) (clauses image bindings l ctx (q .ty) pat low .locals)
 
   -- a binding that it has has a local
   has-local : (x : ℕ) → member x (names (boundIn image pat)) ≡ true → getD bindings x 65535 ≢ 65535
-  has-local = all-local image bindings pat (clauses image bindings l ctx (q .ty) pat (low .fitting) .reached)
+  has-local = all-local image bindings pat (clauses image bindings l ctx (q .ty) pat low .reached)
 
   -- a local that is none of its bindings' is left as it was
   untouched : (k : ℕ) (held : Held) → ((x : ℕ) → member x (names (boundIn image pat)) ≡ true → k ≢ getD bindings x 65535) → after bindings (binds image pat (whole l) v) k held ≡ held
   untouched k held f =
       after-untouched bindings (binds image pat (whole l) v) k held
       (each-map (Among (boundIn image pat)) (λ b. k ≢ localOf bindings b) (binds image pat (whole l) v) (λ b m. f (b .binding) m)
-      (subst (λ (x : Pat). Each (Among (boundIn image pat)) (binds image x (whole l) v)) (reads-the-same pat (low .unlisted))
-      (binds-among image pat (clauses image bindings l ctx (q .ty) pat (low .fitting) .bindings-fit) (whole l) v)))
+      (binds-among image pat (clauses image bindings l ctx (q .ty) pat low .bindings-fit) (whole l) v))
 
   -- a parameter with other bindings: its local is neither the discriminant's nor one of those
   record Other (k : ℕ) : Type 0 where
@@ -82,7 +80,7 @@ module _ (image bindings : List ℕ) (ctx : Ctx) (q : Param) (l : ℕ) (v : Valu
           }
       by false e =
           let low′ = ask .lowered e in
-          let d = differ bindings k (ctx .discr) (clauses image bindings k ctx (q′ .ty) (tree image (q′ .pattern)) (low′ .fitting) .locals) in
+          let d = differ bindings k (ctx .discr) (clauses image bindings k ctx (q′ .ty) (tree image (q′ .pattern)) low′ .locals) in
           record {
             discr = d .root-discr;
             bound = λ x m is. d .root-bound (subst (λ (y : ℕ). member y (present bindings) ≡ true) (sym is) (present-member bindings x (has-local x m)));

@@ -111,7 +111,7 @@ module _ (image bindings : List ℕ) (M : Mir) where
         (record { walk = own-walked ctx (current .0) env (o .binding) l v (starts .inside) (o .local) holds; held = held }))
         (λ r₁ other e₁ onward.
         let low = ask .lowered other in
-        let w = lowered-walks image bindings q l v ctx current r₁ M env image-valid image-bytes named starts there is (low .fitting) (low .unlisted) (ask .valued) (ask .matched) e₁ onward in
+        let w = lowered-walks image bindings q l v ctx current r₁ M env image-valid image-bytes named starts there is low (ask .valued) (ask .matched) e₁ onward in
         record {
           walk = w;
           held = held-later image bindings ctx q l v low env (w .env′) (w .locals) qs (l + 1) vs (fit-rest image bindings (ctx .discr) q qs l v vs fit) typed small

@@ -28,7 +28,6 @@ use Rattle.meaning.specs.Matching.{matches, Bound}
 use Rattle.meaning.specs.Binding.{binds}
 use Rattle.meaning.specs.Fit.{boundIn}
 use Rattle.meaning.specs.Fits.{fits}
-use Rattle.meaning.specs.Differences.{asTheReference}
 use Rattle.correctness.specs.Demand2.{IsNotDiscr, after, Distinct}
 use Rattle.param_runs.specs.Returned.{ownLocal}
 
@@ -65,9 +64,9 @@ plain (Pat.Box h) = false
 plain (Pat.Deref h) = false
 
 module _ (image : List ℕ) where
-  -- a parameter fits, whose local is l: one that needs nothing is a plain `x`, and any other one is a pattern that fits, outside the listed differences
+  -- a parameter fits, whose local is l: one that needs nothing is a plain `x`, and any other one is a pattern that fits
   unfoldable pub patternFits : List ℕ → DiscrTemp → Pat → ℕ → ℕ → Bool
-  patternFits bindings discr pat l t = cond (ownLocal bindings pat l) (plain pat) (fits image bindings l discr t pat && asTheReference pat)
+  patternFits bindings discr pat l t = cond (ownLocal bindings pat l) (plain pat) (fits image bindings l discr t pat)
 
   -- and its value is of its type, and matches
   unfoldable pub paramFits : List ℕ → DiscrTemp → Param → ℕ → Value → Bool
