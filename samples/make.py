@@ -104,23 +104,49 @@ Written from the documents and the Rust alone, not from the definitions:
 - `fits.py`: judges whether a pattern fits, by document 01's paragraph "A pattern fits when"
   alone.
 - `fit_list.py`: the stored questions, and what their words are: the corners, numbers that
-  name nothing, and random patterns with all sorts of locals. `fits.txt` has for each its
+  name nothing, what is refused behind a wildcard and before it, and random patterns with all
+  sorts of locals. `fits.txt` has for each its
   number from 1, its name, and the answer.
 
 ## Calls
 
-A command of a script is one of the six calls on a body and its scopes, or sets a word of
-their tables, or a count. For each call a line is printed: its answer, the five counts, and a
-checksum of each table. `calls.txt` has for each script the number of its first line in
+A command of a script is one of the six calls on a body and its scopes, one of the three calls
+on a pattern, or sets a word of their tables, or a count:
+
+| op | words a, b, c |
+|---|---|
+| 0 `temp` | type, block |
+| 1 `merge_blocks` | two blocks, 65535 for none |
+| 2 `push_drop_scope`, 3 `pop_assume_dropped` | |
+| 4 `pop_and_drop` | block |
+| 5 `drop_until_scope` | index, block |
+| 6 a word is set | table, place in it, word |
+| 7 `pattern_match` | pattern, block, else or 65535 |
+| 8 `pattern_match_assignment` | pattern, block |
+| 9 `match_self_param` | binding, block, local |
+
+The tables are 0 to 4 as `docs/BODY.md` has them, 5 the five counts, 6 the bindings' locals, 256
+words, and 7 what else a call on a pattern is handed, 36 words: the place's local, its count of
+elements, 16 elements of two words as a row has them (0 where the count does not reach), how many
+of the bindings' words are handed in, and the discriminant local or 65535. All start as zeros.
+
+For each call a line is printed: its answer, the five counts, and a checksum of each table. The
+answer to a call on a pattern is `then N else N discr N`, `-` for none and without `discr` for
+`match_self_param`, or the refusal; behind the five checksums stand those of the visits' 512 words
+and of the bindings' locals. `calls.txt` has for each script the number of its first line in
 `crates/replay/stdout`, its name, and what it shows.
 
 - `calls.py`: answers the calls, by the documents and the rows of `docs/BODY.md` alone, and
-  names the rules that number 2 is given for.
+  names the rules that number 2 is given for. `call_matches.py` has the calls on patterns, which
+  `lowering.py` lowers on the body that is handed in.
 - `call_notation.py`: the scripts' image, and a short notation for commands.
 - `call_scripts.py`: document 01's corners, the limits, restoration, zeros above the counts.
-- `call_faults.py`: numbers 1 and 2; every rule is broken alone at least once. Of a
+- `match_corners.py`: the same for calls on patterns: an else that is supplied, places with a
+  projection of every sort, of 16 and of 17 elements, several scopes, bindings without a local;
+  and number 2, every rule broken alone.
+- `call_faults.py`: numbers 1 and 2 on bodies; every rule is broken alone at least once. Of a
   statement's kinds 12 is the last one and 13 the first that there is not.
-- `call_chance.py`: random scripts, from a fixed seed.
+- `call_chance.py`, `match_chance.py`: random scripts, from a fixed seed.
 - `call_list.py`: judges them all, and holds them to the answers that they state.
 
 ## Pattern texts
