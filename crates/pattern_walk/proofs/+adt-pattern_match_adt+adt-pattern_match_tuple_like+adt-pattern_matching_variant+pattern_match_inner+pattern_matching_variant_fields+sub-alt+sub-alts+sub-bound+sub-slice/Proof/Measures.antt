@@ -22,31 +22,31 @@ use Rattle.pattern_walk.proofs.sub.slice.Reads as sub·slice
 use Rattle.pattern_walk.proofs.sub.slice.Kinds as sub·slice-kinds
 
 abbrev pub μ-adt·pattern-match-adt : Measures 7 adt·pattern-match-adt-kinds.ps ℕ
-μ-adt·pattern-match-adt κs a = 16 * (a .1 .1 .1 .1 .1 .1 .1 .1 .1 .1 .1 .0 .0) + 1
+μ-adt·pattern-match-adt κs a = 16 * (a .1 .1 .1 .1 .1 .1 .1 .1 .1 .1 .0 .0) + 1
 
 abbrev pub μ-adt·pattern-match-tuple-like : Measures 7 adt·pattern-match-tuple-like-kinds.ps ℕ
-μ-adt·pattern-match-tuple-like κs a = 16 * (a .1 .1 .1 .1 .1 .1 .1 .1 .1 .1 .1 .0 .0) + 2
+μ-adt·pattern-match-tuple-like κs a = 16 * (a .1 .1 .1 .1 .1 .1 .1 .1 .1 .1 .0 .0) + 2
 
 abbrev pub μ-adt·pattern-matching-variant : Measures 7 adt·pattern-matching-variant-kinds.ps ℕ
-μ-adt·pattern-matching-variant κs a = 16 * (a .1 .1 .1 .1 .1 .1 .1 .1 .1 .1 .1 .0 .0) + 4
+μ-adt·pattern-matching-variant κs a = 16 * (a .1 .1 .1 .1 .1 .1 .1 .1 .1 .1 .0 .0) + 4
 
 abbrev pub μ-pattern-match-inner : Measures 7 pattern-match-inner-kinds.ps ℕ
-μ-pattern-match-inner κs a = 16 * (a .1 .1 .1 .1 .1 .1 .1 .1 .1 .1 .1 .0 .0) + 6
+μ-pattern-match-inner κs a = 16 * (a .1 .1 .1 .1 .1 .1 .1 .1 .1 .1 .0 .0) + 6
 
 abbrev pub μ-pattern-matching-variant-fields : Measures 7 pattern-matching-variant-fields-kinds.ps ℕ
-μ-pattern-matching-variant-fields κs a = 16 * (a .1 .1 .1 .1 .1 .1 .1 .1 .1 .1 .1 .0 .0) + 3
+μ-pattern-matching-variant-fields κs a = 16 * (a .1 .1 .1 .1 .1 .1 .1 .1 .1 .1 .0 .0) + 3
 
 abbrev pub μ-sub·alt : Measures 7 sub·alt-kinds.ps ℕ
-μ-sub·alt κs a = 16 * (a .1 .1 .1 .1 .1 .1 .1 .1 .1 .1 .1 .0 .0) + 7
+μ-sub·alt κs a = 16 * (a .1 .1 .1 .1 .1 .1 .1 .1 .1 .1 .0 .0) + 7
 
 abbrev pub μ-sub·alts : Measures 7 sub·alts-kinds.ps ℕ
-μ-sub·alts κs a = 16 * (a .1 .1 .1 .1 .1 .1 .1 .1 .1 .1 .1 .0 .0) + 1
+μ-sub·alts κs a = 16 * (a .1 .1 .1 .1 .1 .1 .1 .1 .1 .1 .0 .0) + 1
 
 abbrev pub μ-sub·bound : Measures 7 sub·bound-kinds.ps ℕ
-μ-sub·bound κs a = 16 * (a .1 .1 .1 .1 .1 .1 .1 .1 .1 .1 .1 .0 .0) + 1
+μ-sub·bound κs a = 16 * (a .1 .1 .1 .1 .1 .1 .1 .1 .1 .1 .0 .0) + 1
 
 abbrev pub μ-sub·slice : Measures 7 sub·slice-kinds.ps ℕ
-μ-sub·slice κs a = 16 * (a .1 .1 .1 .1 .1 .1 .1 .1 .1 .1 .1 .0 .0) + 2
+μ-sub·slice κs a = 16 * (a .1 .1 .1 .1 .1 .1 .1 .1 .1 .1 .0 .0) + 2
 
 abbrev pub adt·pattern-match-adt-at : ℕ → In 7 adt·pattern-match-adt-kinds.ps
 adt·pattern-match-adt-at t = and 7 adt·pattern-match-adt-kinds.ps (is 7 adt·pattern-match-adt-kinds.ps μ-adt·pattern-match-adt t) adt·pattern-match-adt.Pre
