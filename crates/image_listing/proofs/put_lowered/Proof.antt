@@ -24,8 +24,8 @@ array-share-prefix-numbers c = search (needs, few (c .before .before .before .be
 slice-aggregate-pattern-match : tie.Need-slice-aggregate-pattern-match
 slice-aggregate-pattern-match c = sym (length-take-le _ _ (omega (arith, few (c .before .before .before .before .before .before .before .before .before .before .before .before .before .before .before .before .before .before .before .before .before .before .before .before .before .before .before .before .before .before .before .before .before .before .args .image .now) (c .before .before .before .before .before .before .before .before .before .before .before .before .before .before .before .before .before .before .before .before .before .before .before .before .before .before .before .before .before .before .before .before .before .before .pre .0) (c .before .before .before .before .before .before .before .before .before .before .before .before .before .before .before .before .before .before .before .before .before .before .before .before .before .before .before .before .before .before .before .before .before .before .pre .1))))
 
-sub-t47 : tie.Need-sub-t47
-sub-t47 c = some-pattern (c .before .before .before .before .before .before .before .before .before .before .before .before .before .before .before .before .before .before .before .before .before .before .before .before .before .before .before .before .before .before .before .before .before .before .before .before .before .before .before .before .before .args .image .now) (c .before .before .before .before .before .before .before .before .before .before .before .before .before .before .before .before .before .before .before .before .before .before .before .before .before .before .before .before .before .before .before .before .before .before .before .before .before .before .before .before .before .pre .0) (c .before .before .before .before .before .before .before .before .before .before .before .before .before .before .before .before .before .before .before .before .before .before .before .before .before .before .before .before .before .before .before .before .before .before .before .before .before .before .before .before .before .pre .1)
+sub-t46 : tie.Need-sub-t46
+sub-t46 c = some-pattern (c .before .before .before .before .before .before .before .before .before .before .before .before .before .before .before .before .before .before .before .before .before .before .before .before .before .before .before .before .before .before .before .before .before .before .before .before .before .before .before .before .before .args .image .now) (c .before .before .before .before .before .before .before .before .before .before .before .before .before .before .before .before .before .before .before .before .before .before .before .before .before .before .before .before .before .before .before .before .before .before .before .before .before .before .before .before .before .pre .0) (c .before .before .before .before .before .before .before .before .before .before .before .before .before .before .before .before .before .before .before .before .before .before .before .before .before .before .before .before .before .before .before .before .before .before .before .before .before .before .before .before .before .pre .1)
 
 put-answer-requires : tie.Need-put-answer-requires
 put-answer-requires c κs = listable (c .before .before .before .before .before .before .before .before .before .before .before .before .before .before .before .before .pattern-match .result) (c .before .before .before .before .before .before .before .before .before .before .before .before .before .before .before .before .pattern-match .ensures)
@@ -63,7 +63,7 @@ put-lowered-spec =
     (λ c κs. search needs)
     array-share-prefix-numbers
     slice-aggregate-pattern-match
-    sub-t47
+    sub-t46
     (λ c κs. search needs)
     put-answer-requires
     same-length

@@ -17,11 +17,11 @@ abbrev μ-loop : tie.MeasureT-loop
 loop-holds : tie.Need-loop-holds Inv-loop μ-loop
 loop-holds c = params-begin (c .before .before .before .before .before .before .before .before .pre)
 
-mul-t39 : tie.Need-mul-t39 Inv-loop μ-loop
-mul-t39 c = omega (arith, first-words (c .before .before .before .before .before .before .loop .inv .listed) (c .before .before .before .before .before .loop-test .taken), c .before .before .before .before .before .before .before .before .before .before .before .before .before .before .before .good)
+mul-t36 : tie.Need-mul-t36 Inv-loop μ-loop
+mul-t36 c = omega (arith, first-words (c .before .before .before .before .before .before .loop .inv .listed) (c .before .before .before .before .before .loop-test .taken), c .before .before .before .before .before .before .before .before .before .before .before .before .before .before .before .good)
 
-shared-slice-read-t41 : tie.Need-shared-slice-read-t41 Inv-loop μ-loop
-shared-slice-read-t41 c = omega (arith, first-words (c .before .before .before .before .before .before .before .loop .inv .listed) (c .before .before .before .before .before .before .loop-test .taken))
+shared-slice-read-t38 : tie.Need-shared-slice-read-t38 Inv-loop μ-loop
+shared-slice-read-t38 c = omega (arith, first-words (c .before .before .before .before .before .before .before .loop .inv .listed) (c .before .before .before .before .before .before .loop-test .taken))
 
 lower-param-requires : tie.Need-lower-param-requires Inv-loop μ-loop
 lower-param-requires c κs = (param-walkable (c .before .before .before .before .before .before .before .loop .inv) (c .before .before .before .before .before .before .loop-test .taken) (c .before .before .before .before .before .before .before .before .before .before .before .before .before .before .before .before .pre .image-valid) (c .before .before .before .before .before .before .before .before .before .before .before .before .before .before .before .before .pre .whole) (c .before .before .before .before .before .before .before .before .before .before .before .before .before .before .before .before .pre .locals-of-bindings), first-pattern (c .before .before .before .before .before .before .before .loop .inv .listed) (c .before .before .before .before .before .before .loop-test .taken))
@@ -84,8 +84,8 @@ lower-params-spec =
     Inv-loop
     μ-loop
     loop-holds
-    mul-t39
-    shared-slice-read-t41
+    mul-t36
+    shared-slice-read-t38
     lower-param-requires
     (λ c. search needs)
     same-length
