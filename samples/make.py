@@ -153,6 +153,11 @@ and of the bindings' locals. `calls.txt` has for each script the number of its f
 
 - `tokens.py`: the tokens of pattern texts, written from the Reference's chapters on the
   lexical structure alone. `python3 samples/tokens.py TEXT..` prints them, one line a text.
+- `grammar.py`: what pattern texts are, tree or position, written from the Reference's chapter on
+  patterns alone, over the tokens of `tokens.py`. It makes random texts as rows (`--rows`) and judges
+  the rows of antt files again (`--check crates/grammar_samples/proofs/*.antt`).
+- `grammar_prefixes.py`: a third opinion on where a text fails, from the grammar's productions as a
+  table. `python3 samples/grammar_prefixes.py SEED COUNT` holds random texts to it.
 """
 
 
