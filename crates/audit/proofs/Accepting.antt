@@ -28,7 +28,7 @@ use Rattle.audit.specs.Call.{lowering}
 
 -- A call whose image, body and numbers are taken, and whose pattern fits its place, of the type t.
 module _ (call : Call) (taken : Taken call) (t : ℕ) (typed : placeTy (call .image) (before call) (call .place) ≡ PlaceTy.Ty t) (named : t < typeCount (call .image))
-    (fitting : fits (call .image) (call .bindings) (call .place .local .0) (call .discr) t (patternOf call) ≡ true) where
+    (fitting : fits (call .image) (call .bindings) (call .place .local .0) t (patternOf call) ≡ true) where
   -- with room by document 01's counts (blocks, statements, locals, entries, elements) and a scope open, whatever the contract lets it answer is an acceptance
   pub a-fitting-pattern-with-room-and-a-scope-open-is-accepted : HasRoom call → ScopeOpen (startOf call) →
       (answer : MatchCall) (body : Body) (visits : List ℕ) → Promised call answer body visits → IsAcceptance call answer body visits
@@ -53,7 +53,7 @@ locals-and-entries-are-as-many-as-counted = calls.made
 -- The same of the definition, from any context: the lowering gives something.
 module _ (image bindings : List ℕ) (pat : Pat) (ctx : Ctx) (place : Place) (t : ℕ) (image-valid : valid image ≡ true) (named : t < typeCount image)
     (typed : placeTy image (ctx .state) place ≡ PlaceTy.Ty t) (rooted : place .local .0 < length (ctx .state .locals)) (whole : length (place .elems) ≡ 16)
-    (fitting : fits image bindings (place .local .0) (ctx .discr) t pat ≡ true) where
+    (fitting : fits image bindings (place .local .0) t pat ≡ true) where
   pub a-fitting-pattern-with-room-and-a-scope-open-is-lowered : (current : BasicBlockId) (els : OptBlock) → Room image pat ctx els place → ScopeOpen ctx →
       (r : Out) × (lowering image bindings pat ctx current els place ≡ ok r)
   a-fitting-pattern-with-room-and-a-scope-open-is-lowered current els room scope =

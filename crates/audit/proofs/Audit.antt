@@ -26,11 +26,10 @@ use Rattle.meaning.specs.Running.{Env}
 use Rattle.meaning.specs.Matching.{matches}
 use Rattle.meaning.specs.Binding.{binds}
 use Rattle.meaning.specs.Fits.{fits}
-use Rattle.meaning.specs.Differences.{asTheReference, asTheRustReads}
 use Rattle.correctness.specs.Demand2.{pathOf, Fitting, Stops, Comes}
 use Rattle.called.specs.Call.{Call, HandedOut, Accepted, Refused, before, after, patternOf, startOf, resultOf}
 use Rattle.called.specs.Passes.{TwoPasses}
-use Rattle.called.proofs.Runs.{if-it-matches, if-not, stops, if-the-rust-matches, if-the-rust-does-not}
+use Rattle.called.proofs.Runs.{if-it-matches, if-not, stops}
 use Rattle.called.proofs.Bodies.{gives, only-those-open, those-open, two-passes, counted, reached-visits, other-visits}
 use Rattle.called.proofs.Refusals.{fit-refused}
 use Rattle.audit.specs.Started.{Row, answerBy}
@@ -47,14 +46,14 @@ what-is-handed-out-is-what-the-definition-gives = gives
 module _ (call : Call) (out : HandedOut) (accepted : Accepted call out) (t : ℕ) (typed : placeTy (call .image) (before call) (call .place) ≡ PlaceTy.Ty t)
     (named : t < typeCount (call .image)) (v : Value) (fitting : Fitting (call .image) (call .bindings) (startOf call) (call .place) t (patternOf call) v) (M : Mir)
     (goes-on : GoesOn (mirOf (after out)) M) (env : Env) where
-  -- "the blocks lead a value to the then block when the Reference says it matches, with the bindings it says", outside the listed differences: to the end of then, every
+  -- "the blocks lead a value to the then block when the Reference says it matches, with the bindings it says": to the end of then, every
   -- other local handed in but the discriminant's unchanged
-  pub a-value-that-matches-comes-to-then : asTheReference (patternOf call) ≡ true → matches (call .image) (patternOf call) v ≡ true →
+  pub a-value-that-matches-comes-to-then : matches (call .image) (patternOf call) v ≡ true →
       Comes (call .image) (call .bindings) M (call .place) v (startOf call) (call .start) env (binds (call .image) (patternOf call) (pathOf (call .place)) v) (out .then .0) (drop (out .counts .statements) (M .lines))
   a-value-that-matches-comes-to-then = if-it-matches call out accepted t typed named v fitting M goes-on env
 
   -- "and otherwise to the else block": on reaching it, with nothing bound
-  pub any-other-value-comes-to-else : asTheReference (patternOf call) ≡ true → matches (call .image) (patternOf call) v ≡ false →
+  pub any-other-value-comes-to-else : matches (call .image) (patternOf call) v ≡ false →
       (e : BasicBlockId) × (out .else ≡ OptBlock.Some e) × Comes (call .image) (call .bindings) M (call .place) v (startOf call) (call .start) env [] (e .0) (M .lines)
   any-other-value-comes-to-else = if-not call out accepted t typed named v fitting M goes-on env
 
@@ -63,16 +62,6 @@ module _ (call : Call) (out : HandedOut) (accepted : Accepted call out) (t : ℕ
       (Stops (call .image) M (call .place) v (startOf call) (call .start) env (out .then .0) (drop (out .counts .statements) (M .lines)))
       ⊎ ((e : BasicBlockId) × (out .else ≡ OptBlock.Some e) × Stops (call .image) M (call .place) v (startOf call) (call .start) env (e .0) (M .lines))
   the-run-enters-no-block-twice-and-stops-at-then-or-else = stops call out accepted t typed named v fitting M goes-on env
-
-  -- In place of the listed differences the blocks mean what the Reference says of the pattern that the Rust reads: a value that this one matches comes to then ..
-  pub a-value-that-matches-as-the-Rust-reads-comes-to-then : matches (call .image) (asTheRustReads (patternOf call)) v ≡ true →
-      Comes (call .image) (call .bindings) M (call .place) v (startOf call) (call .start) env (binds (call .image) (asTheRustReads (patternOf call)) (pathOf (call .place)) v) (out .then .0) (drop (out .counts .statements) (M .lines))
-  a-value-that-matches-as-the-Rust-reads-comes-to-then = if-the-rust-matches call out accepted t typed named v fitting M goes-on env
-
-  -- .. and any other to else
-  pub any-other-value-as-the-Rust-reads-comes-to-else : matches (call .image) (asTheRustReads (patternOf call)) v ≡ false →
-      (e : BasicBlockId) × (out .else ≡ OptBlock.Some e) × Comes (call .image) (call .bindings) M (call .place) v (startOf call) (call .start) env [] (e .0) (M .lines)
-  any-other-value-as-the-Rust-reads-comes-to-else = if-the-rust-does-not call out accepted t typed named v fitting M goes-on env
 
 -- Demand 3, for every call of `pattern_match` that is accepted, whether its pattern fits or not.
 module _ (call : Call) (out : HandedOut) (accepted : Accepted call out) where
@@ -107,7 +96,7 @@ module _ (call : Call) (out : HandedOut) (accepted : Accepted call out) where
 
 -- A pattern that fits is refused for a limit (11) or for want of a scope (14) alone.
 pub a-fitting-pattern-is-refused-by-11-or-14-alone : (call : Call) (e : MirLowerError) (p : PatId) (t : ℕ) → Refused call e p → placeTy (call .image) (before call) (call .place) ≡ PlaceTy.Ty t →
-    t < typeCount (call .image) → fits (call .image) (call .bindings) (call .place .local .0) (call .discr) t (patternOf call) ≡ true → (numberOf e ≡ 11) ⊎ (numberOf e ≡ 14)
+    t < typeCount (call .image) → fits (call .image) (call .bindings) (call .place .local .0) t (patternOf call) ≡ true → (numberOf e ≡ 11) ⊎ (numberOf e ≡ 14)
 a-fitting-pattern-is-refused-by-11-or-14-alone = fit-refused
 
 -- The corners of pattern_matching.rs that document 01 marks [P], from the bytes of their images.

@@ -3,7 +3,7 @@
 use Prim.Native.Nat.{ℕ, _+_, _-_, _^_, _/_, _≤_, _<_}
 use mathlib.Core.Path.{_≡_}
 use mathlib.Core.Logic.{_↔_}
-use mathlib.Core.Bool.{Bool, true, false, not, _||_}
+use mathlib.Core.Bool.{Bool, true, false, not, _&&_, _||_}
 use mathlib.Core.Option.{none, some}
 use mathlib.Core.List.{List, [], _∷_, _++_, map}
 use lib.Dec.{leb, ltb}
@@ -16,7 +16,6 @@ use Rattle.place.specs.declared.elems.ProjectionElem.{ProjectionElem}
 use Rattle.place.specs.declared.place_ty.PlaceTy.{PlaceTy}
 use Rattle.mir.specs.declared.BasicBlockId.{BasicBlockId}
 use Rattle.mir.specs.declared.rvalues.BinOp.{BinOp}
-use Rattle.lower.specs.declared.temps.DiscrTemp.{DiscrTemp}
 use Rattle.lower.specs.declared.merging.OptBlock.{OptBlock}
 use Rattle.pattern_matching.specs.Variants.{placeTy}
 use Rattle.views.specs.Views.{Path, Mir, mirOf}
@@ -27,7 +26,6 @@ use Rattle.meaning.specs.Running.{Env, valueOf, signedNumber, sameValue, compar
 use Rattle.meaning.specs.Executing.{atThen, atElse}
 use Rattle.meaning.specs.Matching.{fromStart, toEnd, matches}
 use Rattle.meaning.specs.Binding.{binds}
-use Rattle.meaning.specs.Differences.{asTheRustReads}
 use Rattle.meaning.proofs.Laws as laws
 use Rattle.meaning.proofs.Crossing as crossing
 use Rattle.meaning.proofs.Behind as behind
@@ -44,13 +42,16 @@ pub the-same-exactly-when-equal : (v w : Value) → Comparable v → Comparable 
 the-same-exactly-when-equal = laws.same-exactly-when-equal
 
 -- Integers are compared in their order, bools with false before true, and chars by their numbers.
-pub integers-in-their-order : (y z : ℤ) → (compared BinOp.Le (Int y) (Int z) ≡ leZ y z) × (compared BinOp.Ge (Int y) (Int z) ≡ leZ z y)
+pub integers-in-their-order : (y z : ℤ) →
+    (compared BinOp.Le (Int y) (Int z) ≡ leZ y z) × (compared BinOp.Ge (Int y) (Int z) ≡ leZ z y) × (compared BinOp.Gt (Int y) (Int z) ≡ ltZ z y)
 integers-in-their-order = laws.integers-compared
 
-pub false-before-true : (a b : Bool) → (compared BinOp.Le (Bool′ a) (Bool′ b) ≡ not a || b) × (compared BinOp.Ge (Bool′ a) (Bool′ b) ≡ not b || a)
+pub false-before-true : (a b : Bool) →
+    (compared BinOp.Le (Bool′ a) (Bool′ b) ≡ not a || b) × (compared BinOp.Ge (Bool′ a) (Bool′ b) ≡ not b || a) × (compared BinOp.Gt (Bool′ a) (Bool′ b) ≡ a && not b)
 false-before-true = laws.bools-compared
 
-pub chars-by-their-numbers : (c d : ℕ) → (compared BinOp.Le (Char c) (Char d) ≡ leb c d) × (compared BinOp.Ge (Char c) (Char d) ≡ leb d c)
+pub chars-by-their-numbers : (c d : ℕ) →
+    (compared BinOp.Le (Char c) (Char d) ≡ leb c d) × (compared BinOp.Ge (Char c) (Char d) ≡ leb d c) × (compared BinOp.Gt (Char c) (Char d) ≡ ltb d c)
 chars-by-their-numbers = laws.chars-compared
 
 -- A range: an end that is absent bounds nothing; a value is not below the start, not above the end, and below the end where the range is half-open.
@@ -117,12 +118,12 @@ a-body-goes-on-from-itself = goes-on-refl
 -- comes to, with the bindings and the blocks entered on the way that this one has.
 module _ (call : Call) (out : HandedOut) (accepted : Accepted call out) (t : ℕ) (typed : placeTy (call .image) (before call) (call .place) ≡ PlaceTy.Ty t)
     (named : t < typeCount (call .image)) (v : Value) (fitting : Fitting (call .image) (call .bindings) (startOf call) (call .place) t (patternOf call) v) (env : Env) where
-  pub the-function-runs-a-value-that-matches-to-then : matches (call .image) (asTheRustReads (patternOf call)) v ≡ true →
-      (c : Comes (call .image) (call .bindings) (mirOf (after out)) (call .place) v (startOf call) (call .start) env (binds (call .image) (asTheRustReads (patternOf call)) (pathOf (call .place)) v) (out .then .0) (drop (out .counts .statements) (mirOf (after out) .lines)))
+  pub the-function-runs-a-value-that-matches-to-then : matches (call .image) (patternOf call) v ≡ true →
+      (c : Comes (call .image) (call .bindings) (mirOf (after out)) (call .place) v (startOf call) (call .start) env (binds (call .image) (patternOf call) (pathOf (call .place)) v) (out .then .0) (drop (out .counts .statements) (mirOf (after out) .lines)))
       × Ends (call .image) (mirOf (after out)) (call .place) v (startOf call) (call .start) env (out .then) (out .else) (out .then .0) (drop (out .counts .statements) (mirOf (after out) .lines)) (c .stops) atThen
   the-function-runs-a-value-that-matches-to-then = ended.ends-at-then call out accepted t typed named v fitting env
 
-  pub the-function-runs-any-other-value-to-else : matches (call .image) (asTheRustReads (patternOf call)) v ≡ false →
+  pub the-function-runs-any-other-value-to-else : matches (call .image) (patternOf call) v ≡ false →
       (e : BasicBlockId) × (out .else ≡ OptBlock.Some e) × (c : Comes (call .image) (call .bindings) (mirOf (after out)) (call .place) v (startOf call) (call .start) env [] (e .0) (mirOf (after out) .lines))
       × Ends (call .image) (mirOf (after out)) (call .place) v (startOf call) (call .start) env (out .then) (out .else) (e .0) (mirOf (after out) .lines) (c .stops) atElse
   the-function-runs-any-other-value-to-else = ended.ends-at-else call out accepted t typed named v fitting env

@@ -7,7 +7,6 @@ use Rattle.image.specs.Tables.{patternCount, bindingCount}
 use Rattle.image.specs.Tree.{Pat, tree}
 use Rattle.image.specs.Valid.{valid}
 use Rattle.lower.specs.declared.merging.OptBlock.{OptBlock}
-use Rattle.lower.specs.declared.temps.DiscrTemp.{DiscrTemp}
 use Rattle.views.specs.Views.{Mir, Path, mirOf}
 use Rattle.pattern_matching.specs.Walking.{Out, Walk, ok, refused, localPlace}
 use Rattle.meaning.specs.Values.{Value, nothing, valueFits}
@@ -43,7 +42,6 @@ pub record Judgement : Type 0 where
   pub holds : Bool
   pub ty : ℕ
   pub locals : List ℕ
-  pub discr : DiscrTemp
   pub fit : Bool
   pub tried : List Tried
 
@@ -82,7 +80,6 @@ judged row =
       holds = valid image;
       ty = row .ty;
       locals = row .locals;
-      discr = row .discr;
-      fit = fits image (row .locals) 0 (row .discr) (row .ty) pat;
+      fit = fits image (row .locals) 0 (row .ty) pat;
       tried = map (λ (x : Tried). try image (row .locals) (row .ty) pat lowered (triedValue x)) (row .tried);
     }

@@ -11,7 +11,6 @@ use Rattle.image.specs.Tree.{Pat, tree}
 use Rattle.place.specs.declared.Place.{Place}
 use Rattle.mir.specs.declared.BasicBlockId.{BasicBlockId}
 use Rattle.state.specs.State.{State}
-use Rattle.lower.specs.declared.temps.DiscrTemp.{DiscrTemp}
 use Rattle.lower.specs.declared.merging.OptBlock.{OptBlock}
 use Rattle.views.specs.Views.{Mir, mirOf}
 use Rattle.pattern_matching.specs.Walking.{Ctx, Out, Walk, ok, refused, localPlace}
@@ -28,7 +27,7 @@ startState image t =
     }
 
 unfoldable pub start : List ℕ → ℕ → Ctx
-start image t = record { state = startState image t; discr = DiscrTemp.None; visits = zeros (patternCount image) }
+start image t = record { state = startState image t; visits = zeros (patternCount image) }
 
 -- a lowering: of an image's patterns, whose bindings' locals are given, from a context, a block, an else or none, and a place
 abbrev pub Lowers : Type 0

@@ -28,21 +28,21 @@ use Rattle.called.proofs.Bodies.{handed, gives, counted}
 
 -- a call that is taken comes to the walk
 walks : (call : Call) → Taken call →
-    patternMatchCall (call .image) (call .bindings) (call .body) (call .visits) (call .counts) (call .discr) (call .pattern) (call .start) (call .else) (call .place) ≡ walked (walkOf call)
+    patternMatchCall (call .image) (call .bindings) (call .body) (call .visits) (call .counts) (call .pattern) (call .start) (call .else) (call .place) ≡ walked (walkOf call)
 unfolding patternMatchCall calling
 walks call T = rw (T .image-valid, T .body, T .names)
 
 -- whatever the contract lets it answer
 pub fit-accepted : (call : Call) (r : MatchCall) (body : Body) (visits : List ℕ) (t : ℕ) → Promised call r body visits → Taken call →
     placeTy (call .image) (before call) (call .place) ≡ PlaceTy.Ty t → t < typeCount (call .image) →
-    fits (call .image) (call .bindings) (call .place .local .0) (call .discr) t (patternOf call) ≡ true →
+    fits (call .image) (call .bindings) (call .place .local .0) t (patternOf call) ≡ true →
     HasRoom call → ScopeOpen (startOf call) → IsAcceptance call r body visits
 fit-accepted call r body visits t P T typed named fit room scope =
     let G = given call T in
     let (o, gave) = rooms.fit-accepted (call .image) (call .bindings) (patternOf call) (startOf call) (call .start) (call .else) (call .place) t (G .image-valid) named typed (G .root) (call .elements) fit
     room scope in
     let is : r ≡ MatchCall.Matched (countsOf (o .ctx .state)) (o .ctx .discr) (o .then) (o .else) = P .gives .reply ∙ ap answer (walks call T) ∙ ap walkAnswer gave in
-    (record { counts = countsOf (o .ctx .state); discr = o .ctx .discr; then = o .then; else = o .else; body = body; visits = visits }, is, refl, refl, subst (λ (x : MatchCall). Promised call x body visits) is P)
+    (record { counts = countsOf (o .ctx .state); then = o .then; else = o .else; body = body; visits = visits }, is, refl, refl, subst (λ (x : MatchCall). Promised call x body visits) is P)
 
 -- a refusal by 11 names a limit that is passed, whether the pattern fits or not
 pub refused-limit : (call : Call) (p : PatId) → Refused call MirLowerError.Limit p → LimitPassed call
@@ -88,4 +88,4 @@ had-room call out accepted =
     ready : Ready (out .body) (countsOf (after out))
     ready =
         subst (λ (w : Walk Out). ReadyWalk w (out .body)) gave
-        (taken call (MatchCall.Matched (out .counts) (out .discr) (out .then) (out .else)) (out .body) (out .visits) tt accepted .1 .gives .ready)
+        (taken call (MatchCall.Matched (out .counts) (out .then) (out .else)) (out .body) (out .visits) tt accepted .1 .gives .ready)

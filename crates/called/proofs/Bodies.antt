@@ -31,18 +31,18 @@ use Rattle.called.proofs.Visited.{words-same, visits-512, visits-small}
 
 -- what an accepted call was handed
 pub handed : (call : Call) (out : HandedOut) → Accepted call out → Given call
-handed call out accepted = given call (taken call (MatchCall.Matched (out .counts) (out .discr) (out .then) (out .else)) (out .body) (out .visits) tt accepted .0)
+handed call out accepted = given call (taken call (MatchCall.Matched (out .counts) (out .then) (out .else)) (out .body) (out .visits) tt accepted .0)
 
 -- the theorem: the definition of `pattern_match` gives what is handed out
 pub gives : (call : Call) (out : HandedOut) → Accepted call out →
     patternMatch (call .image) (call .bindings) (patternOf call) (startOf call) (call .start) (call .else) (call .place) ≡ ok (resultOf out)
 gives call out accepted =
-    let H : Handing (walkOf call) out = handing (walkOf call) out (taken call (MatchCall.Matched (out .counts) (out .discr) (out .then) (out .else)) (out .body) (out .visits) tt accepted .1) in
+    let H : Handing (walkOf call) out = handing (walkOf call) out (taken call (MatchCall.Matched (out .counts) (out .then) (out .else)) (out .body) (out .visits) tt accepted .1) in
     let r = H .result in
     let state : r .ctx .state ≡ after out = sym (H .reads) ∙ ap (decode (out .body)) (sym (H .counts)) in
     let visits : r .ctx .visits ≡ out .visits = sym (H .visits ∙ words-same (r .ctx .visits) (visits-small call (handed call out accepted) r (H .gave))) in
     let same : r ≡ resultOf out =
-    λ i. record { ctx = record { state = state i; discr = sym (H .discr) i; visits = visits i }; then = sym (H .then) i; else = sym (H .else) i } in
+    λ i. record { ctx = record { state = state i; visits = visits i }; then = sym (H .then) i; else = sym (H .else) i } in
     H .gave ∙ ap (λ (x : Out). ok x) same
 
 -- zeros stand for no visit

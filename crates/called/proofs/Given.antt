@@ -137,7 +137,7 @@ module _ (call : Call) (T : Taken call) where
   tests =
       patternHanded (patternCount (call .image)) (call .visits) (call .pattern)
       ∷ bindingsHold (bindingCount (call .image)) c (call .bindings)
-      ∷ discrHolds c (call .discr)
+      ∷ discrHolds c
       ∷ startHolds (call .body .blocks) c (call .start)
       ∷ elseHolds c (call .start) (call .else)
       ∷ placeHolds (variantCount (call .image)) c (call .place)

@@ -45,7 +45,7 @@ use Rattle.called.proofs.Restored.{sized}
 
 -- an answer that accepts
 abbrev IsLowered : ParamsCall → Type 0
-IsLowered (ParamsCall.Lowered c discr then first) = Unit {0}
+IsLowered (ParamsCall.Lowered c then first) = Unit {0}
 IsLowered (ParamsCall.Refused e p) = ⊥
 IsLowered ParamsCall.BadCall = ⊥
 IsLowered ParamsCall.BadImage = ⊥
@@ -79,10 +79,10 @@ record Handing (w : Walk ParamsOut) (c : Counts) (out : ParamsHandedOut) : Type 
   bindings : out .left .bindings ≡ result .bindings
 
 handing : (w : Walk ParamsOut) (out : ParamsHandedOut) {m : List ℕ} {b : Body} {before : List ℕ} {c : Counts} →
-    GivesParams m b before c (walked w) (ParamsCall.Lowered (out .counts) (out .discr) (out .then) (out .first)) (out .left .bindings) (out .left .body) (out .left .visits) → Handing w c out
+    GivesParams m b before c (walked w) (ParamsCall.Lowered (out .counts) (out .then) (out .first)) (out .left .bindings) (out .left .body) (out .left .visits) → Handing w c out
 handing (ok r) out P =
     let reply = P .reply in
-    record { result = r; gave = refl; counts = cc; discr = cc; then = cc; first = cc; reads = P .reads; visits = P .visits; bindings = P .locals }
+    record { result = r; gave = refl; counts = cc; then = cc; first = cc; reads = P .reads; visits = P .visits; bindings = P .locals }
 handing (refused e p) out P = let reply = P .reply in absurd (let z : _≡_ {A = ℕ} 0 1 = cc in omega arith)
 
 -- a list has as many parameters as it is said to have
@@ -96,8 +96,8 @@ module _ (call : ParamsHanded) (out : ParamsHandedOut) (accepted : AcceptedParam
   unfolding paramsCall
   both =
       let (v, q, t, n, w) = passed (valid (call .image)) (listHolds (call .image) (call .self) (call .list)) (bodyTaken (call .image) (call .body) (call .counts))
-      (paramsHold (call .image) (call .self) (call .bindings) (call .body .blocks) (call .visits) (call .counts) (call .discr) (call .start)) (loweredOf call)
-      (ParamsCall.Lowered (out .counts) (out .discr) (out .then) (out .first)) tt accepted in
+      (paramsHold (call .image) (call .self) (call .bindings) (call .body .blocks) (call .visits) (call .counts) (call .start)) (loweredOf call)
+      (ParamsCall.Lowered (out .counts) (out .then) (out .first)) tt accepted in
       (record { image-valid = v; list = q; body = t; names = n }, handing (loweredOf call) out w)
 
   taken : Taken call
@@ -126,12 +126,12 @@ module _ (call : ParamsHanded) (out : ParamsHandedOut) (accepted : AcceptedParam
 
   -- each of the tests of the call's own numbers
   test : (k : ℕ) →
-      getD (selfNamed (call .image) (call .self) ∷ bindingsHold (bindingCount (call .image)) (call .counts) (call .bindings) ∷ discrHolds (call .counts) (call .discr)
+      getD (selfNamed (call .image) (call .self) ∷ bindingsHold (bindingCount (call .image)) (call .counts) (call .bindings) ∷ discrHolds (call .counts)
       ∷ startHolds (call .body .blocks) (call .counts) (call .start) ∷ eqb (length (call .visits)) 512 ∷ []) k true ≡ true
   unfolding paramsHold
   test k =
       all-true-at
-      (selfNamed (call .image) (call .self) ∷ bindingsHold (bindingCount (call .image)) (call .counts) (call .bindings) ∷ discrHolds (call .counts) (call .discr)
+      (selfNamed (call .image) (call .self) ∷ bindingsHold (bindingCount (call .image)) (call .counts) (call .bindings) ∷ discrHolds (call .counts)
       ∷ startHolds (call .body .blocks) (call .counts) (call .start) ∷ eqb (length (call .visits)) 512 ∷ []) k (taken .names)
 
   -- the rows that there are are as many as the counts say
@@ -180,7 +180,7 @@ module _ (call : ParamsHanded) (out : ParamsHandedOut) (accepted : AcceptedParam
       let state : r .ctx .state ≡ afterParams out = sym (H .reads) ∙ ap (decode (out .left .body)) (sym (H .counts)) in
       let visits : r .ctx .visits ≡ out .left .visits = sym (H .visits ∙ words-same (r .ctx .visits) visits-small) in
       let same : r ≡ resultOfParams out =
-      λ i. record { ctx = record { state = state i; discr = sym (H .discr) i; visits = visits i }; then = sym (H .then) i; bindings = sym (H .bindings) i } in
+      λ i. record { ctx = record { state = state i; visits = visits i }; then = sym (H .then) i; bindings = sym (H .bindings) i } in
       H .gave ∙ ap (λ (x : ParamsOut). ok x) same
 
   -- the first local is the next one when the call comes
@@ -207,17 +207,17 @@ module _ (call : ParamsHanded) (out : ParamsHandedOut) (accepted : AcceptedParam
   pub values-come-through : (M : Mir) → GoesOn (mirOf (afterParams out)) M → (vs : List Value) (env : Env) → FittingParams call out vs env → ComesThroughParams call out M vs env
   values-come-through M onward vs env fitting =
       comes-through (call .image) (call .self) (parametersOf call) (call .bindings) (startOfParams call) (call .start) (handed (fitting .image-bytes)) (resultOfParams out) params-give M onward vs
-      (subst (λ (l : ℕ). allFit (call .image) (out .left .bindings) (call .discr) (call .self) (parametersOf call) l vs ≡ true) (sym locals-same) (fitting .all-fit)) (fitting .bindings-differ) env
+      (subst (λ (l : ℕ). allFit (call .image) (out .left .bindings) (call .self) (parametersOf call) l vs ≡ true) (sym locals-same) (fitting .all-fit)) (fitting .bindings-differ) env
       (subst (λ (l : ℕ). HeldFrom env l vs) (sym locals-same) (fitting .held))
 
 -- self's binding has self's own local, when all locals are made
 pub self-own-local : (call : ParamsHanded) (made : Declared) → ListTaken call → NumbersTaken call → declaredOf call ≡ done made →
     SelfHas (call .self) (made .bindings) (length (startOfParams call .state .locals))
 self-own-local call made list names =
-    receivers.self-has-its-own-local (call .image) (call .list) (call .self) (call .bindings) (call .body) (call .visits) (call .counts) (call .discr) (call .start) list names made
+    receivers.self-has-its-own-local (call .image) (call .list) (call .self) (call .bindings) (call .body) (call .visits) (call .counts) (call .start) list names made
 
 -- the branch for self has no input
 pub self-branch-idle : (call : ParamsHanded) →
-    callWithSelf (call .image) (call .list) (call .self) (call .bindings) (call .body) (call .visits) (call .counts) (call .discr) (call .start) ≡ definedOf call
+    callWithSelf (call .image) (call .list) (call .self) (call .bindings) (call .body) (call .visits) (call .counts) (call .start) ≡ definedOf call
 self-branch-idle call =
-    receivers.the-step-for-self-has-no-input (call .image) (call .list) (call .self) (call .bindings) (call .body) (call .visits) (call .counts) (call .discr) (call .start)
+    receivers.the-step-for-self-has-no-input (call .image) (call .list) (call .self) (call .bindings) (call .body) (call .visits) (call .counts) (call .start)

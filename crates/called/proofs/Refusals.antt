@@ -17,7 +17,7 @@ use Rattle.called.proofs.Given.{given}
 
 -- for a limit, or for want of a scope
 pub fit-refused : (call : Call) (e : MirLowerError) (p : PatId) (t : ℕ) → Refused call e p → placeTy (call .image) (before call) (call .place) ≡ PlaceTy.Ty t → t < typeCount (call .image) →
-    fits (call .image) (call .bindings) (call .place .local .0) (call .discr) t (patternOf call) ≡ true → (numberOf e ≡ 11) ⊎ (numberOf e ≡ 14)
+    fits (call .image) (call .bindings) (call .place .local .0) t (patternOf call) ≡ true → (numberOf e ≡ 11) ⊎ (numberOf e ≡ 14)
 fit-refused call e p t refusal typed named fit =
     let (T, W) = taken call (MatchCall.Refused e p) (refusal .body) (refusal .visits) tt (refusal .promised) in
     let G = given call T in

@@ -17,7 +17,6 @@ use Rattle.meaning.specs.Values.{Value}
 use Rattle.meaning.specs.Running.{Env}
 use Rattle.meaning.specs.Matching.{matches}
 use Rattle.meaning.specs.Binding.{binds}
-use Rattle.meaning.specs.Differences.{asTheReference, asTheRustReads}
 use Rattle.correctness.specs.Demand2.{pathOf, Handed, Fitting, Stops, Comes}
 use Rattle.called.specs.Call.{Call, HandedOut, Accepted, before, after, patternOf, startOf, resultOf}
 use Rattle.called.proofs.Bodies.{handed, gives}
@@ -33,18 +32,18 @@ module _ (call : Call) (out : HandedOut) (accepted : Accepted call out) (t : ℕ
     (named : t < typeCount (call .image)) (v : Value) (fitting : Fitting (call .image) (call .bindings) (startOf call) (call .place) t (patternOf call) v) (M : Mir)
     (goes-on : GoesOn (mirOf (after out)) M) (env : Env) where
   -- a value that matches comes to then
-  pub if-it-matches : asTheReference (patternOf call) ≡ true → matches (call .image) (patternOf call) v ≡ true →
+  pub if-it-matches : matches (call .image) (patternOf call) v ≡ true →
       Comes (call .image) (call .bindings) M (call .place) v (startOf call) (call .start) env (binds (call .image) (patternOf call) (pathOf (call .place)) v) (out .then .0)
       (drop (out .counts .statements) (M .lines))
-  if-it-matches unlisted e =
+  if-it-matches e =
       subst
       (λ (n : ℕ). Comes (call .image) (call .bindings) M (call .place) v (startOf call) (call .start) env (binds (call .image) (patternOf call) (pathOf (call .place)) v) (out .then .0) (drop n (M .lines)))
       (statement-count (out .body) (out .counts))
       (Rattle.correctness.proofs.Demand.if-it-matches (call .image) (call .bindings) (call .pattern) (startOf call) (call .start) (call .else) (call .place) t v (handed call out accepted .there) (taken call out accepted t typed named)
-      fitting (resultOf out) (gives call out accepted) M goes-on env unlisted e)
+      fitting (resultOf out) (gives call out accepted) M goes-on env e)
 
   -- any other comes to else
-  pub if-not : asTheReference (patternOf call) ≡ true → matches (call .image) (patternOf call) v ≡ false →
+  pub if-not : matches (call .image) (patternOf call) v ≡ false →
       (e : BasicBlockId) × (out .else ≡ OptBlock.Some e) × Comes (call .image) (call .bindings) M (call .place) v (startOf call) (call .start) env [] (e .0) (M .lines)
   if-not =
       Rattle.correctness.proofs.Demand.if-not (call .image) (call .bindings) (call .pattern) (startOf call) (call .start) (call .else) (call .place) t v (handed call out accepted .there) (taken call out accepted t typed named) fitting
@@ -60,22 +59,3 @@ module _ (call : Call) (out : HandedOut) (accepted : Accepted call out) (t : ℕ
       (statement-count (out .body) (out .counts))
       (Rattle.correctness.proofs.Demand.stops-at-then-or-else (call .image) (call .bindings) (call .pattern) (startOf call) (call .start) (call .else) (call .place) t v (handed call out accepted .there)
       (taken call out accepted t typed named) fitting (resultOf out) (gives call out accepted) M goes-on env)
-
-  -- a value that matches, as the Rust reads the pattern, comes to then
-  pub if-the-rust-matches : matches (call .image) (asTheRustReads (patternOf call)) v ≡ true →
-      Comes (call .image) (call .bindings) M (call .place) v (startOf call) (call .start) env (binds (call .image) (asTheRustReads (patternOf call)) (pathOf (call .place)) v) (out .then .0)
-      (drop (out .counts .statements) (M .lines))
-  if-the-rust-matches e =
-      subst
-      (λ (n : ℕ).
-      Comes (call .image) (call .bindings) M (call .place) v (startOf call) (call .start) env (binds (call .image) (asTheRustReads (patternOf call)) (pathOf (call .place)) v) (out .then .0) (drop n (M .lines)))
-      (statement-count (out .body) (out .counts))
-      (Rattle.correctness.proofs.Demand.if-the-rust-matches (call .image) (call .bindings) (call .pattern) (startOf call) (call .start) (call .else) (call .place) t v (handed call out accepted .there)
-      (taken call out accepted t typed named) fitting (resultOf out) (gives call out accepted) M goes-on env e)
-
-  -- any other comes to else
-  pub if-the-rust-does-not : matches (call .image) (asTheRustReads (patternOf call)) v ≡ false →
-      (e : BasicBlockId) × (out .else ≡ OptBlock.Some e) × Comes (call .image) (call .bindings) M (call .place) v (startOf call) (call .start) env [] (e .0) (M .lines)
-  if-the-rust-does-not =
-      Rattle.correctness.proofs.Demand.if-the-rust-does-not (call .image) (call .bindings) (call .pattern) (startOf call) (call .start) (call .else) (call .place) t v (handed call out accepted .there)
-      (taken call out accepted t typed named) fitting (resultOf out) (gives call out accepted) M goes-on env

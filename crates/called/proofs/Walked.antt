@@ -22,7 +22,7 @@ use Rattle.called.specs.Acceptance.{Taken}
 
 -- an answer of the walk
 abbrev pub OfTheWalk : MatchCall → Type 0
-OfTheWalk (MatchCall.Matched c discr then els) = Unit {0}
+OfTheWalk (MatchCall.Matched c then els) = Unit {0}
 OfTheWalk (MatchCall.Refused e p) = Unit {0}
 OfTheWalk MatchCall.BadCall = ⊥
 OfTheWalk MatchCall.BadImage = ⊥
@@ -45,7 +45,7 @@ pub taken : (call : Call) (r : MatchCall) (b : Body) (visits : List ℕ) → OfT
 unfolding patternMatchCall calling
 taken call r b visits k P =
     let (v, t, n, w) = passed (valid (call .image)) (bodyTaken (call .image) (call .body) (call .counts))
-    (matchHolds (namedIn (call .image)) (call .bindings) (call .body .blocks) (call .visits) (call .counts) (call .discr) (call .pattern) (call .start) (call .else) (call .place)) (walkOf call) r k P in
+    (matchHolds (namedIn (call .image)) (call .bindings) (call .body .blocks) (call .visits) (call .counts) (call .pattern) (call .start) (call .else) (call .place)) (walkOf call) r k P in
     (record { image-valid = v; body = t; names = n }, w)
 
 -- what an accepted walk gave, and how it was handed out
@@ -61,10 +61,10 @@ pub record Handing (w : Walk Out) (out : HandedOut) : Type 0 where
 
 -- it is what the promise says
 pub handing : (w : Walk Out) (out : HandedOut) {b : Body} {before : List ℕ} {c : Counts} →
-    Visits b before c (walked w) (MatchCall.Matched (out .counts) (out .discr) (out .then) (out .else)) (out .body) (out .visits) → Handing w out
+    Visits b before c (walked w) (MatchCall.Matched (out .counts) (out .then) (out .else)) (out .body) (out .visits) → Handing w out
 handing (ok r) out P =
     let reply = P .gives .reply in
-    record { result = r; gave = refl; counts = cc; discr = cc; then = cc; else = cc; reads = P .gives .reads; visits = P .visits }
+    record { result = r; gave = refl; counts = cc; then = cc; else = cc; reads = P .gives .reads; visits = P .visits }
 handing (refused e p) out P = let reply = P .gives .reply in absurd (let z : _≡_ {A = ℕ} 0 1 = cc in omega arith)
 
 -- what a refused walk gave

@@ -16,7 +16,7 @@ use Rattle.called.specs.Call.{Call, HandedOut, Accepted, patternOf, star
 pub record Taken (call : Call) : Type 0 where
   pub image-valid : valid (call .image) ≡ true
   pub body : bodyTaken (call .image) (call .body) (call .counts) ≡ true
-  pub names : matchHolds (namedIn (call .image)) (call .bindings) (call .body .blocks) (call .visits) (call .counts) (call .discr) (call .pattern) (call .start) (call .else) (call .place) ≡ true
+  pub names : matchHolds (namedIn (call .image)) (call .bindings) (call .body .blocks) (call .visits) (call .counts) (call .pattern) (call .start) (call .else) (call .place) ≡ true
 
 -- there is room for the call's pattern
 abbrev pub HasRoom : Call → Type 0
@@ -29,4 +29,4 @@ LimitPassed call = Passed (call .image) (patternOf call) (startOf call) (call .e
 -- the answer is an acceptance, with this in the tables
 abbrev pub IsAcceptance : Call → MatchCall → Body → List ℕ → Type 0
 IsAcceptance call r body visits =
-    (out : HandedOut) × (r ≡ MatchCall.Matched (out .counts) (out .discr) (out .then) (out .else)) × (out .body ≡ body) × (out .visits ≡ visits) × Accepted call out
+    (out : HandedOut) × (r ≡ MatchCall.Matched (out .counts) (out .then) (out .else)) × (out .body ≡ body) × (out .visits ≡ visits) × Accepted call out

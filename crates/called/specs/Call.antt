@@ -11,7 +11,6 @@ use Rattle.place.specs.declared.Place.{Place}
 use Rattle.mir.specs.declared.BasicBlockId.{BasicBlockId}
 use Rattle.mir.specs.declared.Counts.{Counts}
 use Rattle.state.specs.State.{Body, State, decode}
-use Rattle.lower.specs.declared.temps.DiscrTemp.{DiscrTemp}
 use Rattle.lower.specs.declared.merging.OptBlock.{OptBlock}
 use Rattle.pattern_matching.specs.Walking.{Ctx, Out}
 use Rattle.match_calls.specs.declared.MatchCall.{MatchCall}
@@ -25,7 +24,6 @@ pub record Call : Type 0 where
   pub body : Body
   pub visits : List ℕ
   pub counts : Counts
-  pub discr : DiscrTemp
   pub pattern : ℕ
   pub start : BasicBlockId
   pub else : OptBlock
@@ -36,7 +34,6 @@ pub record Call : Type 0 where
 -- what a call hands out where it is accepted: the counts, the shared local, the block where a match goes on, the one where a mismatch does, and the words of the tables
 pub record HandedOut : Type 0 where
   pub counts : Counts
-  pub discr : DiscrTemp
   pub then : BasicBlockId
   pub else : OptBlock
   pub body : Body
@@ -46,12 +43,12 @@ pub record HandedOut : Type 0 where
 abbrev pub Promised : Call → MatchCall → Body → List ℕ → Type 0
 Promised call answer body visits =
     Visits (call .body) (call .visits) (call .counts)
-    (patternMatchCall (call .image) (call .bindings) (call .body) (call .visits) (call .counts) (call .discr) (call .pattern) (call .start) (call .else) (call .place))
+    (patternMatchCall (call .image) (call .bindings) (call .body) (call .visits) (call .counts) (call .pattern) (call .start) (call .else) (call .place))
     answer body visits
 
 -- the call is accepted, and hands this out
 abbrev pub Accepted : Call → HandedOut → Type 0
-Accepted call out = Promised call (MatchCall.Matched (out .counts) (out .discr) (out .then) (out .else)) (out .body) (out .visits)
+Accepted call out = Promised call (MatchCall.Matched (out .counts) (out .then) (out .else)) (out .body) (out .visits)
 
 -- the call is refused in the walk, for this reason and at this pattern
 pub record Refused (call : Call) (e : MirLowerError) (p : PatId) : Type 0 where
@@ -72,8 +69,8 @@ patternOf call = tree (call .image) (call .pattern)
 
 -- where the definition's lowering starts: from the body before the call, with no pattern visited
 abbrev pub startOf : Call → Ctx
-startOf call = record { state = before call; discr = call .discr; visits = zeros 512 }
+startOf call = record { state = before call; visits = zeros 512 }
 
 -- what the call hands out, as the definition's lowering gives it
 abbrev pub resultOf : HandedOut → Out
-resultOf out = record { ctx = record { state = after out; discr = out .discr; visits = out .visits }; then = out .then; else = out .else }
+resultOf out = record { ctx = record { state = after out; visits = out .visits }; then = out .then; else = out .else }

@@ -22,7 +22,7 @@ use Rattle.called.specs.Call.{Call}
 abbrev pub PromisedAssignment : Call → MatchCall → Body → List ℕ → Type 0
 PromisedAssignment call answer body visits =
     Visits (call .body) (call .visits) (call .counts)
-    (patternMatchAssignmentCall (call .image) (call .bindings) (call .body) (call .visits) (call .counts) (call .discr) (call .pattern) (call .start) (call .place))
+    (patternMatchAssignmentCall (call .image) (call .bindings) (call .body) (call .visits) (call .counts) (call .pattern) (call .start) (call .place))
     answer body visits
 
 -- what `match_self_param` is handed: the image, the bindings' locals, the words of the five tables, the counts, self's binding, the block to start from, and the local that

@@ -10,7 +10,6 @@ use Rattle.place.specs.declared.LocalId.{LocalId}
 use Rattle.mir.specs.declared.BasicBlockId.{BasicBlockId}
 use Rattle.mir.specs.declared.Counts.{Counts}
 use Rattle.state.specs.State.{Body, State, decode}
-use Rattle.lower.specs.declared.temps.DiscrTemp.{DiscrTemp}
 use Rattle.views.specs.Views.{Mir}
 use Rattle.pattern_matching.specs.Walking.{Ctx, Walk}
 use Rattle.meaning.specs.Values.{Value}
@@ -32,7 +31,6 @@ pub record ParamsHanded : Type 0 where
   pub body : Body
   pub visits : List ℕ
   pub counts : Counts
-  pub discr : DiscrTemp
   pub start : BasicBlockId
 
 -- what lies in the bindings' locals and in the tables when it returns
@@ -46,11 +44,11 @@ abbrev pub ListTaken : ParamsHanded → Type 0
 ListTaken call = listHolds (call .image) (call .self) (call .list) ≡ true
 
 abbrev pub NumbersTaken : ParamsHanded → Type 0
-NumbersTaken call = paramsHold (call .image) (call .self) (call .bindings) (call .body .blocks) (call .visits) (call .counts) (call .discr) (call .start) ≡ true
+NumbersTaken call = paramsHold (call .image) (call .self) (call .bindings) (call .body .blocks) (call .visits) (call .counts) (call .start) ≡ true
 
 -- what the call gives, by its definition
 abbrev pub definedOf : ParamsHanded → ParamsCalled
-definedOf call = paramsCall (call .image) (call .list) (call .self) (call .bindings) (call .body) (call .visits) (call .counts) (call .discr) (call .start)
+definedOf call = paramsCall (call .image) (call .list) (call .self) (call .bindings) (call .body) (call .visits) (call .counts) (call .start)
 
 -- its contract (crates/params/src/lib.rt), of a call, its answer, and what is left
 abbrev pub PromisedParams : ParamsHanded → ParamsCall → ParamsLeft → Type 0
@@ -59,14 +57,13 @@ PromisedParams call answer left = GivesParams (call .bindings) (call .body) (cal
 -- what it hands out where it is accepted: the counts, the shared local, the block to go on from, the first parameter's local, and what is left
 pub record ParamsHandedOut : Type 0 where
   pub counts : Counts
-  pub discr : DiscrTemp
   pub then : BasicBlockId
   pub first : LocalId
   pub left : ParamsLeft
 
 -- the call is accepted, and hands this out
 abbrev pub AcceptedParams : ParamsHanded → ParamsHandedOut → Type 0
-AcceptedParams call out = PromisedParams call (ParamsCall.Lowered (out .counts) (out .discr) (out .then) (out .first)) (out .left)
+AcceptedParams call out = PromisedParams call (ParamsCall.Lowered (out .counts) (out .then) (out .first)) (out .left)
 
 -- the parameters that the list names
 abbrev pub parametersOf : ParamsHanded → List Param
@@ -74,7 +71,7 @@ parametersOf call = paramsOf (call .list)
 
 -- where the definition starts: from the body before the call, with no pattern visited
 abbrev pub startOfParams : ParamsHanded → Ctx
-startOfParams call = record { state = decode (call .body) (call .counts); discr = call .discr; visits = zeros 512 }
+startOfParams call = record { state = decode (call .body) (call .counts); visits = zeros 512 }
 
 -- the making of all locals, from there
 abbrev pub declaredOf : ParamsHanded → Result Declared
@@ -90,7 +87,7 @@ afterParams out = decode (out .left .body) (out .counts)
 
 -- what the call hands out, as the definition gives it
 abbrev pub resultOfParams : ParamsHandedOut → ParamsOut
-resultOfParams out = record { ctx = record { state = afterParams out; discr = out .discr; visits = out .left .visits }; then = out .then; bindings = out .left .bindings }
+resultOfParams out = record { ctx = record { state = afterParams out; visits = out .left .visits }; then = out .then; bindings = out .left .bindings }
 
 -- what is counted of the call
 abbrev pub CountedParams : ParamsHanded → ParamsHandedOut → Type 0
@@ -100,7 +97,7 @@ CountedParams call out = ParamsCounted (call .image) (call .self) (parametersOf 
 -- the parameters, self's among them.
 pub record FittingParams (call : ParamsHanded) (out : ParamsHandedOut) (vs : List Value) (env : Env) : Type 0 where
   pub image-bytes : (i : ℕ) → getD (call .image) i 0 < 256
-  pub all-fit : allFit (call .image) (out .left .bindings) (call .discr) (call .self) (parametersOf call) (call .counts .locals) vs ≡ true
+  pub all-fit : allFit (call .image) (out .left .bindings) (call .self) (parametersOf call) (call .counts .locals) vs ≡ true
   pub bindings-differ : bindingsDiffer (call .image) (call .self) (parametersOf call) ≡ true
   pub held : HeldFrom env (call .counts .locals) vs
 

@@ -169,9 +169,9 @@ module _ (scene : Scene) (word : ℕ) (bindings : List ℕ) (M : Mir) where
       }
 
   -- a Range
-  pub fills-range : (p t : ℕ) (start end : Option Operand) (ty : PlaceTy) (w : Value) → FillsOn scene word bindings M (rangePattern (scene .image) p t start end) ty w (λ path v. [])
+  pub fills-range : (p t : ℕ) (start end : Option Operand) (halfOpen : Bool) (ty : PlaceTy) (w : Value) → FillsOn scene word bindings M (rangePattern (scene .image) p t start end halfOpen) ty w (λ path v. [])
   unfolding rangePattern
-  fills-range p t start end ty w = fills-nothing (rangePattern (scene .image) p t start end) ty w (λ ctx c els place r e. ok-is e)
+  fills-range p t start end halfOpen ty w = fills-nothing (rangePattern (scene .image) p t start end halfOpen) ty w (λ ctx c els place r e. ok-is e)
 
   -- a literal
   pub fills-lit : (kind : OperandKind) (p t : ℕ) (operand : Operand) (ty : PlaceTy) (w : Value) → FillsOn scene word bindings M (litBy kind (scene .image) p t operand) ty w (λ path v. [])

@@ -13,15 +13,12 @@ use Rattle.image.specs.Types.{Shape, integer, bool, char, str, tuple, adt, refe
 use Rattle.image.specs.Tree.{Pat, Pats, nil, cons, PatOpt, no, sub}
 use Rattle.image.proofs.Bools.{and-left, and-right}
 use Rattle.place.specs.declared.elems.ProjectionElem.{ProjectionElem}
-use Rattle.lower.specs.declared.temps.DiscrTemp.{DiscrTemp}
 use Rattle.views.specs.Views.{Path}
 use Rattle.meaning.specs.Values.{Value, partAt, partsOf}
 use Rattle.meaning.specs.Matching.{onto, crossed, crossedPath, Bound, boundAs, bindAll, matches, rowFields, recordFields, lastItems, variantPath}
 use Rattle.meaning.specs.Binding.{restBinds, restBinds?, binds, binders, bindFirst, binds?}
 use Rattle.meaning.specs.Fit.{BoundAt, sameCount, standsIn, within, restTy, restBound, restBound?, patCount, boundIn, boundInAll, boundInFirst, boundIn?, bindingsFit, allBindingsFit, bindingsFit?, alternativesFit, allBind, bindOnce, sameBindings}
 use Rattle.meaning.specs.Fits.{present, discrLocals, localsDiffer}
-use Rattle.meaning.specs.Differences.{backwards, asTheRustReads, allAsTheRustReads, asTheRustReads?}
-use Rattle.correctness.proofs.Reading.{binders-backwards}
 use Rattle.correctness.proofs.Permuting.{Each, each-append, each-map, Binder, EachBinder, each-binder-map, each-binder-turned, each-bound, HasLocal, LocalsApart, Separate}
 
 -- the bindings, by their numbers
@@ -196,16 +193,16 @@ each-cond P false bs cs h k = k
 
 module _ (image : List ℕ) where
   mutual
-    unfolding boundIn bindingsFit binds asTheRustReads
+    unfolding boundIn bindingsFit binds
 
     -- what a pattern binds as the Rust reads it
-    pub binds-among : (pat : Pat) → bindingsFit image pat ≡ true → (path : Path) (v : Value) → Each (Among (boundIn image pat)) (binds image (asTheRustReads pat) path v)
+    pub binds-among : (pat : Pat) → bindingsFit image pat ≡ true → (path : Path) (v : Value) → Each (Among (boundIn image pat)) (binds image pat path v)
     binds-among (Pat.Missing h) f path v = tt
     binds-among (Pat.Rest h) f path v = tt
     binds-among (Pat.NotNull h) f path v = tt
     binds-among (Pat.Wild h) f path v = tt
     binds-among (Pat.Tuple h args ellipsis) f path v =
-        let bs = binders image (allAsTheRustReads args) in
+        let bs = binders image args in
         let x = crossed (h .derefs) v in
         each-bound (Among (boundInAll image args)) bs (rowFields ellipsis (length bs) (length (partsOf x))) (crossedPath (h .derefs) path) x
         (all-among args (and-right (bindOnce image (boundInAll image args)) (allBindingsFit image args) f))
@@ -213,7 +210,7 @@ module _ (image : List ℕ) where
         first-among alts (and-left (alternativesFit image alts) (allBindingsFit image alts) f) (and-right (alternativesFit image alts) (allBindingsFit image alts) f)
         (crossedPath (h .derefs) path) (crossed (h .derefs) v)
     binds-among (Pat.Record h fields args w) f path v =
-        each-bound (Among (boundInAll image args)) (binders image (allAsTheRustReads args)) (recordFields fields)
+        each-bound (Among (boundInAll image args)) (binders image args) (recordFields fields)
         (variantPath (tyOf image (h .ty) .shape) w (crossedPath (h .derefs) path)) (crossed (h .derefs) v)
         (all-among args (and-right (bindOnce image (boundInAll image args)) (allBindingsFit image args) f))
     binds-among (Pat.Range h start end halfOpen) f path v = tt
@@ -226,14 +223,11 @@ module _ (image : List ℕ) where
         let shape = tyOf image (h .ty) .shape in
         let items = patCount prefix + patCount suffix in
         let P = Among (boundInAll image suffix) in
-        let bs = binders image (allAsTheRustReads prefix) in
-        let cs = binders image (allAsTheRustReads suffix) in
-        let ds = binders image (backwards (allAsTheRustReads suffix) nil) in
+        let bs = binders image prefix in
+        let ds = binders image suffix in
         let n = length bs in
         let m = length ds in
-        let last : EachBinder P ds =
-        subst (λ (es : List Binder). EachBinder P es) (sym (binders-backwards image (allAsTheRustReads suffix) nil))
-        (each-binder-turned P cs [] (all-among suffix (and-right (once && front) end f)) tt) in
+        let last : EachBinder P ds = all-among suffix (and-right (once && front) end f) in
         each-among (boundInAll image prefix) (restBound? rest shape (h .ty) items ++ boundInAll image suffix)
         (bindAll bs (map (λ i. ProjectionElem.Index i) (upFrom 0 n)) here x) (restBinds? rest n m here x ++ bindAll ds (lastItems m) here x)
         (each-bound (Among (boundInAll image prefix)) bs (map (λ i. ProjectionElem.Index i) (upFrom 0 n)) here x (all-among prefix (and-right once front (and-left (once && front) end f))))
@@ -246,13 +240,13 @@ module _ (image : List ℕ) where
         let x = crossed (h .derefs) v in
         let own : BoundAt = record { binding = b; ty = h .ty; left = none } in
         let bound : Bound = record { binding = b; what = boundAs how here x } in
-        let below = binds? image (asTheRustReads? s) here x in
+        let below = binds? image s here x in
         each-append (Among (own ∷ boundIn? image s)) below (bound ∷ [])
         (each-map (Among (boundIn? image s)) (Among (own ∷ boundIn? image s)) below (λ c m. among-right (own ∷ []) (boundIn? image s) c m)
         (among? s (and-right (bindOnce image (own ∷ boundIn? image s)) (bindingsFit? image s) f) here x))
         (one-among own (boundIn? image s) bound refl, tt)
     binds-among (Pat.TupleStruct h args ellipsis w) f path v =
-        let bs = binders image (allAsTheRustReads args) in
+        let bs = binders image args in
         let x = crossed (h .derefs) v in
         each-bound (Among (boundInAll image args)) bs (rowFields ellipsis (length bs) (length (partsOf x))) (variantPath (tyOf image (h .ty) .shape) w (crossedPath (h .derefs) path)) x
         (all-among args (and-right (bindOnce image (boundInAll image args)) (allBindingsFit image args) f))
@@ -263,60 +257,60 @@ module _ (image : List ℕ) where
     binds-among (Pat.Deref h) f path v = tt
 
     -- what patterns in a row bind
-    pub all-among : (qs : Pats) → allBindingsFit image qs ≡ true → EachBinder (Among (boundInAll image qs)) (binders image (allAsTheRustReads qs))
+    pub all-among : (qs : Pats) → allBindingsFit image qs ≡ true → EachBinder (Among (boundInAll image qs)) (binders image qs)
     all-among nil f = tt
     all-among (cons q qs) f =
         let here = boundIn image q in
         let rest = boundInAll image qs in (
           (λ path v.
-              each-map (Among here) (Among (here ++ rest)) (binds image (asTheRustReads q) path v) (λ b m. among-left here rest b m)
+              each-map (Among here) (Among (here ++ rest)) (binds image q path v) (λ b m. among-left here rest b m)
               (binds-among q (and-left (bindingsFit image q) (allBindingsFit image qs) f) path v)),
-          each-binder-map (Among rest) (Among (here ++ rest)) (binders image (allAsTheRustReads qs)) (λ b m. among-right here rest b m)
+          each-binder-map (Among rest) (Among (here ++ rest)) (binders image qs) (λ b m. among-right here rest b m)
               (all-among qs (and-right (bindingsFit image q) (allBindingsFit image qs) f)),
         )
 
     -- what the first alternative that matches binds
     first-among : (alts : Pats) → alternativesFit image alts ≡ true → allBindingsFit image alts ≡ true → (path : Path) (v : Value) →
-        Each (Among (boundInFirst image alts)) (bindFirst image (allAsTheRustReads alts) path v)
+        Each (Among (boundInFirst image alts)) (bindFirst image alts path v)
     first-among nil a f path v = tt
     first-among (cons q qs) a f path v =
-        each-cond (Among (boundIn image q)) (matches image (asTheRustReads q) v) (binds image (asTheRustReads q) path v) (bindFirst image (allAsTheRustReads qs) path v)
+        each-cond (Among (boundIn image q)) (matches image q v) (binds image q path v) (bindFirst image qs path v)
         (binds-among q (and-left (bindingsFit image q) (allBindingsFit image qs) f) path v)
         (others-among qs (boundIn image q) a (and-right (bindingsFit image q) (allBindingsFit image qs) f) path v)
 
     -- what an alternative behind the first binds
     others-among : (alts : Pats) (xs : List BoundAt) → allBind image xs alts ≡ true → allBindingsFit image alts ≡ true → (path : Path) (v : Value) →
-        Each (Among xs) (bindFirst image (allAsTheRustReads alts) path v)
+        Each (Among xs) (bindFirst image alts path v)
     others-among nil xs a f path v = tt
     others-among (cons q qs) xs a f path v =
         let same = sameBindings xs (boundIn image q) in
         let back = and-right (within xs (boundIn image q)) (within (boundIn image q) xs) (and-left same (allBind image xs qs) a) in
-        each-cond (Among xs) (matches image (asTheRustReads q) v) (binds image (asTheRustReads q) path v) (bindFirst image (allAsTheRustReads qs) path v)
-        (each-map (Among (boundIn image q)) (Among xs) (binds image (asTheRustReads q) path v) (λ b m. within-among (boundIn image q) xs back (b .binding) m)
+        each-cond (Among xs) (matches image q v) (binds image q path v) (bindFirst image qs path v)
+        (each-map (Among (boundIn image q)) (Among xs) (binds image q path v) (λ b m. within-among (boundIn image q) xs back (b .binding) m)
         (binds-among q (and-left (bindingsFit image q) (allBindingsFit image qs) f) path v))
         (others-among qs xs (and-right same (allBind image xs qs) a) (and-right (bindingsFit image q) (allBindingsFit image qs) f) path v)
 
     -- of a subpattern that may be absent
-    among? : (s : PatOpt) → bindingsFit? image s ≡ true → (path : Path) (v : Value) → Each (Among (boundIn? image s)) (binds? image (asTheRustReads? s) path v)
+    among? : (s : PatOpt) → bindingsFit? image s ≡ true → (path : Path) (v : Value) → Each (Among (boundIn? image s)) (binds? image s path v)
     among? no f path v = tt
     among? (sub s) f path v = binds-among s f path v
 
   -- patterns in a row that bind nothing twice, all of whose bindings have locals
   pub separate : (bindings : List ℕ) (qs : Pats) → allBindingsFit image qs ≡ true → bindOnce image (boundInAll image qs) ≡ true → AllLocal bindings (boundInAll image qs) →
-      Separate bindings (binders image (allAsTheRustReads qs))
-  unfolding boundInAll allBindingsFit binders allAsTheRustReads
+      Separate bindings (binders image qs)
+  unfolding boundInAll allBindingsFit binders
   separate bindings nil f once there = tt
   separate bindings (cons q qs) f once there =
       let here = boundIn image q in
       let rest = boundInAll image qs in
       let split : distinct (names here ++ names rest) ≡ true = subst (λ (ns : List ℕ). distinct ns ≡ true) (map-append (λ (x : BoundAt). x .binding) here rest) once in (
         (λ path path′ v v′ elems.
-            let others = bindAll (binders image (allAsTheRustReads qs)) elems path′ v′ in
-            each-map (Among here) (λ x. HasLocal bindings x × Each (λ y. x .binding ≢ y .binding) others) (binds image (asTheRustReads q) path v)
+            let others = bindAll (binders image qs) elems path′ v′ in
+            each-map (Among here) (λ x. HasLocal bindings x × Each (λ y. x .binding ≢ y .binding) others) (binds image q path v)
             (λ x m. (
               local-left bindings here rest there (x .binding) m,
               each-map (Among rest) (λ y. x .binding ≢ y .binding) others (λ y n. distinct-apart (names here) (names rest) split (x .binding) (y .binding) m n)
-                  (each-bound (Among rest) (binders image (allAsTheRustReads qs)) elems path′ v′ (all-among qs (and-right (bindingsFit image q) (allBindingsFit image qs) f))),
+                  (each-bound (Among rest) (binders image qs) elems path′ v′ (all-among qs (and-right (bindingsFit image q) (allBindingsFit image qs) f))),
             ))
             (binds-among q (and-left (bindingsFit image q) (allBindingsFit image qs) f) path v)),
         separate bindings qs (and-right (bindingsFit image q) (allBindingsFit image qs) f) (once-right image here rest once) (local-right bindings here rest there),
@@ -363,6 +357,6 @@ locals-apart (l ∷ ls) d (suc x) (suc y) n e = ap suc (locals-apart ls (by (eqb
     by false d = and-right (not (member l (present ls))) (distinct (present ls)) d
 
 -- so it is where the locals all differ
-pub fits-locals-apart : (bindings : List ℕ) (root : ℕ) (discr : DiscrTemp) → localsDiffer bindings root discr ≡ true → LocalsApart bindings
+pub fits-locals-apart : (bindings : List ℕ) (root : ℕ) → localsDiffer bindings root discr ≡ true → LocalsApart bindings
 unfolding localsDiffer
 fits-locals-apart bindings root discr d = locals-apart bindings (distinct-right (root ∷ discrLocals discr) (present bindings) d)

@@ -4,8 +4,8 @@ use native.Mathlib.Omega.{arith}
 use mathlib.Core.Path.{_≡_, refl, sym, ap, _∙_, subst}
 use mathlib.Core.Bool.{Bool, true}
 use mathlib.Core.Option.{some}
-use mathlib.Core.List.{List, [], _∷_, _++_, map, append-nil, reverse}
-use lib.ListN.{length, drop, length-drop, length-map, length-reverse}
+use mathlib.Core.List.{List, [], _∷_, _++_, map}
+use lib.ListN.{length, drop, length-drop}
 use Rattle.image.specs.Valid.{valid}
 use Rattle.image.specs.Lists.{upFrom}
 use Rattle.image.specs.Types.{Shape, integer, bool, char, str, tuple, adt, reference, array, slice, unknown, tyOf}
@@ -19,7 +19,7 @@ use Rattle.views.specs.Views.{Path, Mir}
 use Rattle.pattern_matching.specs.declared.MatchingMode.{MatchingMode}
 use Rattle.pattern_matching.specs.Walking.{Ctx, Out, ok, Lowering, project}
 use Rattle.pattern_matching.specs.Variants.{patternMatchAdt}
-use Rattle.pattern_matching.specs.Slices.{RestOf, restBound, sliceItems, sliceOn}
+use Rattle.pattern_matching.specs.Slices.{RestOf, restBound, suffixItems, sliceItems, sliceOn}
 use Rattle.pattern_matching.specs.Patterns.{restBy, restOf}
 use Rattle.growth.proofs.Walks.{not-ok, ok-is, walked}
 use Rattle.meaning.specs.Values.{Value, partsOf, partAt, valueFits}
@@ -28,12 +28,12 @@ use Rattle.meaning.specs.Matching.{bindAll, matchAll, lastItems, boundAs}
 use Rattle.meaning.specs.Binding.{restBinds, restBinds?}
 use Rattle.meaning.specs.Typing.{TypeNumber, elementType}
 use Rattle.meaning.specs.Fitting.{itemsAllFit}
-use Rattle.meaning.proofs.Children.{length-from, index-valued, end-valued}
+use Rattle.meaning.proofs.Children.{index-valued, end-valued}
 use Rattle.correctness.specs.Demand2.{pathOf}
 use Rattle.correctness.proofs.Standing.{rooted-more, stands-onward, stepped}
 use Rattle.correctness.proofs.Rows.{zipMatch, zip-numbered, last-items, zip-end}
 use Rattle.correctness.proofs.Slicing.{index-is}
-use Rattle.correctness.proofs.Permuting.{LocalsApart, Binder, Same, same-trans, same-sym, same-is, same-behind, turned, Separate, pieces-apart}
+use Rattle.correctness.proofs.Permuting.{Binder}
 use Rattle.correctness.proofs.BindSteps.{Fills, fills-seq, fills-as, fills-binding}
 use Rattle.correctness.proofs.BindingFields.{path-onward, FillsOn, AllCan, SameLength, can-length, fills-adt, Suited, suited-fill}
 use Rattle.correctness.proofs.BindingRows.{match-length, suited-items}
@@ -55,20 +55,9 @@ slice-taken (array u n) image bindings p prefix rest suffix ctx c els place r e 
 slice-taken (slice u) image bindings p prefix rest suffix ctx c els place r e = (u, refl, e)
 slice-taken unknown image bindings p prefix rest suffix ctx c els place r e = absurd (not-ok e)
 
--- items at the end, from the last on and from the first: the same
-items-order : (bindings : List ℕ) → LocalsApart bindings → (bs : List Binder) (path : Path) (v : Value) → Separate bindings bs →
-    Same bindings (bindAll bs (map (λ i. ProjectionElem.IndexFromEnd i) (upFrom 0 (length bs))) path v) (bindAll (reverse bs) (lastItems (length (reverse bs))) path v)
-unfolding bindAll
-items-order bindings apart bs path v sep =
-    let elems = map (λ i. ProjectionElem.IndexFromEnd i) (upFrom 0 (length bs)) in
-    let size : length bs ≡ length elems = sym (length-map (upFrom 0 (length bs)) (λ i. ProjectionElem.IndexFromEnd i) ∙ length-from 0 (length bs)) in
-    same-trans bindings (same-is bindings (sym (append-nil (bindAll bs elems path v))))
-    (same-trans bindings (same-sym bindings (turned bindings path v bs [] elems [] size (pieces-apart bindings apart path v bs elems sep)))
-    (same-is bindings (ap (λ (es : List ProjectionElem). bindAll (reverse bs) es path v) (last-items (length bs) ∙ ap lastItems (sym (length-reverse bs))))))
-
 -- if the last k of some elements are k at least, there are k
-last-there : (n k m l : ℕ) → k ≡ l → m ≡ n - (n - k) → k ≤ m → l ≤ n
-last-there n k m l e q h = omega arith
+last-there : (n k m : ℕ) → m ≡ n - (n - k) → k ≤ m → k ≤ n
+last-there n k m q h = omega arith
 
 module _ (scene : Scene) (word : ℕ) (bindings : List ℕ) (M : Mir) (holds : valid (scene .image) ≡ true) where
   -- a rest binds the part between the items
@@ -108,23 +97,23 @@ module _ (scene : Scene) (word : ℕ) (bindings : List ℕ) (M : Mir) (holds : v
   fills-rest no p front end ty w few = fills-nothing scene word bindings M (restBound RestOf.none bindings p front end) ty w (λ ctx c els place r e. ok-is e)
   fills-rest (sub rest) p front end ty w few = fills-rest-by rest p front end ty w few
 
-  -- a Slice: the items in front, the rest, and the items at the end from the last on
-  pub fills-slice : LocalsApart bindings → (p : ℕ) {ls ls′ : List Lowering} {fs fs′ : List (TypeNumber → Bool)} {ms ms′ : List (Value → Bool)} {bs bs′ : List Binder} →
-      AllCan scene word bindings M ls fs ms bs → AllCan scene word bindings M ls′ fs′ ms′ bs′ → Separate bindings bs′ → length ls′ < 8192 →
+  -- a Slice: the items in front, the rest, and the items at the end
+  pub fills-slice : (p : ℕ) {ls ls′ : List Lowering} {fs fs′ : List (TypeNumber → Bool)} {ms ms′ : List (Value → Bool)} {bs bs′ : List Binder} →
+      AllCan scene word bindings M ls fs ms bs → AllCan scene word bindings M ls′ fs′ ms′ bs′ → length ls′ < 8192 →
       (rest : PatOpt) (t : ℕ) (w : Value) → valueFits (scene .image) w t ≡ true →
       itemsAllFit fs (elementType (tyOf (scene .image) t .shape)) ≡ true → itemsAllFit fs′ (elementType (tyOf (scene .image) t .shape)) ≡ true →
-      matchAll ms (partsOf w) ≡ true → matchAll (reverse ms′) (drop (length (partsOf w) - length (reverse ms′)) (partsOf w)) ≡ true →
+      matchAll ms (partsOf w) ≡ true → matchAll ms′ (drop (length (partsOf w) - length ms′) (partsOf w)) ≡ true →
       FillsOn scene word bindings M (sliceOn (tyOf (scene .image) t .shape) (scene .image) bindings p ls (restOf rest) ls′) (PlaceTy.Ty t) w
       (λ path v. bindAll bs (map (λ i. ProjectionElem.Index i) (upFrom 0 (length bs))) path v
-      ++ (restBinds? rest (length bs) (length (reverse bs′)) path v ++ bindAll (reverse bs′) (lastItems (length (reverse bs′))) path v))
+      ++ (restBinds? rest (length bs) (length bs′) path v ++ bindAll bs′ (lastItems (length bs′)) path v))
   unfolding sliceItems
-  fills-slice apart p {ls} {ls′} {fs} {fs′} {ms} {ms′} {bs} {bs′} cs cs′ sep few rest t w value fits fits′ match match′ =
+  fills-slice p {ls} {ls′} {fs} {fs′} {ms} {ms′} {bs} {bs′} cs cs′ few rest t w value fits fits′ match match′ =
       record {
         fill = λ ctx c els place r root ready s e.
             let shape = tyOf (scene .image) t .shape in
             let (u, is, e₁) = slice-taken shape (scene .image) bindings p ls (restOf rest) ls′ ctx c els place r e in
             let front = map (λ i. ProjectionElem.Index i) (upFrom 0 (length ls)) in
-            let back = map (λ i. ProjectionElem.IndexFromEnd i) (upFrom 0 (length ls′)) in
+            let back = suffixItems (length ls′) in
             walked (patternMatchAdt p front ls MatchingMode.Bind ctx c els place) _ e₁ (λ r₁ e₂ e₃.
             walked (restBound (restOf rest) bindings p (length ls) (length ls′) MatchingMode.Bind (r₁ .ctx) (r₁ .then) (r₁ .else) place) _ e₃ (λ r₂ e₄ e₅.
             let f₁ = fills-adt scene word bindings M (PlaceTy.Ty t) w holds p front ls bs (suited-fill scene word bindings M (PlaceTy.Ty t) w front cs (first u is)) ctx c els place r₁ root ready s e₂ in
@@ -134,12 +123,7 @@ module _ (scene : Scene) (word : ℕ) (bindings : List ℕ) (M : Mir) (holds : v
             let f₃ = fills-adt scene word bindings M (PlaceTy.Ty t) w holds p back ls′ bs′ (suited-fill scene word bindings M (PlaceTy.Ty t) w back cs′ (last u is)) (r₂ .ctx) (r₂ .then) (r₂ .else) place r root₂
             (f₂ .leaves .ready) s e₅ in
             let whole = fills-seq r₁ r ready f₁ (fills-seq r₂ r (f₁ .leaves .ready) f₂ f₃) in
-            let path = pathOf place in
-            let A = bindAll bs (map (λ i. ProjectionElem.Index i) (upFrom 0 (length bs))) path w in
-            let R = restBinds? rest (length bs) (length (reverse bs′)) path w in
-            let counted : Fills scene bindings M ctx c els (A ++ (R ++ bindAll bs′ (map (λ i. ProjectionElem.IndexFromEnd i) (upFrom 0 (length bs′))) path w)) r =
-            rw (length-reverse bs′, n .binders, n′ .binders) whole in
-            fills-as r (same-behind bindings A (same-behind bindings R (items-order bindings apart bs′ path w sep))) counted));
+            rw (← last-items (length bs′), n .binders, n′ .binders) whole));
       }
     where
       n : SameLength scene word bindings M ls fs ms bs
@@ -154,8 +138,8 @@ module _ (scene : Scene) (word : ℕ) (bindings : List ℕ) (M : Mir) (holds : v
       many′ : length ms′ ≤ length (partsOf w)
       many′ =
           let all = length (partsOf w) in
-          let k = length (reverse ms′) in
-          last-there all k (length (drop (all - k) (partsOf w))) (length ms′) (length-reverse ms′) (length-drop (all - k) (partsOf w)) (match-length (reverse ms′) (drop (all - k) (partsOf w)) match′)
+          let k = length ms′ in
+          last-there all k (length (drop (all - k) (partsOf w))) (length-drop (all - k) (partsOf w)) (match-length ms′ (drop (all - k) (partsOf w)) match′)
 
       first : (u : ℕ) → elementType (tyOf (scene .image) t .shape) ≡ some u → Suited scene word bindings M (PlaceTy.Ty t) w (map (λ i. ProjectionElem.Index i) (upFrom 0 (length ls))) fs ms
       first u is =
@@ -164,8 +148,8 @@ module _ (scene : Scene) (word : ℕ) (bindings : List ℕ) (M : Mir) (holds : v
           (zip-numbered (λ i. ProjectionElem.Index i) 0 (length ls) ms w (index-is w) (omega (arith, n .matches)) (omega (arith, many)) ∙ match)
 
       last : (u : ℕ) → elementType (tyOf (scene .image) t .shape) ≡ some u →
-          Suited scene word bindings M (PlaceTy.Ty t) w (map (λ i. ProjectionElem.IndexFromEnd i) (upFrom 0 (length ls′))) fs′ ms′
+          Suited scene word bindings M (PlaceTy.Ty t) w (suffixItems (length ls′)) fs′ ms′
       last u is =
-          suited-items scene word bindings M (PlaceTy.Ty t) w (λ i. ProjectionElem.IndexFromEnd i) (λ i. tt) 0 (length ls′) fs′ ms′ u (n′ .fits ∙ sym (n′ .matches))
-          (λ i j. end-valued (scene .image) t w is value (0 + i) (omega (arith, many′))) (ap (itemsAllFit fs′) (sym is) ∙ fits′)
-          (ap (λ (k : ℕ). zipMatch (map (λ i. ProjectionElem.IndexFromEnd i) (upFrom 0 k)) ms′ w) (sym (n′ .matches)) ∙ zip-end ms′ w many′ ∙ match′)
+          suited-items scene word bindings M (PlaceTy.Ty t) w (λ i. ProjectionElem.IndexFromEnd (length ls′ - 1 - i)) (λ i. tt) 0 (length ls′) fs′ ms′ u (n′ .fits ∙ sym (n′ .matches))
+          (λ i j. end-valued (scene .image) t w is value (length ls′ - 1 - (0 + i)) (omega (arith, many′, n′ .matches))) (ap (itemsAllFit fs′) (sym is) ∙ fits′)
+          (ap (λ (k : ℕ). zipMatch (suffixItems k) ms′ w) (sym (n′ .matches)) ∙ zip-end ms′ w many′ ∙ match′)

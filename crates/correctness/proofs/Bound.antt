@@ -27,12 +27,10 @@ use Rattle.meaning.specs.Binding.{restBinds?, binds, binders, bindFirst, binds?
 use Rattle.meaning.specs.Typing.{referent}
 use Rattle.meaning.specs.Fitting.{typesFit, fitting, typesFit?}
 use Rattle.meaning.specs.Fit.{BoundAt, within, patCount, restBound?, boundIn, boundInAll, boundIn?, bindOnce, bindingsFit, allBindingsFit, bindingsFit?, alternativesFit, allBind, sameBindings}
-use Rattle.meaning.specs.Differences.{backwards, asTheRustReads, allAsTheRustReads, asTheRustReads?}
 use Rattle.meaning.proofs.Cutting.{Bytes}
 use Rattle.meaning.proofs.Typed.{headOf, tuple-fits, or-fits, record-fits, slice-fits, bind-fits, tuple-struct-fits, ref-fits, type-behind, value-here}
 use Rattle.meaning.proofs.Children.{lowerings-count, deref-valued}
 use Rattle.correctness.specs.Demand2.{pathOf}
-use Rattle.correctness.proofs.Reading.{matchers-backwards, binders-backwards}
 use Rattle.correctness.proofs.OfImages.{OfImage, AllOfImage, OfImage?}
 use Rattle.correctness.proofs.Checked.{any-of, all-check}
 use Rattle.correctness.proofs.Choosing.{firstOf}
@@ -64,12 +62,12 @@ module _ (image : List ℕ) where
 
 module _ (scene : Scene) (word : ℕ) (bindings : List ℕ) (M : Mir) (holds : valid (scene .image) ≡ true) (bytes : Bytes (scene .image)) (apart : LocalsApart bindings) where
   mutual
-    unfolding patternMatchInner typesFit matches binds bindingsFit boundIn asTheRustReads headOf OfImage
+    unfolding patternMatchInner typesFit matches binds bindingsFit boundIn headOf OfImage
 
     -- a pattern
     pub bound : (pat : Pat) → bindingsFit (scene .image) pat ≡ true → AllLocal bindings (boundIn (scene .image) pat) → OfImage (scene .image) pat →
-        Can scene word bindings M (patternMatchInner (scene .image) bindings pat) (λ t. typesFit (scene .image) pat t) (λ v. matches (scene .image) (asTheRustReads pat) v)
-        (λ path v. binds (scene .image) (asTheRustReads pat) path v)
+        Can scene word bindings M (patternMatchInner (scene .image) bindings pat) (λ t. typesFit (scene .image) pat t) (λ v. matches (scene .image) pat v)
+        (λ path v. binds (scene .image) pat path v)
     bound (Pat.Missing h) f there of = record { fills = λ t w fits match value. absurd (false≢true match) }
     bound (Pat.Rest h) f there of = record { fills = λ t w fits match value. absurd (false≢true match) }
     bound (Pat.NotNull h) f there of = record { fills = λ t w fits match value. absurd (false≢true match) }
@@ -82,7 +80,7 @@ module _ (scene : Scene) (word : ℕ) (bindings : List ℕ) (M : Mir) (holds : v
     bound (Pat.Tuple h args ellipsis) f there of =
         let image = scene .image in
         let pat = Pat.Tuple h args ellipsis in
-        let bs = binders image (allAsTheRustReads args) in
+        let bs = binders image args in
         let each = and-right (bindOnce image (boundInAll image args)) (allBindingsFit image args) f in
         let once = and-left (bindOnce image (boundInAll image args)) (allBindingsFit image args) f in
         let cs = all-bound args each there of in
@@ -96,7 +94,7 @@ module _ (scene : Scene) (word : ℕ) (bindings : List ℕ) (M : Mir) (holds : v
     bound (Pat.Or h alts) f there of =
         let image = scene .image in
         let pat = Pat.Or h alts in
-        let read = allAsTheRustReads alts in
+        let read = alts in
         let first = alternativesFit image alts in
         let each = allBindingsFit image alts in
         let ks = alts-bound alts (and-left first each f) (and-right first each f) there of in
@@ -116,13 +114,13 @@ module _ (scene : Scene) (word : ℕ) (bindings : List ℕ) (M : Mir) (holds : v
     bound (Pat.Record h fields args v) f there of =
         let image = scene .image in
         let pat = Pat.Record h fields args v in
-        let bs = binders image (allAsTheRustReads args) in
+        let bs = binders image args in
         let cs = all-bound args (and-right (bindOnce image (boundInAll image args)) (allBindingsFit image args) f) there of in
         record {
           fills = λ t w fits match value.
               let x = crossed (h .derefs) w in
               let is = isVariant v x in
-              let row = matchFields fields (matchers image (allAsTheRustReads args)) (partsOf x) in
+              let row = matchFields fields (matchers image args) (partsOf x) in
               fills-entered scene word bindings M holds (h .number) (h .derefs) (variantPattern image (h .number) v (AdtPatternShape.Record fields (lowerings image bindings args))) t (h .ty) w
               (λ path y. bindAll bs (recordFields fields) (variantPath (tyOf image (h .ty) .shape) v path) y) (type-behind image pat (some t) fits)
               (fills-record scene word bindings M holds (h .number) fields cs v (h .ty) x (value-here image pat w t fits value) (record-fits image h (some t) fields args v fits .3) (and-left is row match)
@@ -133,15 +131,15 @@ module _ (scene : Scene) (word : ℕ) (bindings : List ℕ) (M : Mir) (holds : v
         let pat = Pat.Range h start end halfOpen in
         record {
           fills = λ t w fits match value.
-              fills-entered scene word bindings M holds (h .number) (h .derefs) (rangePattern image (h .number) (h .ty) start end) t (h .ty) w (λ path v. []) (type-behind image pat (some t) fits)
-              (fills-range scene word bindings M (h .number) (h .ty) start end (PlaceTy.Ty (h .ty)) (crossed (h .derefs) w));
+              fills-entered scene word bindings M holds (h .number) (h .derefs) (rangePattern image (h .number) (h .ty) start end halfOpen) t (h .ty) w (λ path v. []) (type-behind image pat (some t) fits)
+              (fills-range scene word bindings M (h .number) (h .ty) start end halfOpen (PlaceTy.Ty (h .ty)) (crossed (h .derefs) w));
         }
     bound (Pat.Slice h prefix rest suffix) f there of =
         let image = scene .image in
         let pat = Pat.Slice h prefix rest suffix in
         let shape = tyOf image (h .ty) .shape in
-        let bs = binders image (allAsTheRustReads prefix) in
-        let bs′ = binders image (backwards (allAsTheRustReads suffix) nil) in
+        let bs = binders image prefix in
+        let bs′ = binders image suffix in
         let once = bindOnce image (boundIn image pat) in
         let front = allBindingsFit image prefix in
         let end = allBindingsFit image suffix in
@@ -152,14 +150,13 @@ module _ (scene : Scene) (word : ℕ) (bindings : List ℕ) (M : Mir) (holds : v
         let local = local-right bindings middle last (local-right bindings here (middle ++ last) there) in
         let cs = all-bound prefix (and-right once front (and-left (once && front) end f)) (local-left bindings here (middle ++ last) there) (of .1) in
         let cs′ = all-bound suffix ends local (of .2) in
-        let apart′ = separate image bindings suffix ends (once-right image middle last (once-right image here (middle ++ last) (and-left once front (and-left (once && front) end f)))) local in
         let few : length (lowerings image bindings suffix) < 8192 = omega (arith, of .0, lowerings-count image bindings suffix) in
         record {
           fills = λ t w fits match value.
               let x = crossed (h .derefs) w in
               let vs = partsOf x in
-              let ms = matchers image (allAsTheRustReads prefix) in
-              let ms′ = matchers image (backwards (allAsTheRustReads suffix) nil) in
+              let ms = matchers image prefix in
+              let ms′ = matchers image suffix in
               let long = longEnough rest (length ms + length ms′) (length vs) in
               let m₁ = matchAll ms vs in
               let m₂ = matchAll ms′ (drop (length vs - length ms′) vs) in
@@ -168,13 +165,9 @@ module _ (scene : Scene) (word : ℕ) (bindings : List ℕ) (M : Mir) (holds : v
               fills-entered scene word bindings M holds (h .number) (h .derefs) l t (h .ty) w
               (λ path v. bindAll bs (map (λ i. ProjectionElem.Index i) (upFrom 0 (length bs))) path v
               ++ (restBinds? rest (length bs) (length bs′) path v ++ bindAll bs′ (lastItems (length bs′)) path v)) (type-behind image pat (some t) fits)
-              (subst (λ (ds : List Binder). FillsOn scene word bindings M l (PlaceTy.Ty (h .ty)) x
-              (λ path v. bindAll bs (map (λ i. ProjectionElem.Index i) (upFrom 0 (length bs))) path v
-              ++ (restBinds? rest (length bs) (length ds) path v ++ bindAll ds (lastItems (length ds)) path v)))
-              (sym (binders-backwards image (allAsTheRustReads suffix) nil))
-              (fills-slice scene word bindings M holds apart (h .number) cs cs′ apart′ few rest (h .ty) x (value-here image pat w t fits value) (facts .3) (facts .4)
+              (fills-slice scene word bindings M holds (h .number) cs cs′ few rest (h .ty) x (value-here image pat w t fits value) (facts .3) (facts .4)
               (and-right long m₁ (and-left (long && m₁) m₂ match))
-              (subst (λ (ns : List (Value → Bool)). matchAll ns (drop (length vs - length ns) vs) ≡ true) (matchers-backwards image (allAsTheRustReads suffix) nil) (and-right (long && m₁) m₂ match))));
+              (and-right (long && m₁) m₂ match));
         }
     bound (Pat.Path h target) f there of =
         let image = scene .image in
@@ -201,14 +194,14 @@ module _ (scene : Scene) (word : ℕ) (bindings : List ℕ) (M : Mir) (holds : v
           fills = λ t w fits match value.
               let x = crossed (h .derefs) w in
               fills-entered scene word bindings M holds (h .number) (h .derefs) (bindPattern bindings (h .number) b how (lowering? image bindings s)) t (h .ty) w
-              (λ path v. binds? image (asTheRustReads? s) path v ++ (record { binding = b; what = boundAs how path v } ∷ [])) (type-behind image pat (some t) fits)
-              (fills-bind scene word bindings M (h .number) b how (lowering? image bindings s) (PlaceTy.Ty (h .ty)) x (λ path v. binds? image (asTheRustReads? s) path v)
+              (λ path v. binds? image s path v ++ (record { binding = b; what = boundAs how path v } ∷ [])) (type-behind image pat (some t) fits)
+              (fills-bind scene word bindings M (h .number) b how (lowering? image bindings s) (PlaceTy.Ty (h .ty)) x (λ path v. binds? image s path v)
               (c .fills (h .ty) x (bind-fits image h (some t) b s how annotation fits .1) match (value-here image pat w t fits value)));
         }
     bound (Pat.TupleStruct h args ellipsis v) f there of =
         let image = scene .image in
         let pat = Pat.TupleStruct h args ellipsis v in
-        let bs = binders image (allAsTheRustReads args) in
+        let bs = binders image args in
         let each = and-right (bindOnce image (boundInAll image args)) (allBindingsFit image args) f in
         let once = and-left (bindOnce image (boundInAll image args)) (allBindingsFit image args) f in
         let cs = all-bound args each there of in
@@ -216,7 +209,7 @@ module _ (scene : Scene) (word : ℕ) (bindings : List ℕ) (M : Mir) (holds : v
           fills = λ t w fits match value.
               let x = crossed (h .derefs) w in
               let is = isVariant v x in
-              let row = matchRow ellipsis (matchers image (allAsTheRustReads args)) (partsOf x) in
+              let row = matchRow ellipsis (matchers image args) (partsOf x) in
               fills-entered scene word bindings M holds (h .number) (h .derefs) (variantPattern image (h .number) v (AdtPatternShape.Tuple (lowerings image bindings args) ellipsis)) t (h .ty) w
               (λ path y. bindAll bs (rowFields ellipsis (length bs) (length (partsOf y))) (variantPath (tyOf image (h .ty) .shape) v path) y) (type-behind image pat (some t) fits)
               (fills-tuple-struct scene word bindings M holds apart (h .number) ellipsis cs (separate image bindings args each once there) v (h .ty) x (value-here image pat w t fits value)
@@ -230,8 +223,8 @@ module _ (scene : Scene) (word : ℕ) (bindings : List ℕ) (M : Mir) (holds : v
           fills = λ t w fits match value.
               let x = crossed (h .derefs) w in
               fills-entered scene word bindings M holds (h .number) (h .derefs) (refPattern image (h .number) (patternMatchInner image bindings s)) t (h .ty) w
-              (λ path v. binds image (asTheRustReads s) (onto path ProjectionElem.Deref) (partAt ProjectionElem.Deref v)) (type-behind image pat (some t) fits)
-              (fills-ref scene word bindings M holds (h .number) (patternMatchInner image bindings s) (h .ty) x (λ path v. binds image (asTheRustReads s) path v) (λ u is.
+              (λ path v. binds image s (onto path ProjectionElem.Deref) (partAt ProjectionElem.Deref v)) (type-behind image pat (some t) fits)
+              (fills-ref scene word bindings M holds (h .number) (patternMatchInner image bindings s) (h .ty) x (λ path v. binds image s path v) (λ u is.
               c .fills u (partAt ProjectionElem.Deref x) (referent-fits image s u (tyOf image (h .ty) .shape) is (ref-fits image h (some t) s fits .1)) match
               (deref-valued image (h .ty) x u is (value-here image pat w t fits value) .1)));
         }
@@ -241,7 +234,7 @@ module _ (scene : Scene) (word : ℕ) (bindings : List ℕ) (M : Mir) (holds : v
 
     -- patterns in a row
     all-bound : (qs : Pats) → allBindingsFit (scene .image) qs ≡ true → AllLocal bindings (boundInAll (scene .image) qs) → AllOfImage (scene .image) qs →
-        AllCan scene word bindings M (lowerings (scene .image) bindings qs) (fitting (scene .image) qs) (matchers (scene .image) (allAsTheRustReads qs)) (binders (scene .image) (allAsTheRustReads qs))
+        AllCan scene word bindings M (lowerings (scene .image) bindings qs) (fitting (scene .image) qs) (matchers (scene .image) qs) (binders (scene .image) qs)
     all-bound nil f there of = no-child
     all-bound (cons q qs) f there of =
         let image = scene .image in
@@ -252,7 +245,7 @@ module _ (scene : Scene) (word : ℕ) (bindings : List ℕ) (M : Mir) (holds : v
     -- alternatives, which bind the same as the first
     alts-bound : (alts : Pats) → alternativesFit (scene .image) alts ≡ true → allBindingsFit (scene .image) alts ≡ true → AllLocal bindings (boundIn (scene .image) (Pat.Or (record { number = 0; ty = 0; derefs = 0 }) alts)) →
         AllOfImage (scene .image) alts →
-        AllCan scene word bindings M (lowerings (scene .image) bindings alts) (fitting (scene .image) alts) (matchers (scene .image) (allAsTheRustReads alts)) (binders (scene .image) (allAsTheRustReads alts))
+        AllCan scene word bindings M (lowerings (scene .image) bindings alts) (fitting (scene .image) alts) (matchers (scene .image) alts) (binders (scene .image) alts)
     alts-bound nil first f there of = no-child
     alts-bound (cons q qs) first f there of =
         let image = scene .image in
@@ -261,7 +254,7 @@ module _ (scene : Scene) (word : ℕ) (bindings : List ℕ) (M : Mir) (holds : v
 
     -- those behind the first
     others-bound : (alts : Pats) (xs : List BoundAt) → allBind (scene .image) xs alts ≡ true → allBindingsFit (scene .image) alts ≡ true → AllLocal bindings xs → AllOfImage (scene .image) alts →
-        AllCan scene word bindings M (lowerings (scene .image) bindings alts) (fitting (scene .image) alts) (matchers (scene .image) (allAsTheRustReads alts)) (binders (scene .image) (allAsTheRustReads alts))
+        AllCan scene word bindings M (lowerings (scene .image) bindings alts) (fitting (scene .image) alts) (matchers (scene .image) alts) (binders (scene .image) alts)
     others-bound nil xs all f there of = no-child
     others-bound (cons q qs) xs all f there of =
         let image = scene .image in
@@ -273,7 +266,7 @@ module _ (scene : Scene) (word : ℕ) (bindings : List ℕ) (M : Mir) (holds : v
 
     -- a subpattern that may be absent
     bound? : (s : PatOpt) → bindingsFit? (scene .image) s ≡ true → AllLocal bindings (boundIn? (scene .image) s) → OfImage? (scene .image) s →
-        Can scene word bindings M (lowering? (scene .image) bindings s) (λ t. typesFit? (scene .image) s t) (λ v. matches? (scene .image) (asTheRustReads? s) v) (λ path v. binds? (scene .image) (asTheRustReads? s) path v)
+        Can scene word bindings M (lowering? (scene .image) bindings s) (λ t. typesFit? (scene .image) s t) (λ v. matches? (scene .image) s v) (λ path v. binds? (scene .image) s path v)
     bound? no f there of =
         record { fills = λ t w fits match value. fills-nothing scene word bindings M passing (PlaceTy.Ty t) w (λ ctx c els place r e. ok-is e) }
     bound? (sub s) f there of = bound s f there of

@@ -23,7 +23,6 @@ use Rattle.meaning.specs.Matching.{matches, Bound}
 use Rattle.meaning.specs.Fitting.{typesFit}
 use Rattle.meaning.specs.Fit.{bindingsFit}
 use Rattle.meaning.specs.Fits.{fits, nothingRefused, localsDiffer}
-use Rattle.meaning.specs.Differences.{asTheRustReads}
 use Rattle.correctness.specs.Demand2.{pathOf, Handed, Fitting, Comes}
 use Rattle.correctness.proofs.Trails.{distinct-of}
 use Rattle.correctness.proofs.Walking.{rest, Walked, Lands}
@@ -52,13 +51,13 @@ module _ {image bindings : List ℕ} {ctx : Ctx} {current : BasicBlockId} {els :
 pub fitting-types : {image bindings : List ℕ} {ctx : Ctx} {place : Place} {t : ℕ} {pat : Pat} {v : Value} → Fitting image bindings ctx place t pat v → typesFit image pat (some t) ≡ true
 unfolding fits
 fitting-types {image} {bindings} {ctx} {place} {t} {pat} f =
-    all-true-at (typesFit image pat (some t) ∷ bindingsFit image pat ∷ nothingRefused image bindings pat ∷ localsDiffer bindings (place .local .0) (ctx .discr) ∷ []) 0 (f .pattern)
+    all-true-at (typesFit image pat (some t) ∷ bindingsFit image pat ∷ nothingRefused image bindings pat ∷ localsDiffer bindings (place .local .0) ∷ []) 0 (f .pattern)
 
 -- The walk in Check.
 pub check-half : (image bindings : List ℕ) (pat : Pat) (ctx : Ctx) (current : BasicBlockId) (els : OptBlock) (place : Place) (t : ℕ) (v : Value) (r : Out) (M : Mir) (env : Env) →
     Handed image bindings ctx current els place t → Fitting image bindings ctx place t pat v → OfImage image pat →
     patternMatchInner image bindings pat MatchingMode.Check ctx current els place ≡ ok r → GoesOn (mirOf (r .ctx .state)) M →
-    Lands (sceneOf image place v) bindings M ctx (current .0) env [] r (matches image (asTheRustReads pat) v)
+    Lands (sceneOf image place v) bindings M ctx (current .0) env [] r (matches image pat v)
 check-half image bindings pat ctx current els place t v r M env h f d is x =
     checks {scene = sceneOf image place v} {bindings = bindings} {M = M} {word = rootWord ctx place} (f .image-valid) (f .image-bytes) pat d
     .lands t (fitting-types f) ctx current els place v (handed-root h v) (handed-stands h v) (f .value) (h .starts) r is x env

@@ -24,13 +24,11 @@ use Rattle.meaning.specs.Values.{Value, partsOf}
 use Rattle.meaning.specs.Running.{Scene}
 use Rattle.meaning.specs.Matching.{crossed, matchAll, longEnough, matches, matchers, matchAny, matches?}
 use Rattle.meaning.specs.Fitting.{typesFit, fitting, typesFit?}
-use Rattle.meaning.specs.Differences.{asTheRustReads, allAsTheRustReads, asTheRustReads?}
 use Rattle.meaning.proofs.Cutting.{Bytes}
 use Rattle.meaning.proofs.Constants.{literal-worth, type-sized}
 use Rattle.meaning.proofs.Crossing.{fits-crossed}
 use Rattle.meaning.proofs.Typed.{headOf, tuple-fits, or-fits, record-fits, range-fits, slice-fits, path-fits, lit-fits, bind-fits, tuple-struct-fits, ref-fits, type-behind}
 use Rattle.meaning.proofs.Children.{lowerings-count}
-use Rattle.correctness.proofs.Reading.{matchers-backwards}
 use Rattle.correctness.proofs.Sharing.{Sharer}
 use Rattle.correctness.proofs.Shared.{sharer, sharer?}
 use Rattle.correctness.proofs.Standing.{crossing}
@@ -70,11 +68,11 @@ module _ {scene : Scene} {bindings : List ℕ} {M : Mir} {word : ℕ} (holds : v
       }
 
   mutual
-    unfolding patternMatchInner matches headOf OfImage asTheRustReads typesFit
+    unfolding patternMatchInner matches headOf OfImage typesFit
 
     -- every pattern, in Check
     pub checks : (pat : Pat) → OfImage (scene .image) pat →
-        Meant scene bindings M word (patternMatchInner (scene .image) bindings pat) (λ w. matches (scene .image) (asTheRustReads pat) w) (typesFit (scene .image) pat)
+        Meant scene bindings M word (patternMatchInner (scene .image) bindings pat) (λ w. matches (scene .image) pat w) (typesFit (scene .image) pat)
     checks (Pat.Missing h) d = meant (Pat.Missing h) (refusing MirLowerError.IncompletePattern (h .number)) (λ w. false) (grows (scene .image) bindings (Pat.Missing h)) (sharer (scene .image) bindings (Pat.Missing h))
         (λ t fit. looks-refused _ _ (h .ty) (λ ctx c els place r is. not-ok is))
     checks (Pat.Rest h) d = meant (Pat.Rest h) (refusing MirLowerError.IncompletePattern (h .number)) (λ w. false) (grows (scene .image) bindings (Pat.Rest h)) (sharer (scene .image) bindings (Pat.Rest h))
@@ -89,7 +87,7 @@ module _ {scene : Scene} {bindings : List ℕ} {M : Mir} {word : ℕ} (holds : v
     checks (Pat.Or h alts) d =
         meant (Pat.Or h alts) (orPattern (h .number) (lowerings (scene .image) bindings alts)) _
         (grows (scene .image) bindings (Pat.Or h alts)) (sharer (scene .image) bindings (Pat.Or h alts))
-        (λ t fit. looks-as (λ w. matchAny (scene .image) (allAsTheRustReads alts) w) (any-of (scene .image) (allAsTheRustReads alts))
+        (λ t fit. looks-as (λ w. matchAny (scene .image) alts w) (any-of (scene .image) alts)
         (looks-or holds (h .number) (h .ty) (all-check alts d) (or-fits (scene .image) h (some t) alts fit .1)))
     checks (Pat.Record h fields args v) d =
         meant (Pat.Record h fields args v) (variantPattern (scene .image) (h .number) v (AdtPatternShape.Record fields (lowerings (scene .image) bindings args))) _
@@ -98,7 +96,7 @@ module _ {scene : Scene} {bindings : List ℕ} {M : Mir} {word : ℕ} (holds : v
         let (there, differ, tell, row) = record-fits (scene .image) h (some t) fields args v fit in
         looks-record holds bytes (h .number) (h .ty) (all-check args d) tell v fields row)
     checks (Pat.Range h start end halfOpen) d =
-        meant (Pat.Range h start end halfOpen) (rangePattern (scene .image) (h .number) (h .ty) start end) _
+        meant (Pat.Range h start end halfOpen) (rangePattern (scene .image) (h .number) (h .ty) start end halfOpen) _
         (grows (scene .image) bindings (Pat.Range h start end halfOpen)) (sharer (scene .image) bindings (Pat.Range h start end halfOpen))
         (λ t fit. record {
           lands = λ ctx c els place w root s fits y r is x env.
@@ -114,13 +112,7 @@ module _ {scene : Scene} {bindings : List ℕ} {M : Mir} {word : ℕ} (holds : v
         let (there, items, rests, front, back) = slice-fits (scene .image) h (some t) prefix rest suffix fit in
         let n = lowerings-count (scene .image) bindings prefix in
         let m = lowerings-count (scene .image) bindings suffix in
-        let ms = matchers (scene .image) (allAsTheRustReads prefix) in
-        subst (λ (ns : List (Value → Bool)).
-        Looks scene bindings M word
-        (sliceOn (tyOf (scene .image) (h .ty) .shape) (scene .image) bindings (h .number) (lowerings (scene .image) bindings prefix) (restOf rest) (lowerings (scene .image) bindings suffix))
-        (λ w. longEnough rest (length ms + length ns) (length (partsOf w)) && matchAll ms (partsOf w) && matchAll ns (drop (length (partsOf w) - length ns) (partsOf w))) (h .ty))
-        (sym (matchers-backwards (scene .image) (allAsTheRustReads suffix) nil))
-        (looks-slice (h .number) (h .ty) holds (all-check prefix (d .1)) (all-check suffix (d .2)) rest items front back (omega (arith, d .0))))
+        looks-slice (h .number) (h .ty) holds (all-check prefix (d .1)) (all-check suffix (d .2)) rest items front back (omega (arith, d .0)))
     checks (Pat.Path h target) d =
         meant (Pat.Path h target) (pathPattern target (scene .image) bindings (h .number) (h .ty)) _
         (grows (scene .image) bindings (Pat.Path h target)) (sharer (scene .image) bindings (Pat.Path h target))
@@ -138,7 +130,7 @@ module _ {scene : Scene} {bindings : List ℕ} {M : Mir} {word : ℕ} (holds : v
     checks (Pat.Bind h b s how annotation) d =
         meant (Pat.Bind h b s how annotation) (bindPattern bindings (h .number) b how (lowering? (scene .image) bindings s)) _
         (grows (scene .image) bindings (Pat.Bind h b s how annotation)) (sharer (scene .image) bindings (Pat.Bind h b s how annotation))
-        (λ t fit. looks-bind (h .number) b (h .ty) how (lowering? (scene .image) bindings s) (λ w. matches? (scene .image) (asTheRustReads? s) w) (typesFit? (scene .image) s) (check? s d)
+        (λ t fit. looks-bind (h .number) b (h .ty) how (lowering? (scene .image) bindings s) (λ w. matches? (scene .image) s w) (typesFit? (scene .image) s) (check? s d)
         (bind-fits (scene .image) h (some t) b s how annotation fit .1))
     checks (Pat.TupleStruct h args ellipsis v) d =
         meant (Pat.TupleStruct h args ellipsis v) (variantPattern (scene .image) (h .number) v (AdtPatternShape.Tuple (lowerings (scene .image) bindings args) ellipsis)) _
@@ -149,7 +141,7 @@ module _ {scene : Scene} {bindings : List ℕ} {M : Mir} {word : ℕ} (holds : v
     checks (Pat.Ref h s) d =
         meant (Pat.Ref h s) (refPattern (scene .image) (h .number) (patternMatchInner (scene .image) bindings s)) _
         (grows (scene .image) bindings (Pat.Ref h s)) (sharer (scene .image) bindings (Pat.Ref h s))
-        (λ t fit. looks-ref holds (h .number) (h .ty) (patternMatchInner (scene .image) bindings s) (λ w. matches (scene .image) (asTheRustReads s) w) (typesFit (scene .image) s) (checks s d)
+        (λ t fit. looks-ref holds (h .number) (h .ty) (patternMatchInner (scene .image) bindings s) (λ w. matches (scene .image) s w) (typesFit (scene .image) s) (checks s d)
         (ref-fits (scene .image) h (some t) s fit .1))
     checks (Pat.Expr h) d = meant (Pat.Expr h) (refusing MirLowerError.Expr (h .number)) (λ w. false) (grows (scene .image) bindings (Pat.Expr h)) (sharer (scene .image) bindings (Pat.Expr h))
         (λ t fit. looks-refused _ _ (h .ty) (λ ctx c els place r is. not-ok is))
@@ -160,13 +152,13 @@ module _ {scene : Scene} {bindings : List ℕ} {M : Mir} {word : ℕ} (holds : v
 
     -- patterns in a row
     pub all-check : (ps : Pats) → AllOfImage (scene .image) ps →
-        AllMeant scene bindings M word (lowerings (scene .image) bindings ps) (matchers (scene .image) (allAsTheRustReads ps)) (fitting (scene .image) ps)
+        AllMeant scene bindings M word (lowerings (scene .image) bindings ps) (matchers (scene .image) ps) (fitting (scene .image) ps)
     all-check nil d = all-none
     all-check (cons q qs) d = all-more (checks q (d .0)) (all-check qs (d .1))
 
     -- a subpattern that may be absent
     pub check? : (s : PatOpt) → OfImage? (scene .image) s →
-        Meant scene bindings M word (lowering? (scene .image) bindings s) (λ w. matches? (scene .image) (asTheRustReads? s) w) (typesFit? (scene .image) s)
+        Meant scene bindings M word (lowering? (scene .image) bindings s) (λ w. matches? (scene .image) s w) (typesFit? (scene .image) s)
     check? no d =
         record {
           grows = grows? (scene .image) bindings no;

@@ -21,7 +21,6 @@ use Rattle.mir.specs.Scopes.{entryLimit}
 use Rattle.mir.specs.Rvalues.{liveRow}
 use Rattle.state.specs.State.{State}
 use Rattle.state.specs.Steps.{within, nextLocal, newBlock, pushStatement, newLocal, pushEntry, setTerminator, tryBlock, tryStatement, tryLocal, tryEntry}
-use Rattle.lower.specs.declared.temps.DiscrTemp.{DiscrTemp}
 use Rattle.lower.specs.declared.merging.OptBlock.{OptBlock}
 use Rattle.lower.specs.Temps.{isSlice, temp, pushStorageLiveForLocal, discrTempPlace}
 use Rattle.views.specs.Views.{Statement, live, Line, Mir, lineOf, mirOf}
@@ -156,7 +155,7 @@ does-temp image st st₁ word block e =
     (does-live st₂ st₁ (nextLocal st) block e₃))
 
 -- the local that all tests of enums share
-pub does-discr : {scene : Scene} (image : List ℕ) (st st₁ : State) (d : DiscrTemp) (block : BasicBlockId) → discrTempPlace image st d block ≡ ok st₁ →
+pub does-discr : {scene : Scene} (image : List ℕ) (st st₁ : State) (block : BasicBlockId) → discrTempPlace image st d block ≡ ok st₁ →
     Does scene st (block .0) st₁ (λ env. env)
 unfolding discrTempPlace
 does-discr image st st₁ (DiscrTemp.Some l) block e = let same : st₁ ≡ st = cc in does-none st st₁ (ap (λ (s : State). s .statements) same)

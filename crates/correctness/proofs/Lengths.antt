@@ -20,7 +20,6 @@ use Rattle.mir.specs.declared.rvalues.PlaceRvalue.{PlaceRvalue}
 use Rattle.mir.specs.Rvalues.{placeRvalueRow}
 use Rattle.state.specs.State.{State}
 use Rattle.state.specs.Steps.{nextBlock, nextLocal, tryBlock, tryStatement}
-use Rattle.lower.specs.declared.temps.DiscrTemp.{DiscrTemp}
 use Rattle.lower.specs.declared.merging.OptBlock.{OptBlock}
 use Rattle.lower.specs.Temps.{temp, discrTempPlace, discrLocal}
 use Rattle.views.specs.Views.{ofPlace, Mir, mirOf}
@@ -87,7 +86,7 @@ module _ {scene : Scene} {bindings : List ℕ} {M : Mir} {word : ℕ} {place : P
       let told : length (partsOf (read scene env (pathOf place))) ≡ length (partsOf w) = ap (λ (y : Value). length (partsOf y)) (stands-read env s) in
       let plain : n + 18446744073709551616 * 0 ≡ n = omega arith in
       let len = length (partsOf (read scene env (pathOf place))) in
-      lands-switch ctx c els (nextLocal (ctx .state)) n 0 t e (ctx .discr) (ctx .visits) r h d new small (omega arith) is q x env
+      lands-switch ctx c els (nextLocal (ctx .state)) n 0 t e (ctx .visits) r h d new small (omega arith) is q x env
       (λ k i z. update-other env l (value (Int (pos len))) k (omega arith)) (eqb (length (partsOf w)) n)
       (ap (λ (y : Held). eqb (switchNumber (scalarOf (valueOf y))) (n + 18446744073709551616 * 0)) (update-same env l (value (Int (pos len)))) ∙ number-switched len n 0
       ∙ ap₂ (λ (a b : ℕ). eqb a b) told plain)
@@ -140,22 +139,22 @@ module _ {scene : Scene} {bindings : List ℕ} {M : Mir} {word : ℕ} {place : P
   lands-discriminant v r h s small is x env =
       let q : Leaves (ctx .state) c els r = good-discriminant (scene .image) p v ctx c els place .leaves h r is in
       let st = ctx .state in
-      let l = discrLocal st (ctx .discr) in
+      let l = discrLocal st in
       let D = variantOf (scene .image) v .discriminant in
-      stepped p (discrTempPlace (scene .image) st (ctx .discr) c) _ is (λ st₁ e₁ is₁.
+      stepped p (discrTempPlace (scene .image) st c) _ is (λ st₁ e₁ is₁.
       stepped p (tryStatement st₁ (placeRvalueRow c l PlaceRvalue.Discr place)) _ is₁ (λ st₂ e₂ is₂.
       stepped p (tryBlock st₂) _ is₂ (λ st₃ e₃ is₃.
       stepped p (elseState st₃ els) _ is₃ (λ st₄ e₄ is₄.
-      let a₁ = adds-discr (scene .image) st st₁ (ctx .discr) c e₁ in
+      let a₁ = adds-discr (scene .image) st st₁ c e₁ in
       let a₂ = adds-statement st₁ st₂ (c .0) (placeRvalueRow c l PlaceRvalue.Discr place) (place-block c l PlaceRvalue.Discr place) e₂ in
       let m = discriminantOf (scene .image) (read scene env (pathOf place)) in
       lands-switch ctx c els l (D % 18446744073709551616) (D / 18446744073709551616) (nextBlock st₂) (elseBlock st₃ els) (DiscrTemp.Some l) (ctx .visits) r h
-      (does-seq (does-seq (does-discr (scene .image) st st₁ (ctx .discr) c e₁)
+      (does-seq (does-seq (does-discr (scene .image) st st₁ c e₁)
       (does-line (c .0) st₁ st₂ (placeRvalueRow c l PlaceRvalue.Discr place) (puts (l .0) (ofPlace PlaceRvalue.Discr (pathOf place)))
       (place-rvalue-back c l PlaceRvalue.Discr place (s .within) (s .elements)) e₂))
       (does-seq (does-block (c .0) st₂ st₃ e₃) (does-else (c .0) st₃ st₄ els e₄)))
       (le-trans (a₁ .opens .blocks) (a₂ .opens .blocks)) (low-half D) small is₄ q x env
-      (λ k i z. update-other env (l .0) (value (Int (pos m))) k (not-discr st (ctx .discr) k i z)) (eqb (discriminantOf (scene .image) w) D)
+      (λ k i z. update-other env (l .0) (value (Int (pos m))) k (not-discr st k i z)) (eqb (discriminantOf (scene .image) w) D)
       (ap (λ (y : Held). eqb (switchNumber (scalarOf (valueOf y))) (D % 18446744073709551616 + 18446744073709551616 * (D / 18446744073709551616))) (update-same env (l .0) (value (Int (pos m))))
       ∙ number-switched m (D % 18446744073709551616) (D / 18446744073709551616)
       ∙ ap₂ (λ (a b : ℕ). eqb a b) (ap (discriminantOf (scene .image)) (stands-read env s)) (halves D))))))

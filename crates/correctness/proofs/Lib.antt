@@ -1,4 +1,3 @@
-pub mod Reading
 pub mod Trails
 pub mod Walking
 pub mod Landing

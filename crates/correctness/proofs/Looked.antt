@@ -4,7 +4,7 @@ use native.Mathlib.Omega.{arith}
 use mathlib.Core.Path.{_≡_, refl, subst}
 use mathlib.Core.Bool.{Bool, true, _&&_}
 use mathlib.Core.Option.{Option, none, some}
-use mathlib.Core.List.{List, [], reverse}
+use mathlib.Core.List.{List, []}
 use lib.ListN.{length, drop}
 use Rattle.image.specs.Tables.{typeCount}
 use Rattle.image.specs.Valid.{valid}
@@ -77,11 +77,11 @@ pub looks-slice : {scene : Scene} {bindings : List ℕ} {M : Mir} {word : ℕ} {
     itemsFit (tyOf (scene .image) u .shape) rest (length fs + length gs) ≡ true → itemsAllFit fs (elementType (tyOf (scene .image) u .shape)) ≡ true →
     itemsAllFit gs (elementType (tyOf (scene .image) u .shape)) ≡ true → length ls + length ks < 18446744073709551616 →
     Looks scene bindings M word (sliceOn (tyOf (scene .image) u .shape) (scene .image) bindings p ls (restOf rest) ks)
-    (λ w. longEnough rest (length ms + length (reverse ns)) (length (partsOf w)) && matchAll ms (partsOf w) && matchAll (reverse ns) (drop (length (partsOf w) - length (reverse ns)) (partsOf w))) u
+    (λ w. longEnough rest (length ms + length ns) (length (partsOf w)) && matchAll ms (partsOf w) && matchAll ns (drop (length (partsOf w) - length ns) (partsOf w))) u
 looks-slice {scene} {bindings} {M} {word} {ls} {ks} {ms} {ns} {fs} {gs} p u holds a z rest items front back small = by (elementType (tyOf (scene .image) u .shape)) refl
   where
     by : (y : TypeNumber) → elementType (tyOf (scene .image) u .shape) ≡ y → Looks scene bindings M word (sliceOn (tyOf (scene .image) u .shape) (scene .image) bindings p ls (restOf rest) ks)
-        (λ w. longEnough rest (length ms + length (reverse ns)) (length (partsOf w)) && matchAll ms (partsOf w) && matchAll (reverse ns) (drop (length (partsOf w) - length (reverse ns)) (partsOf w))) u
+        (λ w. longEnough rest (length ms + length ns) (length (partsOf w)) && matchAll ms (partsOf w) && matchAll ns (drop (length (partsOf w) - length ns) (partsOf w))) u
     by none e = looks-refused _ _ u (λ ctx c els place r is. slice-refused (tyOf (scene .image) u .shape) (scene .image) bindings p ls ks rest ctx c els place r e is)
     by (some t) e =
         record {

@@ -26,7 +26,7 @@ use Rattle.pattern_matching.specs.declared.MatchingMode.{MatchingMode}
 use Rattle.pattern_matching.specs.Walking.{Ctx, Out, Walk, ok, refused, Lowering, next, project}
 use Rattle.pattern_matching.specs.Tests.{literal, litBy, constantPath, rangeEnd?}
 use Rattle.pattern_matching.specs.Variants.{placeTy, tupleOn, tuplePattern, refOn, refPattern, AdtPatternShape, variantFields, adtOn, patternMatchingVariant}
-use Rattle.pattern_matching.specs.Patterns.{passing, orPattern, rangePattern, bindPattern}
+use Rattle.pattern_matching.specs.Patterns.{passing, orPattern, endOp, rangePattern, bindPattern}
 use Rattle.growth.specs.Opened.{Ready, Leaves}
 use Rattle.growth.proofs.Walks.{not-ok, walked}
 use Rattle.growth.proofs.Testing.{good-range-end}
@@ -96,14 +96,6 @@ none-bound (m ∷ ms) w = by (m w) (none-bound ms w)
     by true e = refl
     by false e = e
 
--- a range with an end is read as one that takes that end
-end-there : (image : List ℕ) (t : ℕ) (end : Option Operand) (halfOpen : Bool) (w : Value) →
-    toEnd (operandValue? image t end) (halfOpen && not (isThere end)) w ≡ toEnd (operandValue? image t end) false w
-unfolding toEnd
-end-there image t none halfOpen w = refl
-end-there image t (some o) true w = refl
-end-there image t (some o) false w = refl
-
 module _ {scene : Scene} {bindings : List ℕ} {M : Mir} {word : ℕ} where
   -- nothing to test
   pub looks-passing : (u : ℕ) → Looks scene bindings M word passing (λ w. true) u
@@ -136,30 +128,30 @@ module _ {scene : Scene} {bindings : List ℕ} {M : Mir} {word : ℕ} where
   start-lands p u (some o) worth ctx c els place ty w s h r is x env = lands-end p ctx c els u BinOp.Le o (operandValue (scene .image) u o) r h s worth is x env
 
   -- the other end of a range, if there is one
-  end-lands : (p u : ℕ) (o : Option Operand) → EndIs (scene .image) u o → (ctx : Ctx) (c : BasicBlockId) (els : OptBlock) (place : Place) (ty : PlaceTy) (w : Value) →
-      Stands scene word place ty w → Ready (ctx .state) c els → (r : Out) → rangeEnd? (scene .image) p u BinOp.Ge o ctx c els place ≡ ok r → GoesOn (mirOf (r .ctx .state)) M → (env : Env) →
-      Lands scene bindings M ctx (c .0) env [] r (toEnd (operandValue? (scene .image) u o) false w)
-  unfolding rangeEnd? toEnd compared
-  end-lands p u none worth ctx c els place ty w s h r is x env = lands-here ctx c els r env (h .inside) is
-  end-lands p u (some o) worth ctx c els place ty w s h r is x env =
+  end-lands : (p u : ℕ) (o : Option Operand) (halfOpen : Bool) → EndIs (scene .image) u o → (ctx : Ctx) (c : BasicBlockId) (els : OptBlock) (place : Place) (ty : PlaceTy) (w : Value) →
+      Stands scene word place ty w → Ready (ctx .state) c els → (r : Out) → rangeEnd? (scene .image) p u (endOp halfOpen) o ctx c els place ≡ ok r → GoesOn (mirOf (r .ctx .state)) M → (env : Env) →
+      Lands scene bindings M ctx (c .0) env [] r (toEnd (operandValue? (scene .image) u o) halfOpen w)
+  unfolding rangeEnd? endOp toEnd compared
+  end-lands p u none halfOpen worth ctx c els place ty w s h r is x env = lands-here ctx c els r env (h .inside) is
+  end-lands p u (some o) true worth ctx c els place ty w s h r is x env = lands-end p ctx c els u BinOp.Gt o (operandValue (scene .image) u o) r h s worth is x env
+  end-lands p u (some o) false worth ctx c els place ty w s h r is x env =
       let v = operandValue (scene .image) u o in
       subst (λ (b : Bool). Lands scene bindings M ctx (c .0) env [] r b) (sym (and-all (both notAbove (scalarOf w) (scalarOf v)))) (lands-end p ctx c els u BinOp.Ge o v r h s worth is x env)
 
   -- a Range: one end after the other
   pub looks-range : (p u : ℕ) (start end : Option Operand) (halfOpen : Bool) → EndIs (scene .image) u start → EndIs (scene .image) u end →
-      Looks scene bindings M word (rangePattern (scene .image) p u start end)
-      (λ w. fromStart (operandValue? (scene .image) u start) w && toEnd (operandValue? (scene .image) u end) (halfOpen && not (isThere end)) w) u
+      Looks scene bindings M word (rangePattern (scene .image) p u start end halfOpen)
+      (λ w. fromStart (operandValue? (scene .image) u start) w && toEnd (operandValue? (scene .image) u end) halfOpen w) u
   unfolding rangePattern
   looks-range p u start end halfOpen first last =
       record {
         lands = λ ctx c els place w root s fits h r is x env.
             walked (rangeEnd? (scene .image) p u BinOp.Le start ctx c els place) _ is (λ r₁ e₁ is₁.
             let q : Leaves (ctx .state) c els r₁ = good-range-end (scene .image) p u BinOp.Le start ctx c els place .leaves h r₁ e₁ in
-            let q′ : Leaves (r₁ .ctx .state) (r₁ .then) (r₁ .else) r = good-range-end (scene .image) p u BinOp.Ge end (r₁ .ctx) (r₁ .then) (r₁ .else) place .leaves (q .ready) r is₁ in
+            let q′ : Leaves (r₁ .ctx .state) (r₁ .then) (r₁ .else) r = good-range-end (scene .image) p u (endOp halfOpen) end (r₁ .ctx) (r₁ .then) (r₁ .else) place .leaves (q .ready) r is₁ in
             lands-both r₁ r h q q′ (sharing-range-end (scene .image) p u BinOp.Le start ctx c els place .shares r₁ e₁)
             (start-lands p u start first ctx c els place (PlaceTy.Ty u) w s h r₁ e₁ (before r₁ r q q′ x) env)
-            (λ env _. subst (λ (b : Bool). Lands scene bindings M (r₁ .ctx) (r₁ .then .0) env [] r b) (sym (end-there (scene .image) u end halfOpen w))
-            (end-lands p u end last (r₁ .ctx) (r₁ .then) (r₁ .else) place (PlaceTy.Ty u) w s (q .ready) r is₁ x env)));
+            (λ env _. end-lands p u end halfOpen last (r₁ .ctx) (r₁ .then) (r₁ .else) place (PlaceTy.Ty u) w s (q .ready) r is₁ x env));
       }
 
   -- a Bind: its subpattern

@@ -6,7 +6,6 @@ use mathlib.Core.Logic.{_↔_}
 use mathlib.Core.List.{List, [], _∷_}
 use lib.ListN.{length, getD}
 use Rattle.place.specs.declared.LocalId.{LocalId}
-use Rattle.lower.specs.declared.temps.DiscrTemp.{DiscrTemp}
 use Rattle.correctness.specs.Demand2.{IsNotDiscr, NoneIs, Distinct}
 
 -- what stands nowhere in a list is at none of its places

@@ -11,6 +11,7 @@ use borrow.Author.Tests.{eqb-true, leb-true}
 use lib.Dec.{ltb}
 use lib.ListN.{length, getD, take, drop, length-take, length-drop, length-map, length-reverse}
 use lib.Seq.{drop-cons, take-length, drop-length}
+use Rattle.pattern_matching.specs.Slices.{suffixItems}
 use Rattle.image.specs.Lists.{upFrom}
 use Rattle.image.proofs.Bools.{and-right}
 use Rattle.place.specs.declared.elems.ProjectionElem.{ProjectionElem}
@@ -101,20 +102,16 @@ zip-last a ms w e =
     ∙ and-all (zipMatch (map (λ i. ProjectionElem.Field i) (upFrom a (length ms))) ms w)
     ∙ zip-numbered (λ i. ProjectionElem.Field i) a (length ms) ms w (field-is w) (omega arith) (omega arith)
 
--- the items at the end from the last on, and then more: elements by their numbers from the end
-last-turned : (n m : ℕ) → reverseAux (lastItems n) (map (λ i. ProjectionElem.IndexFromEnd i) (upFrom n m)) ≡ map (λ i. ProjectionElem.IndexFromEnd i) (upFrom 0 (n + m))
+-- the items at the end, each by its number among them, are the last elements
+last-from : (n i m : ℕ) → i + m ≡ n → map (λ k. ProjectionElem.IndexFromEnd (n - 1 - k)) (upFrom i m) ≡ lastItems m
 unfolding upFrom lastItems
-last-turned zero m = ap (λ (k : ℕ). map (λ i. ProjectionElem.IndexFromEnd i) (upFrom 0 k)) (sym (zero-add m))
-last-turned (suc n) m =
-    let more : n + suc m ≡ suc n + m = omega arith in
-    ap (λ (k : ℕ). reverseAux (lastItems n) (ProjectionElem.IndexFromEnd n ∷ map (λ i. ProjectionElem.IndexFromEnd i) (upFrom k m))) (sym (add-one n)) ∙ last-turned n (suc m)
-    ∙ ap (λ (k : ℕ). map (λ i. ProjectionElem.IndexFromEnd i) (upFrom 0 k)) more
+last-from n i zero e = refl
+last-from n i (suc m) e =
+    let here : n - 1 - i ≡ m = omega arith in
+    ap₂ (λ (k : ℕ) (es : List ProjectionElem). ProjectionElem.IndexFromEnd k ∷ es) here (last-from n (i + 1) m (omega arith))
 
--- elements by their numbers from the end, turned round, are the items at the end
-pub last-items : (n : ℕ) → reverse (map (λ i. ProjectionElem.IndexFromEnd i) (upFrom 0 n)) ≡ lastItems n
-unfolding upFrom
-last-items n =
-    ap (λ (k : ℕ). reverse (map (λ i. ProjectionElem.IndexFromEnd i) (upFrom 0 k))) (sym (add-zero n)) ∙ ap reverse (sym (last-turned n 0)) ∙ reverse-reverse (lastItems n)
+pub last-items : (n : ℕ) → suffixItems n ≡ lastItems n
+last-items n = last-from n 0 n (zero-add n)
 
 -- patterns on the items at the end
 zip-items : (ms : List (Value → Bool)) (w : Value) → length ms ≤ length (partsOf w) → zipMatch (lastItems (length ms)) ms w ≡ matchAll ms (drop (length (partsOf w) - length ms) (partsOf w))
@@ -128,17 +125,9 @@ zip-items (m ∷ ms) w there =
     ap₂ (λ (x y : Bool). x && y) (ap (λ (i : ℕ). m (getD (partsOf w) i nothing)) here) (zip-items ms w (omega arith) ∙ ap (λ (i : ℕ). matchAll ms (drop i (partsOf w))) onward)
     ∙ ap (matchAll (m ∷ ms)) (sym (drop-cons (partsOf w) (n - suc k) nothing (omega arith)))
 
--- patterns on elements by their numbers from the end: the last of them on the first of the items at the end
-pub zip-end : (ms : List (Value → Bool)) (w : Value) → length ms ≤ length (partsOf w) →
-    zipMatch (map (λ i. ProjectionElem.IndexFromEnd i) (upFrom 0 (length ms))) ms w ≡ matchAll (reverse ms) (drop (length (partsOf w) - length (reverse ms)) (partsOf w))
-unfolding zipMatch
-zip-end ms w there =
-    let elems = map (λ i. ProjectionElem.IndexFromEnd i) (upFrom 0 (length ms)) in
-    let n = length-reverse ms in
-    sym (and-all (zipMatch elems ms w))
-    ∙ sym (zip-reverse elems [] ms [] w (length-map (upFrom 0 (length ms)) (λ i. ProjectionElem.IndexFromEnd i) ∙ length-from 0 (length ms)))
-    ∙ ap (λ (es : List ProjectionElem). zipMatch es (reverse ms) w) (last-items (length ms) ∙ ap lastItems (sym n))
-    ∙ zip-items (reverse ms) w (omega arith)
+-- as the lowering finds them
+pub zip-end : (ms : List (Value → Bool)) (w : Value) → length ms ≤ length (partsOf w) → zipMatch (suffixItems (length ms)) ms w ≡ matchAll ms (drop (length (partsOf w) - length ms) (partsOf w))
+zip-end ms w there = ap (λ (es : List ProjectionElem). zipMatch es ms w) (last-items (length ms)) ∙ zip-items ms w there
 
 -- arguments in a row: those before the ellipsis on the first fields, and those behind it on the last ones, from the last on
 pub zip-row : (ellipsis : Option ℕ) (ms : List (Value → Bool)) (w : Value) → argumentsFit ellipsis (length ms) (length (partsOf w)) ≡ true →

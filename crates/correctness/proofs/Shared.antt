@@ -5,6 +5,7 @@ use mathlib.Core.Option.{Option, none, some}
 use mathlib.Core.List.{List, [], _∷_, map, reverse}
 use lib.Dec.{leb}
 use lib.ListN.{length, take, drop}
+use mathlib.Core.Bool.{Bool}
 use Rattle.image.specs.declared.kinds.AdtKind.{AdtKind}
 use Rattle.image.specs.declared.kinds.BindingMode.{BindingMode}
 use Rattle.image.specs.Lists.{member, upFrom}
@@ -23,8 +24,8 @@ use Rattle.pattern_matching.specs.declared.MatchingMode.{MatchingMode}
 use Rattle.pattern_matching.specs.Walking.{Ctx, Out, Walk, ok, Lowering, out, withState, project, elseState, elseBlock, inCheck}
 use Rattle.pattern_matching.specs.Tests.{rangeEnd?, litBy}
 use Rattle.pattern_matching.specs.Variants.{placeTy, shapeOf, patternMatchAdt, fieldsUpTo, patternMatchTupleLike, ellipsisAt, tupleOn, tuplePattern, refOn, refPattern, AdtPatternShape, resolved, recordFields, variantFields, discriminantTest, variantOn, adtOn, patternMatchingVariant, variantPattern}
-use Rattle.pattern_matching.specs.Slices.{RestOf, lengthTest, restBound, sliceItems, sliceOn}
-use Rattle.pattern_matching.specs.Patterns.{refusing, passing, Alternatives, behind, alternative, alternatives, alternativesEnd, orPattern, rangePattern, pathPattern, bindPattern, restOf, patternMatchInner, lowerings, lowering?}
+use Rattle.pattern_matching.specs.Slices.{RestOf, lengthTest, restBound, sliceItems, sliceOn, suffixItems}
+use Rattle.pattern_matching.specs.Patterns.{refusing, passing, Alternatives, behind, alternative, alternatives, alternativesEnd, orPattern, endOp, rangePattern, pathPattern, bindPattern, restOf, patternMatchInner, lowerings, lowering?}
 use Rattle.growth.proofs.Opening.{opens-block, opens-else}
 use Rattle.growth.proofs.Walks.{walked, ok-is}
 use Rattle.correctness.proofs.Walking.{Shares, shares-seq}
@@ -161,7 +162,7 @@ sharer-items : (bindings : List ℕ) (p : ℕ) (prefix : List Lowering) (rest : 
 unfolding sliceItems
 sharer-items bindings p prefix rest suffix g h mode ctx c els place =
     let front = map (λ i. ProjectionElem.Index i) (upFrom 0 (length prefix)) in
-    let back = map (λ i. ProjectionElem.IndexFromEnd i) (upFrom 0 (length suffix)) in
+    let back = suffixItems (length suffix) in
     sharing-next (patternMatchAdt p front prefix mode ctx c els place) _ (sharer-adt p front prefix g mode ctx c els place) (λ r.
     sharing-next (restBound rest bindings p (length prefix) (length suffix) mode (r .ctx) (r .then) (r .else) place) _
     (sharer-rest rest bindings p (length prefix) (length suffix) mode (r .ctx) (r .then) (r .else) place) (λ s.
@@ -257,12 +258,12 @@ sharer-bind bindings p b how s g mode ctx c els place =
     sharing-check mode _ _ (sharing-out (r .ctx) (r .then) (r .else)) (sharing-binding bindings p p b how (r .ctx) (r .then) (r .else) place))
 
 -- a Range
-sharer-range : (image : List ℕ) (p ty : ℕ) (start end : Option Operand) → Sharer (rangePattern image p ty start end)
+sharer-range : (image : List ℕ) (p ty : ℕ) (start end : Option Operand) (halfOpen : Bool) → Sharer (rangePattern image p ty start end halfOpen)
 unfolding rangePattern
-sharer-range image p ty start end mode ctx c els place =
+sharer-range image p ty start end halfOpen mode ctx c els place =
     sharing-check mode _ _
     (sharing-next (rangeEnd? image p ty BinOp.Le start ctx c els place) _ (sharing-range-end image p ty BinOp.Le start ctx c els place) (λ r.
-    sharing-range-end image p ty BinOp.Ge end (r .ctx) (r .then) (r .else) place))
+    sharing-range-end image p ty (endOp halfOpen) end (r .ctx) (r .then) (r .else) place))
     (sharing-out ctx c els)
 
 module _ (image bindings : List ℕ) where
@@ -284,7 +285,7 @@ module _ (image bindings : List ℕ) where
         sharer-entered (h .number) (h .derefs) (variantPattern image (h .number) v (AdtPatternShape.Record fields (lowerings image bindings args)))
         (sharer-variant? image (h .number) v (AdtPatternShape.Record fields (lowerings image bindings args)) (sharers args))
     sharer (Pat.Range h start end halfOpen) =
-        sharer-entered (h .number) (h .derefs) (rangePattern image (h .number) (h .ty) start end) (sharer-range image (h .number) (h .ty) start end)
+        sharer-entered (h .number) (h .derefs) (rangePattern image (h .number) (h .ty) start end halfOpen) (sharer-range image (h .number) (h .ty) start end halfOpen)
     sharer (Pat.Slice h prefix rest suffix) =
         sharer-entered (h .number) (h .derefs)
         (sliceOn (tyOf image (h .ty) .shape) image bindings (h .number) (lowerings image bindings prefix) (restOf rest) (lowerings image bindings suffix))

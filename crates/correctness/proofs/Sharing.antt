@@ -25,7 +25,6 @@ use Rattle.mir.specs.Rvalues.{placeRvalueRow, constantRow, binaryRow}
 use Rattle.state.specs.State.{State}
 use Rattle.state.specs.Steps.{nextBlock, nextLocal, tryBlock, tryStatement, setTerminator}
 use Rattle.literals.specs.Literals.{lowerLiteralToOperand, lowerConstToOperand, lowerLiteralOrConstToOperand}
-use Rattle.lower.specs.declared.temps.DiscrTemp.{DiscrTemp}
 use Rattle.lower.specs.declared.merging.OptBlock.{OptBlock}
 use Rattle.lower.specs.Temps.{temp, bindingLocal, pushStorageLiveForLocal, discrTempPlace, discrLocal}
 use Rattle.pattern_matching.specs.declared.MatchingMode.{MatchingMode}
@@ -258,7 +257,7 @@ sharing-length rest image p n ctx c els place =
     (le-trans (opens-locals (opens-else st₂ st₃ (c .0) els e₃)) (opens-locals (opens-block st₃ st₄ (c .0) e₄)))))))))
 
 -- the discriminant's local is the one that there was, or new
-pub not-discr : (st : State) (d : DiscrTemp) (l : ℕ) → l < localCount st → IsNotDiscr d l → IsNotDiscr (DiscrTemp.Some (discrLocal st d)) l
+pub not-discr : (st : State) (l : ℕ) → l < localCount st → IsNotDiscr d l → IsNotDiscr (DiscrTemp.Some (discrLocal st d)) l
 unfolding discrLocal
 not-discr st (DiscrTemp.Some d) l i n = n
 not-discr st DiscrTemp.None l i n = λ e. absurd (omega arith)
@@ -268,16 +267,15 @@ pub sharing-discriminant : (image : List ℕ) (p v : ℕ) (ctx : Ctx) (c : Basic
 unfolding discriminantTest
 sharing-discriminant image p v ctx c els place =
     let st = ctx .state in
-    let l = discrLocal st (ctx .discr) in
-    sharing-step p (discrTempPlace image st (ctx .discr) c) _ (λ st₁ e₁.
+    let l = discrLocal st in
+    sharing-step p (discrTempPlace image st c) _ (λ st₁ e₁.
     sharing-step p (tryStatement st₁ (placeRvalueRow c l PlaceRvalue.Discr place)) _ (λ st₂ e₂.
     sharing-step p (tryBlock st₂) _ (λ st₃ e₃.
     sharing-step p (elseState st₃ els) _ (λ st₄ e₄.
     sharing-ok _ (record {
-      more = terminated st₄ c _ (localCount st) (le-trans (adds-locals (adds-discr image st st₁ (ctx .discr) c e₁))
+      more = terminated st₄ c _ (localCount st) (le-trans (adds-locals (adds-discr image st st₁ c e₁))
           (le-trans (adds-locals (adds-statement st₁ st₂ (c .0) (placeRvalueRow c l PlaceRvalue.Discr place) (place-block c l PlaceRvalue.Discr place) e₂))
           (le-trans (opens-locals (opens-block st₂ st₃ (c .0) e₃)) (opens-locals (opens-else st₃ st₄ (c .0) els e₄)))));
-      discr = λ l i n. not-discr st (ctx .discr) l i n;
     })))))
 
 -- what fills a binding

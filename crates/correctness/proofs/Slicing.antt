@@ -22,7 +22,7 @@ use Rattle.views.specs.Growing.{GoesOn}
 use Rattle.pattern_matching.specs.declared.MatchingMode.{MatchingMode}
 use Rattle.pattern_matching.specs.Walking.{Ctx, Out, Walk, ok, Lowering, next, out}
 use Rattle.pattern_matching.specs.Variants.{patternMatchAdt}
-use Rattle.pattern_matching.specs.Slices.{RestOf, lengthTest, restBound, sliceItems, sliceOn}
+use Rattle.pattern_matching.specs.Slices.{RestOf, lengthTest, restBound, sliceItems, sliceOn, suffixItems}
 use Rattle.pattern_matching.specs.Patterns.{restBy, restOf}
 use Rattle.growth.specs.Opened.{Ready, Leaves}
 use Rattle.growth.proofs.Walks.{not-ok, walked}
@@ -112,18 +112,18 @@ module _ {scene : Scene} {bindings : List ℕ} {M : Mir} {word : ℕ} {ls ks : L
     (holds : valid (scene .image) ≡ true) (a : AllMeant scene bindings M word ls ms fs) (z : AllMeant scene bindings M word ks ns gs) (w : Value) (rest : PatOpt)
     (element : elementType (tyOf (scene .image) t .shape) ≡ some u) (front : itemsAllFit fs (some u) ≡ true) (back : itemsAllFit gs (some u) ≡ true)
     (fits : valueFits (scene .image) w t ≡ true) where
-  -- the items in front, and those at the end from the last on
+  -- the items in front, and those at the end
   lands-items : (ctx : Ctx) (c : BasicBlockId) (els : OptBlock) (place : Place) → length ls + length ks ≤ length (partsOf w) → Rooted scene word (ctx .state) →
       Stands scene word place (PlaceTy.Ty t) w → Ready (ctx .state) c els → (r : Out) → sliceItems bindings p ls (restOf rest) ks MatchingMode.Check ctx c els place ≡ ok r →
       GoesOn (mirOf (r .ctx .state)) M → (env : Env) →
-      Lands scene bindings M ctx (c .0) env [] r (matchAll ms (partsOf w) && matchAll (reverse ns) (drop (length (partsOf w) - length (reverse ns)) (partsOf w)))
+      Lands scene bindings M ctx (c .0) env [] r (matchAll ms (partsOf w) && matchAll ns (drop (length (partsOf w) - length ns) (partsOf w)))
   unfolding sliceItems
   lands-items ctx c els place long root s h r is x env =
       let (ls-ms, ls-fs) = meant-count a in
       let (ks-ns, ks-gs) = meant-count z in
       let P = Reached (scene .image) (PlaceTy.Ty t) w in
       let fronts = map (λ i. ProjectionElem.Index i) (upFrom 0 (length ls)) in
-      let backs = map (λ i. ProjectionElem.IndexFromEnd i) (upFrom 0 (length ks)) in
+      let backs = suffixItems (length ks) in
       walked (patternMatchAdt p fronts ls MatchingMode.Check ctx c els place) _ is (λ r₁ e₁ is₁.
       let is₂ : patternMatchAdt p backs ks MatchingMode.Check (r₁ .ctx) (r₁ .then) (r₁ .else) place ≡ ok r =
       ap (λ (y : Walk Out). next y (λ s. patternMatchAdt p backs ks MatchingMode.Check (s .ctx) (s .then) (s .else) place))
@@ -131,14 +131,14 @@ module _ {scene : Scene} {bindings : List ℕ} {M : Mir} {word : ℕ} {ls ks : L
       let q : Leaves (ctx .state) c els r₁ = grows-adt p fronts ls (meant-grow a) MatchingMode.Check ctx c els place .leaves h r₁ e₁ in
       let q′ : Leaves (r₁ .ctx .state) (r₁ .then) (r₁ .else) r = grows-adt p backs ks (meant-grow z) MatchingMode.Check (r₁ .ctx) (r₁ .then) (r₁ .else) place .leaves (q .ready) r is₂ in
       let first : zipMatch fronts ms w ≡ matchAll ms (partsOf w) = zip-numbered (λ i. ProjectionElem.Index i) 0 (length ls) ms w (index-is w) (omega arith) (omega arith) in
-      let second : zipMatch backs ns w ≡ matchAll (reverse ns) (drop (length (partsOf w) - length (reverse ns)) (partsOf w)) =
-      ap (λ (k : ℕ). zipMatch (map (λ i. ProjectionElem.IndexFromEnd i) (upFrom 0 k)) ns w) ks-ns ∙ zip-end ns w (omega arith) in
+      let second : zipMatch backs ns w ≡ matchAll ns (drop (length (partsOf w) - length ns) (partsOf w)) =
+      ap (λ (k : ℕ). zipMatch (suffixItems k) ns w) ks-ns ∙ zip-end ns w (omega arith) in
       subst (λ (b : Bool). Lands scene bindings M ctx (c .0) env [] r b) (ap₂ (λ (y k : Bool). y && k) first second)
       (lands-both r₁ r h q q′ (sharer-adt p fronts ls (meant-share a) MatchingMode.Check ctx c els place .shares r₁ e₁)
       (lands-adt p fronts holds a ctx c els place (PlaceTy.Ty t) w
       (items-placed P (λ i. ProjectionElem.Index i) 0 (length ls) fs u (λ i k. (index-valued (scene .image) t w element fits (0 + i) (omega arith), tt)) front) root s h r₁ e₁ (before r₁ r q q′ x) env)
       (λ env _. lands-adt p backs holds z (r₁ .ctx) (r₁ .then) (r₁ .else) place (PlaceTy.Ty t) w
-      (items-placed P (λ i. ProjectionElem.IndexFromEnd i) 0 (length ks) gs u (λ i k. (end-valued (scene .image) t w element fits (0 + i) (omega arith), tt)) back)
+      (items-placed P (λ i. ProjectionElem.IndexFromEnd (length ks - 1 - i)) 0 (length ks) gs u (λ i k. (end-valued (scene .image) t w element fits (length ks - 1 - (0 + i)) (omega arith), tt)) back)
       (rooted-after r₁ q root) s (q .ready) r is₂ x env)))
 
   module _ (ctx : Ctx) (c : BasicBlockId) (els : OptBlock) (place : Place) (root : Rooted scene word (ctx .state)) (s : Stands scene word place (PlaceTy.Ty t) w) (h : Ready (ctx .state) c els)
@@ -147,7 +147,7 @@ module _ {scene : Scene} {bindings : List ℕ} {M : Mir} {word : ℕ} {ls ks : L
     slice-by : (shape : Shape) → tyOf (scene .image) t .shape ≡ shape → itemsFit shape rest (length fs + length gs) ≡ true →
         sliceOn shape (scene .image) bindings p ls (restOf rest) ks MatchingMode.Check ctx c els place ≡ ok r → GoesOn (mirOf (r .ctx .state)) M → (env : Env) →
         Lands scene bindings M ctx (c .0) env [] r
-        (longEnough rest (length ms + length (reverse ns)) (length (partsOf w)) && matchAll ms (partsOf w) && matchAll (reverse ns) (drop (length (partsOf w) - length (reverse ns)) (partsOf w)))
+        (longEnough rest (length ms + length ns) (length (partsOf w)) && matchAll ms (partsOf w) && matchAll ns (drop (length (partsOf w) - length ns) (partsOf w)))
     unfolding sliceOn
     slice-by (integer size signed) e i is x env = absurd (not-ok is)
     slice-by bool e i is x env = absurd (not-ok is)
@@ -161,32 +161,32 @@ module _ {scene : Scene} {bindings : List ℕ} {M : Mir} {word : ℕ} {ls ks : L
         let (ls-ms, ls-fs) = meant-count a in
         let (ks-ns, ks-gs) = meant-count z in
         let size : length (partsOf w) ≡ n = ap length (array-parts vs w q) ∙ len in
-        let count : length fs + length gs ≡ length ms + length (reverse ns) = omega (arith, length-reverse ns) in
-        let long : longEnough rest (length ms + length (reverse ns)) (length (partsOf w)) ≡ true =
+        let count : length fs + length gs ≡ length ms + length ns = omega arith in
+        let long : longEnough rest (length ms + length ns) (length (partsOf w)) ≡ true =
         ap₂ (longEnough rest) (sym count) size ∙ array-long rest y n (length fs + length gs) i in
-        subst (λ (b : Bool). Lands scene bindings M ctx (c .0) env [] r (b && matchAll ms (partsOf w) && matchAll (reverse ns) (drop (length (partsOf w) - length (reverse ns)) (partsOf w)))) (sym long)
-        (lands-items ctx c els place (omega (arith, long-there rest (length ms + length (reverse ns)) (length (partsOf w)) long, length-reverse ns)) root s h r is x env)
+        subst (λ (b : Bool). Lands scene bindings M ctx (c .0) env [] r (b && matchAll ms (partsOf w) && matchAll ns (drop (length (partsOf w) - length ns) (partsOf w)))) (sym long)
+        (lands-items ctx c els place (omega (arith, long-there rest (length ms + length ns) (length (partsOf w)) long)) root s h r is x env)
     slice-by (slice y) e i is x env =
         let (ls-ms, ls-fs) = meant-count a in
         let (ks-ns, ks-gs) = meant-count z in
-        let count : length ls + length ks ≡ length ms + length (reverse ns) = omega (arith, length-reverse ns) in
-        let told : longTested (restOf rest) (length ls + length ks) (length (partsOf w)) ≡ longEnough rest (length ms + length (reverse ns)) (length (partsOf w)) =
-        ap (λ (k : ℕ). longTested (restOf rest) k (length (partsOf w))) count ∙ long-tested rest (length ms + length (reverse ns)) (length (partsOf w)) in
+        let count : length ls + length ks ≡ length ms + length ns = omega arith in
+        let told : longTested (restOf rest) (length ls + length ks) (length (partsOf w)) ≡ longEnough rest (length ms + length ns) (length (partsOf w)) =
+        ap (λ (k : ℕ). longTested (restOf rest) k (length (partsOf w))) count ∙ long-tested rest (length ms + length ns) (length (partsOf w)) in
         walked (lengthTest (restOf rest) (scene .image) p (length ls + length ks) ctx c els place) _ is (λ r₁ e₁ is₁.
         let q : Leaves (ctx .state) c els r₁ = good-length (restOf rest) (scene .image) p (length ls + length ks) ctx c els place .leaves h r₁ e₁ in
         let q′ : Leaves (r₁ .ctx .state) (r₁ .then) (r₁ .else) r =
         grows-items bindings p ls (restOf rest) ks (meant-grow a) (meant-grow z) MatchingMode.Check (r₁ .ctx) (r₁ .then) (r₁ .else) place .leaves (q .ready) r is₁ in
         subst (λ (b : Bool). Lands scene bindings M ctx (c .0) env [] r b)
-        (and-assoc (longEnough rest (length ms + length (reverse ns)) (length (partsOf w))) (matchAll ms (partsOf w)) (matchAll (reverse ns) (drop (length (partsOf w) - length (reverse ns)) (partsOf w))))
+        (and-assoc (longEnough rest (length ms + length ns) (length (partsOf w))) (matchAll ms (partsOf w)) (matchAll ns (drop (length (partsOf w) - length ns) (partsOf w))))
         (lands-both r₁ r h q q′ (sharing-length (restOf rest) (scene .image) p (length ls + length ks) ctx c els place .shares r₁ e₁)
         (subst (λ (b : Bool). Lands scene bindings M ctx (c .0) env [] r₁ b) told
         (lands-length p ctx c els (restOf rest) (length ls + length ks) r₁ h root s small e₁ (before r₁ r q q′ x) env))
-        (λ env b. lands-items (r₁ .ctx) (r₁ .then) (r₁ .else) place (omega (arith, long-there rest (length ms + length (reverse ns)) (length (partsOf w)) b, length-reverse ns)) (rooted-after r₁ q root) s (q .ready) r is₁ x env)))
+        (λ env b. lands-items (r₁ .ctx) (r₁ .then) (r₁ .else) place (omega (arith, long-there rest (length ms + length ns) (length (partsOf w)) b)) (rooted-after r₁ q root) s (q .ready) r is₁ x env)))
     slice-by unknown e i is x env = absurd (not-ok is)
 
     -- a Slice
     pub lands-slice : itemsFit (tyOf (scene .image) t .shape) rest (length fs + length gs) ≡ true →
         sliceOn (tyOf (scene .image) t .shape) (scene .image) bindings p ls (restOf rest) ks MatchingMode.Check ctx c els place ≡ ok r → GoesOn (mirOf (r .ctx .state)) M → (env : Env) →
         Lands scene bindings M ctx (c .0) env [] r
-        (longEnough rest (length ms + length (reverse ns)) (length (partsOf w)) && matchAll ms (partsOf w) && matchAll (reverse ns) (drop (length (partsOf w) - length (reverse ns)) (partsOf w)))
+        (longEnough rest (length ms + length ns) (length (partsOf w)) && matchAll ms (partsOf w) && matchAll ns (drop (length (partsOf w) - length ns) (partsOf w)))
     lands-slice i is x env = slice-by (tyOf (scene .image) t .shape) refl i is x env

@@ -17,7 +17,6 @@ use Rattle.mir.specs.declared.rvalues.Left.{Left}
 use Rattle.mir.specs.Rvalues.{binaryRow}
 use Rattle.state.specs.State.{State}
 use Rattle.state.specs.Steps.{nextLocal, setTerminator, tryStatement}
-use Rattle.lower.specs.declared.temps.DiscrTemp.{DiscrTemp}
 use Rattle.lower.specs.declared.merging.OptBlock.{OptBlock}
 use Rattle.lower.specs.Temps.{temp}
 use Rattle.views.specs.Views.{binary, Mir, mirOf}
@@ -47,10 +46,10 @@ bool-switched false = refl
 
 module _ {scene : Scene} {bindings : List ℕ} {M : Mir} (ctx : Ctx) (c : BasicBlockId) (els : OptBlock) where
   -- the end of a test, over any lines before it: the switch goes on at t where the local is the value, and else at e
-  pub lands-switch : {st₁ : State} {f : Env → Env} (l : LocalId) (low high : ℕ) (t e : BasicBlockId) (d : DiscrTemp) (v : List ℕ) (r : Out) → Ready (ctx .state) c els →
+  pub lands-switch : {st₁ : State} {f : Env → Env} (l : LocalId) (low high : ℕ) (t e : BasicBlockId) (v : List ℕ) (r : Out) → Ready (ctx .state) c els →
       Does scene (ctx .state) (c .0) st₁ f → count (ctx .state) ≤ t .0 → low < 18446744073709551616 → high < 18446744073709551616 →
       ok (result (setTerminator st₁ c (Terminator.Switch l low high t e)) d v t (OptBlock.Some e)) ≡ ok r → Leaves (ctx .state) c els r → GoesOn (mirOf (r .ctx .state)) M →
-      (env : Env) → ((k : ℕ) → k < length (ctx .state .locals) → IsNotDiscr (ctx .discr) k → f env k ≡ env k) →
+      (env : Env) → ((k : ℕ) → k < length (ctx .state .locals) → IsNotDiscr k → f env k ≡ env k) →
       (b : Bool) → eqb (switchNumber (scalarOf (valueOf (f env (l .0))))) (low + 18446744073709551616 * high) ≡ b →
       Lands scene bindings M ctx (c .0) env [] r b
   unfolding switched after setTerminator mirOf rest
@@ -113,7 +112,7 @@ module _ {scene : Scene} {bindings : List ℕ} {M : Mir} (image : List ℕ) (p :
   -- an operator's test, behind what was done before it
   pub lands-compare : {st : State} {f : Env → Env} (t e : BasicBlockId) (r : Out) → Ready (ctx .state) c els → Does scene (ctx .state) (c .0) st f → count (ctx .state) ≤ t .0 →
       length (ctx .state .locals) ≤ length (st .locals) → SmallLeft left → place .len ≤ 16 → length (place .elems) ≡ 16 → compare image p op left place ctx st c t e ≡ ok r →
-      Leaves (ctx .state) c els r → GoesOn (mirOf (r .ctx .state)) M → (env : Env) → ((k : ℕ) → k < length (ctx .state .locals) → IsNotDiscr (ctx .discr) k → f env k ≡ env k) →
+      Leaves (ctx .state) c els r → GoesOn (mirOf (r .ctx .state)) M → (env : Env) → ((k : ℕ) → k < length (ctx .state .locals) → IsNotDiscr k → f env k ≡ env k) →
       Lands scene bindings M ctx (c .0) env [] r (compared op (leftValue left scene (f env)) (read scene (f env) (pathOf place)))
   unfolding compare execute rvalueValue
   lands-compare {st} {f} t e r h p₀ new more small len elems is q x env kept =
@@ -121,7 +120,7 @@ module _ {scene : Scene} {bindings : List ℕ} {M : Mir} (image : List ℕ) (p :
       stepped p (tryStatement st₁ (binaryRow c (nextLocal st) op left place)) _ is₁ (λ st₂ e₂ is₂.
       let b = compared op (leftValue left scene (f env)) (read scene (f env) (pathOf place)) in
       let l = length (st .locals) in
-      lands-switch ctx c els {f = comparing scene op left place l f} (nextLocal st) 1 0 t e (ctx .discr) (ctx .visits) r h
+      lands-switch ctx c els {f = comparing scene op left place l f} (nextLocal st) 1 0 t e (ctx .visits) r h
       (does-seq (does-seq p₀ (does-temp image st st₁ boolWord c e₁))
       (does-line (c .0) st₁ st₂ (binaryRow c (nextLocal st) op left place) (puts l (binary op left (pathOf place))) (binary-back c (nextLocal st) op left place small len elems) e₂))
       new (omega arith) (omega arith) is₂ q x env

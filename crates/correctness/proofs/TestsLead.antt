@@ -96,7 +96,7 @@ module _ {scene : Scene} {bindings : List ℕ} {M : Mir} {word : ℕ} {place : P
       let told : b ≡ compared BinOp.Eq v w = ap₂ (λ (y z : Value). compared BinOp.Eq y z) (ap valueOf (update-same env n (value (constantValue (scene .image) k))) ∙ worth) (stands-read env₁ s) in
       subst (λ (y : Bool). Lands scene bindings M ctx (c .0) env [] r y) told
       (lands-switch ctx c els {f = λ (e : Env). update (update e n (value (constantValue (scene .image) k))) m (value (Bool′ (compared BinOp.Eq (valueOf (update e n (value (constantValue (scene .image) k)) n)) (read scene (update e n (value (constantValue (scene .image) k))) (pathOf place)))))}
-      (nextLocal st₂) 1 0 (nextBlock st₄) (elseBlock st₅ els) (ctx .discr) (ctx .visits) r h
+      (nextLocal st₂) 1 0 (nextBlock st₄) (elseBlock st₅ els) (ctx .visits) r h
       (does-seq (does-seq (does-temp (scene .image) st st₁ t c e₁)
       (does-line (c .0) st₁ st₂ (constantRow c (nextLocal st) k) (puts n (ofConstant k)) (constant-back c (nextLocal st) k small) e₂))
       (does-seq (does-seq (does-temp (scene .image) st₂ st₃ boolWord c e₃)

@@ -105,7 +105,7 @@ module _ {scene : Scene} {M : Mir} where
 -- From a context to a later one: no local is lost, and a local that there was and that was not the discriminant's is not
 pub record Shares (ctx ctx₁ : Ctx) : Type 0 where
   pub more : length (ctx .state .locals) ≤ length (ctx₁ .state .locals)
-  pub discr : (l : ℕ) → l < length (ctx .state .locals) → IsNotDiscr (ctx .discr) l → IsNotDiscr (ctx₁ .discr) l
+  pub discr : (l : ℕ) → l < length (ctx .state .locals) → IsNotDiscr l → IsNotDiscr l
 
 -- from one context to a later one, and on
 pub shares-seq : {ctx ctx₁ ctx₂ : Ctx} → Shares ctx ctx₁ → Shares ctx₁ ctx₂ → Shares ctx ctx₂
@@ -117,7 +117,7 @@ pub record Walked (scene : Scene) (bindings : List ℕ) (M : Mir) (ctx : Ctx) (c
   pub env′ : Env
   pub entered : List ℕ
   pub run : Run scene M current (rest (ctx .state) M) env b left env′ entered
-  pub locals : (l : ℕ) → l < length (ctx .state .locals) → IsNotDiscr (ctx .discr) l → env′ l ≡ after bindings bs l (env l)
+  pub locals : (l : ℕ) → l < length (ctx .state .locals) → IsNotDiscr l → env′ l ≡ after bindings bs l (env l)
   pub trail : Trail (ctx .state) (ctx₁ .state) current entered b
 
 -- with true: to the block that goes on, behind its lines, with the bindings bs; with false: to the else, on reaching it

@@ -13,7 +13,6 @@ use Rattle.place.specs.declared.Place.{Place}
 use Rattle.place.specs.declared.place_ty.PlaceTy.{PlaceTy}
 use Rattle.place.specs.Places.{projectionOf}
 use Rattle.mir.specs.declared.BasicBlockId.{BasicBlockId}
-use Rattle.lower.specs.declared.temps.DiscrTemp.{DiscrTemp}
 use Rattle.lower.specs.declared.merging.OptBlock.{OptBlock}
 use Rattle.views.specs.Views.{Path, Line, Mir}
 use Rattle.pattern_matching.specs.Walking.{Ctx}
@@ -28,11 +27,6 @@ use Rattle.meaning.specs.Fits.{fits}
 -- a place of the lowering, as MIR has it
 abbrev pub pathOf : Place → Path
 pathOf place = record { local = place .local .0; elems = projectionOf place }
-
--- the local l is not the discriminant's, or no discriminant local was handed in
-abbrev pub IsNotDiscr : DiscrTemp → ℕ → Type 0
-IsNotDiscr DiscrTemp.None l = Unit
-IsNotDiscr (DiscrTemp.Some d) l = l ≡ d .0 → ⊥
 
 -- what a call of `pattern_match` is handed that number 2 does not refuse, on a place of the type t
 pub record Handed (image bindings : List ℕ) (ctx : Ctx) (current : BasicBlockId) (els : OptBlock) (place : Place) (t : ℕ) : Type 0 where
@@ -49,7 +43,7 @@ pub record Fitting (image bindings : List ℕ) (ctx : Ctx) (place : Place) (t : 
   pub image-valid : valid image ≡ true
   -- an image is bytes
   pub image-bytes : (i : ℕ) → getD image i 0 < 256
-  pub pattern : fits image bindings (place .local .0) (ctx .discr) t pat ≡ true
+  pub pattern : fits image bindings (place .local .0) t pat ≡ true
   pub value : valueFits image v t ≡ true
 
 -- what a local holds after some bindings, if it held `held` before: what is bound to it last
@@ -76,10 +70,10 @@ pub record Stops (image : List ℕ) (M : Mir) (place : Place) (v : Value) (ctx :
   pub run : Run (record { image = image; root = pathOf place; here = v }) M (current .0) (drop (length (ctx .state .statements)) (M .lines)) env b left env′ entered
   pub once : Distinct (current .0 ∷ entered)
 
--- such a run, after which every local handed in, but the discriminant's, holds what the bindings say or what it held
+-- such a run, after which every local handed in holds what the bindings say or what it held
 pub record Comes (image bindings : List ℕ) (M : Mir) (place : Place) (v : Value) (ctx : Ctx) (current : BasicBlockId) (env : Env) (bs : List Bound) (b : ℕ) (left : List Line) : Type 0 where
   pub stops : Stops image M place v ctx current env b left
-  pub locals : (l : ℕ) → l < length (ctx .state .locals) → IsNotDiscr (ctx .discr) l → stops .env′ l ≡ after bindings bs l (env l)
+  pub locals : (l : ℕ) → l < length (ctx .state .locals) → stops .env′ l ≡ after bindings bs l (env l)
 
 -- The run as a function, in the body m that the call hands out, ends where a run as a relation comes to, with as many steps as it takes: `at` is `atThen`, at the
 -- end of then, or `atElse`, on reaching the else.

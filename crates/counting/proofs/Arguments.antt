@@ -22,7 +22,7 @@ use Rattle.counting.proofs.Passing.{Pass, modeOf, After, Before, before
 -- a lowering adds what is counted of the patterns that it reaches
 pub record Counts (image : List ℕ) (l : Lowering) (fails : PlaceTy → Bool) (reach : Reaching) : Type 0 where
   pub goes : (pass : Pass) (c : Ctx) (current : BasicBlockId) (els : OptBlock) (place : Place) (ty : PlaceTy) (k : ℕ) (f : Bool) → On image c place ty →
-      Before pass (someEnum (reach ty k f)) (c .discr) → Holds (After pass c els (fails ty) k f (reach ty k f)) (l (modeOf pass) c current els place)
+      Before pass (someEnum (reach ty k f)) → Holds (After pass c els (fails ty) k f (reach ty k f)) (l (modeOf pass) c current els place)
 
 -- each of a row of lowerings does
 pub data Each (image : List ℕ) : List Lowering → List (PlaceTy → Bool) → List Reaching → Type 0 where
@@ -78,18 +78,18 @@ on-after a o = on-went (a .steps .went) o
 
 -- what comes before the second of two lists
 pub before-rest : {pass : Pass} {c : Ctx} {els : OptBlock} {fails f : Bool} {k : ℕ} {rs : List Reached} {r : Out} (rs′ : List Reached) → After pass c els fails k f rs r →
-    Before pass (someEnum (rs ++ rs′)) (c .discr) → Before pass (someEnum rs′) (r .ctx .discr)
+    Before pass (someEnum (rs ++ rs′)) → Before pass (someEnum rs′)
 before-rest {pass = pass} {c = c} {rs = rs} {r = r} rs′ a b =
-    before-second pass (someEnum rs) (someEnum rs′) (c .discr) (r .ctx .discr) (a .steps .discr) (subst (λ (e : Bool). Before pass e (c .discr)) (some-append rs rs′) b)
+    before-second pass (someEnum rs) (someEnum rs′) (a .steps .discr) (subst (λ (e : Bool). Before pass e) (some-append rs rs′) b)
 
 -- and before the first
-pub before-start : (pass : Pass) (c : Ctx) (rs rs′ : List Reached) → Before pass (someEnum (rs ++ rs′)) (c .discr) → Before pass (someEnum rs) (c .discr)
-before-start pass c rs rs′ b = before-first pass (someEnum rs) (someEnum rs′) (c .discr) (subst (λ (e : Bool). Before pass e (c .discr)) (some-append rs rs′) b)
+pub before-start : (pass : Pass) (c : Ctx) (rs rs′ : List Reached) → Before pass (someEnum (rs ++ rs′)) → Before pass (someEnum rs)
+before-start pass c rs rs′ b = before-first pass (someEnum rs) (someEnum rs′) (subst (λ (e : Bool). Before pass e) (some-append rs rs′) b)
 
 -- arguments, each on the place one element on
 pub holds-arguments : {image : List ℕ} {ls : List Lowering} {fs : List (PlaceTy → Bool)} {rs : List Reaching} (p : ℕ) (elems : List ProjectionElem) → Each image ls fs rs → AllFit elems →
     (pass : Pass) (c : Ctx) (current : BasicBlockId) (els : OptBlock) (place : Place) (ty : PlaceTy) (k : ℕ) → On image c place ty →
-    Before pass (someEnum (throughArguments image ty k (zip elems rs))) (c .discr) →
+    Before pass (someEnum (throughArguments image ty k (zip elems rs))) →
     Holds (After pass c els (someArgument image ty (zip elems fs)) k false (throughArguments image ty k (zip elems rs))) (patternMatchAdt p elems ls (modeOf pass) c current els place)
 unfolding patternMatchAdt zip someArgument throughArguments multiProjectionTy
 holds-arguments p [] e fit pass c current els place ty k o b = holds (After pass c els false k false []) _ (after-none pass c current els k)

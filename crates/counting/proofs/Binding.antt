@@ -2,7 +2,7 @@
 use mathlib.Core.Path.{_≡_, refl, sym, ap, subst, _∙_}
 use mathlib.Core.Bool.{Bool, true, false, cond, _||_, or-assoc}
 use mathlib.Core.List.{List, [], _∷_, _++_, map}
-use Prim.Native.Nat.{ℕ, suc, _+_, _≤_}
+use Prim.Native.Nat.{ℕ, suc, _+_, _-_, _≤_}
 use native.Mathlib.Omega.{arith}
 use lib.ListN.{length}
 use Rattle.image.specs.declared.kinds.BindingMode.{BindingMode}
@@ -24,7 +24,7 @@ use Rattle.lower.specs.Temps.{bindingLocal, pushStorageLiveForLocal}
 use Rattle.pattern_matching.specs.Walking.{Ctx, Out, Walk, ok, Lowering, next, step, out, withState, project, visited, inCheck}
 use Rattle.pattern_matching.specs.Tests.{bindingRvalue, patternMatchBinding}
 use Rattle.pattern_matching.specs.Variants.{patternMatchAdt}
-use Rattle.pattern_matching.specs.Slices.{RestOf, lengthTest, restBound, sliceItems, sliceOn}
+use Rattle.pattern_matching.specs.Slices.{RestOf, lengthTest, restBound, sliceItems, sliceOn, suffixItems}
 use Rattle.pattern_matching.specs.Patterns.{bindPattern}
 use Rattle.counting.specs.Reaching.{Argument, zip, items, someArgument, isSliceShape, lengthStatements, restBinds, binding, Reaching, Reached, throughArguments}
 use Rattle.counting.specs.Counting.{someEnum}
@@ -112,16 +112,16 @@ each-reach none-left = refl
 each-reach (one-more h e) = ap suc (each-reach e)
 
 -- items of a Slice, each at its index
-holds-indexed : {image : List ℕ} {ls : List Lowering} {fs : List (PlaceTy → Bool)} {rs : List Reaching} (p : ℕ) (index : ℕ → ProjectionElem) → ((i : ℕ) → Fits (index i)) →
+holds-indexed : {image : List ℕ} {ls : List Lowering} {fs : List (PlaceTy → Bool)} {rs : List Reaching} (p : ℕ) (index : ℕ → ℕ → ProjectionElem) → ((n i : ℕ) → Fits (index n i)) →
     Each image ls fs rs → (pass : Pass) (c : Ctx) (current : BasicBlockId) (els : OptBlock) (place : Place) (ty : PlaceTy) (k : ℕ) → On image c place ty →
-    Before pass (someEnum (throughArguments image ty k (zip (map index (upFrom 0 (length rs))) rs))) (c .discr) →
-    Holds (AfterArguments image pass c els ty k (zip (map index (upFrom 0 (length fs))) fs) (zip (map index (upFrom 0 (length rs))) rs))
-    (patternMatchAdt p (map index (upFrom 0 (length ls))) ls (modeOf pass) c current els place)
+    Before pass (someEnum (throughArguments image ty k (zip (map (index (length rs)) (upFrom 0 (length rs))) rs))) →
+    Holds (AfterArguments image pass c els ty k (zip (map (index (length fs)) (upFrom 0 (length fs))) fs) (zip (map (index (length rs)) (upFrom 0 (length rs))) rs))
+    (patternMatchAdt p (map (index (length ls)) (upFrom 0 (length ls))) ls (modeOf pass) c current els place)
 holds-indexed {image = image} {ls = ls} {fs = fs} {rs = rs} p index fit e pass c current els place ty k o b =
-    subst (λ (n : ℕ). Holds (AfterArguments image pass c els ty k (zip (map index (upFrom 0 n)) fs) (zip (map index (upFrom 0 (length rs))) rs)) (patternMatchAdt p (map index (upFrom 0 (length ls))) ls (modeOf pass) c current els place)) (each-fails e)
-    (subst (λ (n : ℕ). Holds (AfterArguments image pass c els ty k (zip (map index (upFrom 0 (length ls))) fs) (zip (map index (upFrom 0 n)) rs)) (patternMatchAdt p (map index (upFrom 0 (length ls))) ls (modeOf pass) c current els place)) (each-reach e)
-    (holds-arguments p (map index (upFrom 0 (length ls))) e (fit-all index fit (upFrom 0 (length ls))) pass c current els place ty k o
-    (subst (λ (n : ℕ). Before pass (someEnum (throughArguments image ty k (zip (map index (upFrom 0 n)) rs))) (c .discr)) (sym (each-reach e)) b)))
+    subst (λ (n : ℕ). Holds (AfterArguments image pass c els ty k (zip (map (index n) (upFrom 0 n)) fs) (zip (map (index (length rs)) (upFrom 0 (length rs))) rs)) (patternMatchAdt p (map (index (length ls)) (upFrom 0 (length ls))) ls (modeOf pass) c current els place)) (each-fails e)
+    (subst (λ (n : ℕ). Holds (AfterArguments image pass c els ty k (zip (map (index (length ls)) (upFrom 0 (length ls))) fs) (zip (map (index n) (upFrom 0 n)) rs)) (patternMatchAdt p (map (index (length ls)) (upFrom 0 (length ls))) ls (modeOf pass) c current els place)) (each-reach e)
+    (holds-arguments p (map (index (length ls)) (upFrom 0 (length ls))) e (fit-all (index (length ls)) (fit (length ls)) (upFrom 0 (length ls))) pass c current els place ty k o
+    (subst (λ (n : ℕ). Before pass (someEnum (throughArguments image ty k (zip (map (index n) (upFrom 0 n)) rs)))) (sym (each-reach e)) b)))
 
 module _ {image : List ℕ} {ls ls′ : List Lowering} {fs fs′ : List (PlaceTy → Bool)} {rs rs′ : List Reaching} (front : Each image ls fs rs) (back : Each image ls′ fs′ rs′) (bindings : List ℕ) (h : Head)
     (rest : RestOf) (pass : Pass) (c : Ctx) (els : OptBlock) (place : Place) (ty : PlaceTy) (k : ℕ) (f : Bool) where
@@ -131,30 +131,30 @@ module _ {image : List ℕ} {ls ls′ : List Lowering} {fs fs′ : List (PlaceTy
 
   -- those at the end
   abbrev backOf : {A : Type 0} → List A → List (Argument A)
-  backOf xs = zip (map (λ i. ProjectionElem.IndexFromEnd i) (upFrom 0 (length xs))) xs
+  backOf xs = zip (suffixItems (length xs)) xs
 
   -- the items in front, the rest, and the items at the end, behind the pattern's own visit
   holds-items : (fails : Bool) (t s : ℕ) (r : Out) → After pass c els fails k f (binding h k f t s 0 ∷ []) r → On image (r .ctx) place ty →
-      Before pass (someEnum (throughArguments image ty k (items rs rs′))) (c .discr) →
+      Before pass (someEnum (throughArguments image ty k (items rs rs′))) →
       Holds (After pass c els (fails || someArgument image ty (items fs fs′)) k f (binding h k f t s (restBinds rest) ∷ throughArguments image ty k (items rs rs′)))
       (sliceItems bindings (h .number) ls rest ls′ (modeOf pass) (r .ctx) (r .then) (r .else) place)
   unfolding sliceItems items someEnum
   holds-items fails t s r a o before =
       let R = throughArguments image ty k (frontOf rs) in
       let R′ = throughArguments image ty k (backOf rs′) in
-      let b : Before pass (someEnum (R ++ R′)) (c .discr) = subst (λ (l : List Reached). Before pass (someEnum l) (c .discr)) (through-append image ty k (frontOf rs) (backOf rs′)) before in
-      let b₁ : Before pass (someEnum (R ++ R′)) (r .ctx .discr) = before-rest (R ++ R′) a b in
+      let b : Before pass (someEnum (R ++ R′)) = subst (λ (l : List Reached). Before pass (someEnum l)) (through-append image ty k (frontOf rs) (backOf rs′)) before in
+      let b₁ : Before pass (someEnum (R ++ R′)) = before-rest (R ++ R′) a b in
       holds-next (patternMatchAdt (h .number) (map (λ i. ProjectionElem.Index i) (upFrom 0 (length ls))) ls (modeOf pass) (r .ctx) (r .then) (r .else) place) k₁
-      (holds-indexed (h .number) (λ i. ProjectionElem.Index i) (λ i. tt) front pass (r .ctx) (r .then) (r .else) place ty k o (before-start pass (r .ctx) R R′ b₁)) (λ r₁ a₁.
+      (holds-indexed (h .number) (λ n i. ProjectionElem.Index i) (λ n i. tt) front pass (r .ctx) (r .then) (r .else) place ty k o (before-start pass (r .ctx) R R′ b₁)) (λ r₁ a₁.
       holds-next (restBound rest bindings (h .number) (length ls) (length ls′) (modeOf pass) (r₁ .ctx) (r₁ .then) (r₁ .else) place) k₂
       (holds-rest rest bindings (h .number) (length ls) (length ls′) pass (r₁ .ctx) (r₁ .then) (r₁ .else) place) (λ r₂ s₂.
       let x = after-late h t s (restBinds rest) (rest-small rest) (after-more a a₁) s₂ in
       holds-as (λ r₃ a₃. whole r₃ (after-more x a₃))
-      (holds-indexed (h .number) (λ i. ProjectionElem.IndexFromEnd i) (λ i. tt) back pass (r₂ .ctx) (r₂ .then) (r₂ .else) place ty k (on-went (s₂ .went) (on-after a₁ o))
+      (holds-indexed (h .number) (λ n i. ProjectionElem.IndexFromEnd (n - 1 - i)) (λ n i. tt) back pass (r₂ .ctx) (r₂ .then) (r₂ .else) place ty k (on-went (s₂ .went) (on-after a₁ o))
       (before-rest R′ x b))))
     where
       k₂ : Out → Walk Out
-      k₂ r₂ = patternMatchAdt (h .number) (map (λ i. ProjectionElem.IndexFromEnd i) (upFrom 0 (length ls′))) ls′ (modeOf pass) (r₂ .ctx) (r₂ .then) (r₂ .else) place
+      k₂ r₂ = patternMatchAdt (h .number) (suffixItems (length ls′)) ls′ (modeOf pass) (r₂ .ctx) (r₂ .then) (r₂ .else) place
 
       k₁ : Out → Walk Out
       k₁ r₁ = next (restBound rest bindings (h .number) (length ls) (length ls′) (modeOf pass) (r₁ .ctx) (r₁ .then) (r₁ .else) place) k₂
@@ -197,7 +197,7 @@ module _ {image : List ℕ} {ls ls′ : List Lowering} {fs fs′ : List (PlaceTy
       by binds = holds (After binds c els true k f (x ∷ [])) _ (after-head binds x small (steps-none (visited c (h .number)) current els))
 
   -- a Slice pattern by its own type
-  pub holds-slice : (shape : Shape) (current : BasicBlockId) → On image (visited c (h .number)) place ty → Before pass (someEnum (throughArguments image ty k (items rs rs′))) (c .discr) →
+  pub holds-slice : (shape : Shape) (current : BasicBlockId) → On image (visited c (h .number)) place ty → Before pass (someEnum (throughArguments image ty k (items rs rs′))) →
       Holds (Slices (isSliceShape shape)) (sliceOn shape image bindings (h .number) ls rest ls′ (modeOf pass) (visited c (h .number)) current els place)
   unfolding sliceOn isSliceShape
   holds-slice (integer size signed) current o b = refuses (Slices false) (MirLowerError.TypeError 2) (h .number)

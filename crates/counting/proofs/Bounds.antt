@@ -9,7 +9,6 @@ use lib.Dec.{eqb}
 use lib.ListN.{length}
 use Rattle.image.specs.Tree.{Pat}
 use Rattle.place.specs.declared.place_ty.PlaceTy.{PlaceTy}
-use Rattle.lower.specs.declared.temps.DiscrTemp.{DiscrTemp}
 use Rattle.lower.specs.declared.merging.OptBlock.{OptBlock}
 use Rattle.counting.specs.Reaching.{Reached, reached}
 use Rattle.counting.specs.Counting.{one, total, checkVisits, visitsOf, blocksOf, statementsOf, elseMade, discrMade, mostOrs}
@@ -92,10 +91,10 @@ blocks-bound rs fails els small some = bounded blocksOf 3 (elseMade fails els) e
     each r s = by r (r .isOr) (r .tests) (r .failingAlternative) (s .tests)
 
 -- "and 4n(d + 2) statements"
-pub statements-bound : (rs : List Reached) (enum : Bool) (d : DiscrTemp) → AllSmall rs → 1 ≤ length rs → total statementsOf rs + discrMade enum d ≤ 4 * length rs * (mostOrs rs + 2)
+pub statements-bound : (rs : List Reached) (enum : Bool) → AllSmall rs → 1 ≤ length rs → total statementsOf rs + discrMade enum d ≤ 4 * length rs * (mostOrs rs + 2)
 statements-bound rs enum d small some = bounded statementsOf 4 (discrMade enum d) each rs small some (few enum d)
   where
-    few : (enum : Bool) (d : DiscrTemp) → discrMade enum d ≤ 1
+    few : (enum : Bool) → discrMade enum d ≤ 1
     few enum DiscrTemp.None = at-most-one enum
     few enum (DiscrTemp.Some l) = omega arith
 

@@ -20,7 +20,6 @@ use Rattle.mir.specs.Scopes.{entryLimit}
 use Rattle.mir.specs.Rvalues.{liveRow}
 use Rattle.state.specs.State.{State}
 use Rattle.state.specs.Steps.{newBlock, setTerminator, pushStatement, newLocal, pushEntry, within, tryBlock, tryStatement, tryLocal, tryEntry, nextLocal}
-use Rattle.lower.specs.declared.temps.DiscrTemp.{DiscrTemp}
 use Rattle.lower.specs.declared.merging.OptBlock.{OptBlock}
 use Rattle.lower.specs.Temps.{isSlice, temp, pushStorageLiveForLocal, discrTempPlace}
 use Rattle.pattern_matching.specs.Walking.{elseState}
@@ -101,7 +100,7 @@ gives-temp image st word block =
     record { at = λ st₂ e. built-on g (gives-live st₁ (nextLocal st) block .at st₂ e) }))
 
 -- the discriminant local, where there is none
-pub gives-discr : (image : List ℕ) (st : State) (d : DiscrTemp) (block : BasicBlockId) → Gives (λ st₁. Built st st₁ 0 (discrMade true d)) (discrTempPlace image st d block)
+pub gives-discr : (image : List ℕ) (st : State) (block : BasicBlockId) → Gives (λ st₁. Built st st₁ 0 (discrMade true d)) (discrTempPlace image st d block)
 unfolding discrTempPlace
 gives-discr image st DiscrTemp.None block = gives-temp image st 258 block
 gives-discr image st (DiscrTemp.Some l) block = gives (λ st₁. Built st st₁ 0 0) st (built-none st)

@@ -12,7 +12,6 @@ use Rattle.mir.specs.declared.BasicBlockId.{BasicBlockId}
 use Rattle.mir.specs.declared.blocks.Terminator.{Terminator}
 use Rattle.state.specs.State.{State}
 use Rattle.state.specs.Steps.{nextBlock, tryBlock, setTerminator}
-use Rattle.lower.specs.declared.temps.DiscrTemp.{DiscrTemp}
 use Rattle.lower.specs.declared.merging.OptBlock.{OptBlock}
 use Rattle.lower.specs.Merging.{setGoto}
 use Rattle.pattern_matching.specs.declared.MatchingMode.{MatchingMode}
@@ -46,13 +45,13 @@ module _ {c : Ctx} {fails : Bool} {k : ℕ} {rs : List Reached} {r : Out} (a : A
   check-tried : (k′ : ℕ) → After checks c els false k′ false rs (record { ctx = r .ctx; then = then; else = els })
   check-tried k′ = record { steps = record { went = went-as same (a .steps .went); else = same-else els _ _; discr = a .steps .discr }; small = a .small }
     where
-      same : (w : What) → flag fails w + (total (tested w) rs + extra w false els (someEnum rs) (c .discr)) ≡ flag false w + (total (tested w) rs + extra w fails OptBlock.None (someEnum rs) (c .discr))
+      same : (w : What) → flag fails w + (total (tested w) rs + extra w false els (someEnum rs)) ≡ flag false w + (total (tested w) rs + extra w fails OptBlock.None (someEnum rs))
       same block = let e = no-else els in omega (arith, e)
       same statement = refl
       same (visit n) = refl
 
   -- and in Bind, where it is tested first
-  bind-tried : (k′ : ℕ) (r′ : Out) → Before binds (someEnum rs) (c .discr) → After binds (r .ctx) OptBlock.None fails (k′ + 1) fails rs r′ →
+  bind-tried : (k′ : ℕ) (r′ : Out) → Before binds (someEnum rs) → After binds (r .ctx) OptBlock.None fails (k′ + 1) fails rs r′ →
       After binds c els false k′ false rs (record { ctx = r′ .ctx; then = then; else = els })
   bind-tried k′ r′ b a′ =
       record {
@@ -60,21 +59,21 @@ module _ {c : Ctx} {fails : Bool} {k : ℕ} {rs : List Reached} {r : Out} (a : A
         small = a .small;
       }
     where
-      there : (e : Bool) (d : DiscrTemp) → (has d || e) ≡ has d → discrMade e d ≡ 0
+      there : (e : Bool) → (has d || e) ≡ has d → discrMade e d ≡ 0
       there e (DiscrTemp.Some l) h = refl
       there true DiscrTemp.None h = absurd (true≢false h)
       there false DiscrTemp.None h = refl
 
-      its : (w : What) → extra w fails OptBlock.None (someEnum rs) (c .discr) ≡ flag fails w
+      its : (w : What) → extra w fails OptBlock.None (someEnum rs) ≡ flag fails w
       its block = refl
-      its statement = there (someEnum rs) (c .discr) b
+      its statement = there (someEnum rs) b
       its (visit n) = refl
 
-      same : (w : What) → flag fails w + (k′ + 1) * total (tested w) rs + (total (bound w) rs + extra w false els false (c .discr)) ≡
-          k′ * total (tested w) rs + (total (tested w) rs + extra w fails OptBlock.None (someEnum rs) (c .discr) + (total (bound w) rs + extra w false OptBlock.None false (r .ctx .discr)))
+      same : (w : What) → flag fails w + (k′ + 1) * total (tested w) rs + (total (bound w) rs + extra w false els false) ≡
+          k′ * total (tested w) rs + (total (tested w) rs + extra w fails OptBlock.None (someEnum rs) + (total (bound w) rs + extra w false OptBlock.None false))
       same w =
-          let e₁ = none-extra w els (c .discr) in
-          let e₂ = none-extra w OptBlock.None (r .ctx .discr) in
+          let e₁ = none-extra w els in
+          let e₂ = none-extra w OptBlock.None in
           let e₃ = its w in
           let e₄ = add-mul k′ 1 (total (tested w) rs) in
           let e₅ = one-mul (total (tested w) rs) in
@@ -86,7 +85,7 @@ Tried pass c then els k fails rs r = After pass c els false k false rs (record {
 
 -- one alternative
 holds-alternative : {image : List ℕ} {alt : Lowering} {fails : PlaceTy → Bool} {reach : Reaching} → Counts image alt fails reach → (pass : Pass) (c : Ctx) (current then : BasicBlockId) (els : OptBlock)
-    (place : Place) (ty : PlaceTy) (k : ℕ) → On image c place ty → Before pass (someEnum (reach ty (k + 1) (fails ty))) (c .discr) →
+    (place : Place) (ty : PlaceTy) (k : ℕ) → On image c place ty → Before pass (someEnum (reach ty (k + 1) (fails ty))) →
     Holds (Tried pass c then els k (fails ty) (reach ty (k + 1) (fails ty))) (alternative alt (modeOf pass) c current place)
 holds-alternative {alt = alt} {fails = fails} {reach = reach} h checks c current then els place ty k o b =
     holds-next (alt MatchingMode.Check c current OptBlock.None place) (λ r. ok r) (h .goes checks c current OptBlock.None place ty (k + 1) (fails ty) o tt) (λ r a.
@@ -105,9 +104,9 @@ holds-alternative {alt = alt} {fails = fails} {reach = reach} h binds c current 
     twice : (x e : Bool) → (x || e) ≡ x → ((x || e) || e) ≡ (x || e)
     twice x e q = ap (λ (y : Bool). y || e) q
 
-    there : (r : Out) → After checks c OptBlock.None (fails ty) (k + 1) (fails ty) (reach ty (k + 1) (fails ty)) r → (has (r .ctx .discr) || someEnum (reach ty (k + 1) (fails ty))) ≡ has (r .ctx .discr)
+    there : (r : Out) → After checks c OptBlock.None (fails ty) (k + 1) (fails ty) (reach ty (k + 1) (fails ty)) r → (has || someEnum (reach ty (k + 1) (fails ty))) ≡ has
     there r a =
-        subst (λ (x : Bool). (x || someEnum (reach ty (k + 1) (fails ty))) ≡ x) (sym (a .steps .discr)) (twice (has (c .discr)) (someEnum (reach ty (k + 1) (fails ty))) b)
+        subst (λ (x : Bool). (x || someEnum (reach ty (k + 1) (fails ty))) ≡ x) (sym (a .steps .discr)) (twice (has) (someEnum (reach ty (k + 1) (fails ty))) b)
 
 -- what alternatives add, and whether the last leaves a block where it does not match
 abbrev Chosen : Pass → Ctx → BasicBlockId → OptBlock → ℕ → Bool → List Reached → Alternatives → Type 0
@@ -140,7 +139,7 @@ holds-others pass c c₁ join els k all rs rs′ (OptBlock.Some x) others e a th
 
 -- alternatives, up to the first that cannot fail
 holds-alternatives : {image : List ℕ} {ls : List Lowering} {fs : List (PlaceTy → Bool)} {rs : List Reaching} (p : ℕ) → Each image ls fs rs → (pass : Pass) (c : Ctx) (join current : BasicBlockId)
-    (els : OptBlock) (place : Place) (ty : PlaceTy) (k : ℕ) → On image c place ty → Before pass (someEnum (throughAlternatives ty k fs rs)) (c .discr) →
+    (els : OptBlock) (place : Place) (ty : PlaceTy) (k : ℕ) → On image c place ty → Before pass (someEnum (throughAlternatives ty k fs rs)) →
     Holds (Chosen pass c join els k (allAlternatives ty fs) (throughAlternatives ty k fs rs)) (alternatives p ls (modeOf pass) c join current place)
 unfolding alternatives allAlternatives throughAlternatives
 holds-alternatives p none-left pass c join current els place ty k o b = holds (Chosen pass c join els k true []) _ (after-none pass c join els k, refl)
@@ -166,7 +165,7 @@ holds-alternatives {image = image} p (one-more {l = l} {fails = fails} {reach = 
     there r t = after-end (t .0) (after-same pass join els k (built-terminator (r .ctx .state) (r .then) (Terminator.Goto join)) refl refl)
 
     by : (x : Bool) → fails ty ≡ x →
-        ((c : Ctx) (current : BasicBlockId) → On image c place ty → Before pass (someEnum others) (c .discr) →
+        ((c : Ctx) (current : BasicBlockId) → On image c place ty → Before pass (someEnum others) →
         Holds (Chosen pass c join els k (allAlternatives ty fs) others) (alternatives p ls (modeOf pass) c join current place)) →
         Holds (Chosen pass c join els k (fails ty && allAlternatives ty fs) all) (next (alternative l (modeOf pass) c current place) (λ r. behind (r .else) (goto r) (rest r)))
     by false q below =
@@ -174,11 +173,11 @@ holds-alternatives {image = image} p (one-more {l = l} {fails = fails} {reach = 
         subst (λ (x : Bool). Holds (Chosen pass c join els k (x && allAlternatives ty fs) all) (next (alternative l (modeOf pass) c current place) (λ r. behind (r .else) (goto r) (rest r)))) (sym q)
         (subst (λ (x : List Reached). Holds (Chosen pass c join els k false x) (next (alternative l (modeOf pass) c current place) (λ r. behind (r .else) (goto r) (rest r)))) same
         (holds-next (alternative l (modeOf pass) c current place) (λ r. behind (r .else) (goto r) (rest r))
-        (holds-alternative h pass c current join els place ty k o (subst (λ (x : List Reached). Before pass (someEnum x) (c .discr)) (sym same) b)) (λ r t.
+        (holds-alternative h pass c current join els place ty k o (subst (λ (x : List Reached). Before pass (someEnum x)) (sym same) b)) (λ r t.
         holds-last pass c (goto r) join els k first (r .else) (rest r) (t .1 ∙ q) (there r t))))
     by true q below =
         let same = through-next ty k fails fs reach rs q in
-        let b′ = subst (λ (x : List Reached). Before pass (someEnum x) (c .discr)) (sym same) b in
+        let b′ = subst (λ (x : List Reached). Before pass (someEnum x)) (sym same) b in
         subst (λ (x : Bool). Holds (Chosen pass c join els k (x && allAlternatives ty fs) all) (next (alternative l (modeOf pass) c current place) (λ r. behind (r .else) (goto r) (rest r)))) (sym q)
         (subst (λ (x : List Reached). Holds (Chosen pass c join els k (allAlternatives ty fs) x) (next (alternative l (modeOf pass) c current place) (λ r. behind (r .else) (goto r) (rest r)))) same
         (holds-next (alternative l (modeOf pass) c current place) (λ r. behind (r .else) (goto r) (rest r))
@@ -209,7 +208,7 @@ holds-end p binds c (OptBlock.Some b) join els k =
 
 -- an Or: the block where its alternatives join, the alternatives, and their end
 pub holds-or : {image : List ℕ} {ls : List Lowering} {fs : List (PlaceTy → Bool)} {rs : List Reaching} → Each image ls fs rs → (h : Head) (pass : Pass) (c : Ctx) (current : BasicBlockId) (els : OptBlock)
-    (place : Place) (ty : PlaceTy) (k : ℕ) (f : Bool) → On image (visited c (h .number)) place ty → Before pass (someEnum (throughAlternatives ty k fs rs)) (c .discr) →
+    (place : Place) (ty : PlaceTy) (k : ℕ) (f : Bool) → On image (visited c (h .number)) place ty → Before pass (someEnum (throughAlternatives ty k fs rs)) →
     Holds (After pass c els (allAlternatives ty fs) k f (anOr h k f ∷ throughAlternatives ty k fs rs)) (orPattern (h .number) ls (modeOf pass) (visited c (h .number)) current els place)
 unfolding orPattern someEnum
 holds-or {image = image} {ls = ls} {fs = fs} {rs = rs} e h pass c current els place ty k f o b =

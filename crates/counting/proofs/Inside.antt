@@ -29,7 +29,7 @@ use Rattle.counting.proofs.Rows.{AfterArguments, holds-row}
 -- a lowering adds what is counted, from a visit to its pattern on and on a place behind its derefs
 pub record Inside (image : List ℕ) (h : Head) (l : Lowering) (fails : PlaceTy → Bool) (reach : Reaching) : Type 0 where
   pub goes : (pass : Pass) (c : Ctx) (current : BasicBlockId) (els : OptBlock) (place : Place) (ty : PlaceTy) (k : ℕ) (f : Bool) → On image (visited c (h .number)) place ty →
-      Before pass (someEnum (reach ty k f)) (c .discr) → Holds (After pass c els (fails ty) k f (reach ty k f)) (l (modeOf pass) (visited c (h .number)) current els place)
+      Before pass (someEnum (reach ty k f)) → Holds (After pass c els (fails ty) k f (reach ty k f)) (l (modeOf pass) (visited c (h .number)) current els place)
 
 -- a pattern is entered
 pub counts-entered : {image : List ℕ} {h : Head} {l : Lowering} {fails : PlaceTy → Bool} {reach : Reaching} → Inside image h l fails reach →
@@ -65,7 +65,7 @@ inside-tuple {image = image} {ls = ls} {fs = fs} {rs = rs} h ellipsis e =
         After pass c els (someArgument image ty (inARow ellipsis (fieldCount s) fs)) k f (testing h k f 0 0 ∷ throughArguments image ty k (inARow ellipsis (fieldCount s) rs)) r
 
     by : (pass : Pass) (c : Ctx) (current : BasicBlockId) (els : OptBlock) (place : Place) (ty : PlaceTy) (k : ℕ) (f : Bool) (s : Option Shape) → On image (visited c (h .number)) place ty →
-        Before pass (someEnum (throughArguments image ty k (inARow ellipsis (fieldCount s) rs))) (c .discr) →
+        Before pass (someEnum (throughArguments image ty k (inARow ellipsis (fieldCount s) rs))) →
         Holds (Tuples pass c els ty k f s) (needed (h .number) s (λ s. tupleOn s (h .number) ls ellipsis (modeOf pass) (visited c (h .number)) current els place))
     by pass c current els place ty k f none o b = refuses (Tuples pass c els ty k f none) MirLowerError.PlaceType (h .number)
     by pass c current els place ty k f (some (integer size signed)) o b = refuses (Tuples pass c els ty k f (some (integer size signed))) (MirLowerError.TypeError 1) (h .number)
@@ -93,7 +93,7 @@ inside-ref {image = image} {l = l} {fails = fails} {reach = reach} h counts =
     Refs pass c els ty k f r = After pass c els (fails (projectionTy ty image ProjectionElem.Deref)) k f (testing h k f 0 0 ∷ reach (projectionTy ty image ProjectionElem.Deref) k false) r
 
     by : (pass : Pass) (c : Ctx) (current : BasicBlockId) (els : OptBlock) (place : Place) (ty : PlaceTy) (k : ℕ) (f : Bool) (s : Option Shape) → On image (visited c (h .number)) place ty →
-        Before pass (someEnum (reach (projectionTy ty image ProjectionElem.Deref) k false)) (c .discr) →
+        Before pass (someEnum (reach (projectionTy ty image ProjectionElem.Deref) k false)) →
         Holds (Refs pass c els ty k f) (needed (h .number) s (λ s. refOn s (h .number) l (modeOf pass) (visited c (h .number)) current els place))
     by pass c current els place ty k f none o b = refuses (Refs pass c els ty k f) MirLowerError.PlaceType (h .number)
     by pass c current els place ty k f (some (integer size signed)) o b = refuses (Refs pass c els ty k f) (MirLowerError.TypeError 3) (h .number)

@@ -19,7 +19,7 @@ use Rattle.pattern_matching.specs.declared.MatchingMode.{MatchingMode}
 use Rattle.pattern_matching.specs.Walking.{Ctx, Out, Walk, out, visited}
 use Rattle.pattern_matching.specs.Tests.{patternMatchConst, literal, litBy, constantPath, rangeEnd?, localPath}
 use Rattle.pattern_matching.specs.Variants.{shapeOf, needed, AdtPatternShape, patternMatchingVariant, variantPattern, adtOn}
-use Rattle.pattern_matching.specs.Patterns.{rangePattern, pathPattern}
+use Rattle.pattern_matching.specs.Patterns.{endOp, rangePattern, pathPattern}
 use Rattle.counting.specs.Reaching.{Argument, isEnum, downcast, ofVariant, someArgument, endCount, positive, pathTests, Reached, Reaching, testing, naming, pathReached, throughArguments}
 use Rattle.counting.specs.Counting.{someEnum}
 use Rattle.counting.proofs.Holding.{Holds, holds, refuses, holds-next, holds-step, holds-as}
@@ -56,15 +56,15 @@ holds-leaf pass h t s k f fails c current els l lt ls test skip = by pass
         (holds (After binds c els fails k f (x ∷ [])) _ (after-head binds x small (steps-plain current els refl (went-built (built-none _) refl))))
 
 -- a Range: one test for each end
-pub inside-range : (image : List ℕ) (h : Head) (start end : Option Operand) →
-    Inside image h (rangePattern image (h .number) (h .ty) start end) (λ ty. positive (endCount start + endCount end))
+pub inside-range : (image : List ℕ) (h : Head) (start end : Option Operand) (halfOpen : Bool) →
+    Inside image h (rangePattern image (h .number) (h .ty) start end halfOpen) (λ ty. positive (endCount start + endCount end))
     (λ ty k f. testing h k f (endCount start + endCount end) (endCount start + endCount end + (endCount start + endCount end)) ∷ [])
 unfolding rangePattern
-inside-range image h start end =
+inside-range image h start end halfOpen =
     record {
       goes = λ pass c current els place ty k f o b.
           holds-leaf pass h (endCount start + endCount end) (endCount start + endCount end + (endCount start + endCount end)) k f (positive (endCount start + endCount end)) c current els
-          (λ mode. rangePattern image (h .number) (h .ty) start end mode (visited c (h .number)) current els place) (few start end) (few-statements start end) (both c current els place) refl;
+          (λ mode. rangePattern image (h .number) (h .ty) start end halfOpen mode (visited c (h .number)) current els place) (few start end) (few-statements start end) (both c current els place) refl;
     }
   where
     at-most : (end : Option Operand) → endCount end ≤ 1
@@ -85,15 +85,15 @@ inside-range image h start end =
 
     both : (c : Ctx) (current : BasicBlockId) (els : OptBlock) (place : Place) →
         Holds (λ r. Steps (visited c (h .number)) els r (positive (endCount start + endCount end)) false nothing (made (endCount start + endCount end) (endCount start + endCount end + (endCount start + endCount end))))
-        (rangePattern image (h .number) (h .ty) start end MatchingMode.Check (visited c (h .number)) current els place)
+        (rangePattern image (h .number) (h .ty) start end halfOpen MatchingMode.Check (visited c (h .number)) current els place)
     both c current els place =
         holds-next (rangeEnd? image (h .number) (h .ty) BinOp.Le start (visited c (h .number)) current els place)
-        (λ r. rangeEnd? image (h .number) (h .ty) BinOp.Ge end (r .ctx) (r .then) (r .else) place)
+        (λ r. rangeEnd? image (h .number) (h .ty) (endOp halfOpen) end (r .ctx) (r .then) (r .else) place)
         (holds-range-end? image (h .number) (h .ty) BinOp.Le start (visited c (h .number)) current els place) (λ r a.
         holds-as (λ r′ a′. subst
         (λ (x : Bool). Steps (visited c (h .number)) els r′ x false nothing (made (endCount start + endCount end) (endCount start + endCount end + (endCount start + endCount end))))
         (some-end start end) (steps-as sum (steps-on a a′)))
-        (holds-range-end? image (h .number) (h .ty) BinOp.Ge end (r .ctx) (r .then) (r .else) place))
+        (holds-range-end? image (h .number) (h .ty) (endOp halfOpen) end (r .ctx) (r .then) (r .else) place))
       where
         sum : (w : What) → 0 + 0 + made (endCount start + endCount end) (endCount start + endCount end + (endCount start + endCount end)) w ≡
             0 + (made (endCount start) (endCount start + endCount start) w + made (endCount end) (endCount end + endCount end) w)
@@ -130,7 +130,7 @@ inside-lit image h operand = record { goes = λ pass c current els place ty k f 
 -- a pattern that names a variant, with the type of its place at hand
 holds-named : {image : List ℕ} {shape : AdtPatternShape} {fs : ℕ → List (Argument (PlaceTy → Bool))} {rs : ℕ → List (Argument Reaching)} → Fielded image shape fs rs → (h : Head) (v : ℕ) (pass : Pass)
     (c : Ctx) (current : BasicBlockId) (els : OptBlock) (place : Place) (ty : PlaceTy) (k : ℕ) (f : Bool) → On image (visited c (h .number)) place ty →
-    Before pass (someEnum (naming h k f (isEnum (shapeOf image ty)) ∷ throughArguments image ty k (ofVariant image ty (some v) rs))) (c .discr) →
+    Before pass (someEnum (naming h k f (isEnum (shapeOf image ty)) ∷ throughArguments image ty k (ofVariant image ty (some v) rs))) →
     Holds (After pass c els (isEnum (shapeOf image ty) || someArgument image ty (ofVariant image ty (some v) fs)) k f
     (naming h k f (isEnum (shapeOf image ty)) ∷ throughArguments image ty k (ofVariant image ty (some v) rs)))
     (patternMatchingVariant image (h .number) v shape (modeOf pass) (visited c (h .number)) current els place)
@@ -170,7 +170,7 @@ inside-path image bindings h (variant v) =
           subst (λ (x : Bool). Holds (After pass c els x k f (naming h k f e ∷ [])) (patternMatchingVariant image (h .number) v AdtPatternShape.Unit (modeOf pass) (visited c (h .number)) current els place)) (fails ty e)
           (subst (λ (l : List Reached). Holds (After pass c els (e || someArgument image ty (downcast e v [])) k f (naming h k f e ∷ l)) (patternMatchingVariant image (h .number) v AdtPatternShape.Unit (modeOf pass) (visited c (h .number)) current els place))
           (below ty k e)
-          (holds-named (fielded-unit image) h v pass c current els place ty k f o (subst (λ (l : List Reached). Before pass (someEnum (naming h k f e ∷ l)) (c .discr)) (sym (below ty k e)) b)));
+          (holds-named (fielded-unit image) h v pass c current els place ty k f o (subst (λ (l : List Reached). Before pass (someEnum (naming h k f e ∷ l))) (sym (below ty k e)) b)));
     }
   where
     fails : (ty : PlaceTy) (e : Bool) → (e || someArgument image ty (downcast e v [])) ≡ positive (cond e 1 0)

@@ -33,7 +33,7 @@ use Rattle.counting.proofs.Rows.{AfterArguments, holds-row, holds-field
 -- the fields of a variant with n add what their patterns add
 pub record Fielded (image : List ℕ) (shape : AdtPatternShape) (fs : ℕ → List (Argument (PlaceTy → Bool))) (rs : ℕ → List (Argument Reaching)) : Type 0 where
   pub goes : (p n : ℕ) (pass : Pass) (c : Ctx) (current : BasicBlockId) (els : OptBlock) (place : Place) (ty : PlaceTy) (k : ℕ) → On image c place ty →
-      Before pass (someEnum (throughArguments image ty k (rs n))) (c .discr) →
+      Before pass (someEnum (throughArguments image ty k (rs n))) →
       Holds (AfterArguments image pass c els ty k (fs n) (rs n)) (variantFields shape p n (modeOf pass) c current els place)
 
 -- arguments in a row
@@ -84,7 +84,7 @@ module _ {image : List ℕ} {shape : AdtPatternShape} {fs : ℕ → List (Argume
   Names enum r = After pass c els (enum || someArgument image ty (downcast enum v (fs count))) k f (reachedBy enum) r
 
   -- on a struct nothing is tested
-  named-struct : Before pass (someEnum (reachedBy false)) (c .discr) → Holds (Names false) (variantFields shape (h .number) count (modeOf pass) (visited c (h .number)) current els place)
+  named-struct : Before pass (someEnum (reachedBy false)) → Holds (Names false) (variantFields shape (h .number) count (modeOf pass) (visited c (h .number)) current els place)
   unfolding downcast
   named-struct b =
       let visit = after-plain pass h k f c current els in
@@ -104,7 +104,7 @@ module _ {image : List ℕ} {shape : AdtPatternShape} {fs : ℕ → List (Argume
       by binds = holds (After binds c els true k f (naming h k f true ∷ [])) _ (after-head binds (naming h k f true) small (steps-plain current els refl (went-built (built-none _) refl)))
 
   -- an enum: the test, and then the fields behind a Downcast
-  named-enum : Before pass (someEnum (reachedBy true)) (c .discr) → Holds (Names true) (variantOn AdtKind.Enum image (h .number) v shape (modeOf pass) (visited c (h .number)) current els place)
+  named-enum : Before pass (someEnum (reachedBy true)) → Holds (Names true) (variantOn AdtKind.Enum image (h .number) v shape (modeOf pass) (visited c (h .number)) current els place)
   unfolding variantOn
   named-enum b =
       let p = h .number in
@@ -114,7 +114,7 @@ module _ {image : List ℕ} {shape : AdtPatternShape} {fs : ℕ → List (Argume
       holds-step {Q = Names true} p (project place (ProjectionElem.Downcast v)) (fields r) (on-project (ProjectionElem.Downcast v) tt (kept r a)) (λ place′ o′.
       holds-as (λ r′ a′. join r r′ a a′)
       (fielded .goes p count pass (r .ctx) (r .then) (r .else) place′ ty′ k o′
-      (subst (λ (l : List Reached). Before pass (someEnum l) (r .ctx .discr)) (sym same) (before-rest (throughArguments image ty k (downcast true v (rs count))) a b)))))
+      (subst (λ (l : List Reached). Before pass (someEnum l)) (sym same) (before-rest (throughArguments image ty k (downcast true v (rs count))) a b)))))
     where
       fields : Out → Place → Walk Out
       fields r place′ = variantFields shape (h .number) count (modeOf pass) (r .ctx) (r .then) (r .else) place′
@@ -133,7 +133,7 @@ module _ {image : List ℕ} {shape : AdtPatternShape} {fs : ℕ → List (Argume
           (subst (λ (x : Bool). After pass (r .ctx) (r .else) x k false (throughArguments image (projectionTy ty image (ProjectionElem.Downcast v)) k (rs count)) r′) (some-downcast image ty v (fs count)) a′))
 
   -- an ADT by its kind
-  named-kind : (kind : AdtKind) (variants : List ℕ) → Before pass (someEnum (reachedBy (isEnum (some (adt kind variants))))) (c .discr) →
+  named-kind : (kind : AdtKind) (variants : List ℕ) → Before pass (someEnum (reachedBy (isEnum (some (adt kind variants))))) →
       Holds (Names (isEnum (some (adt kind variants)))) (variantOn kind image (h .number) v shape (modeOf pass) (visited c (h .number)) current els place)
   unfolding variantOn isEnum
   named-kind AdtKind.Struct variants b = named-struct b
@@ -142,14 +142,14 @@ module _ {image : List ℕ} {shape : AdtPatternShape} {fs : ℕ → List (Argume
   named-kind AdtKind.Unknown variants b = refuses (Names false) (MirLowerError.TypeError 6) (h .number)
 
   -- one that has the variant
-  named-member : (kind : AdtKind) (variants : List ℕ) (has : Bool) → Before pass (someEnum (reachedBy (isEnum (some (adt kind variants))))) (c .discr) →
+  named-member : (kind : AdtKind) (variants : List ℕ) (has : Bool) → Before pass (someEnum (reachedBy (isEnum (some (adt kind variants))))) →
       Holds (Names (isEnum (some (adt kind variants))))
       (cond has (variantOn kind image (h .number) v shape (modeOf pass) (visited c (h .number)) current els place) (refused (MirLowerError.TypeError 5) (h .number)))
   named-member kind variants true b = named-kind kind variants b
   named-member kind variants false b = refuses (Names (isEnum (some (adt kind variants)))) (MirLowerError.TypeError 5) (h .number)
 
   -- a pattern that names a variant, by what the type of its place is
-  pub holds-variant : (o : Option Shape) → Before pass (someEnum (reachedBy (isEnum o))) (c .discr) →
+  pub holds-variant : (o : Option Shape) → Before pass (someEnum (reachedBy (isEnum o))) →
       Holds (Names (isEnum o)) (needed (h .number) o (λ s. adtOn s image (h .number) v shape (modeOf pass) (visited c (h .number)) current els place))
   unfolding adtOn
   holds-variant none b = refuses (Names (isEnum none)) MirLowerError.PlaceType (h .number)

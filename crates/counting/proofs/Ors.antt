@@ -29,6 +29,7 @@ use Rattle.place.specs.declared.elems.ProjectionElem.{ProjectionElem}
 use Rattle.place.specs.declared.place_ty.PlaceTy.{PlaceTy}
 use Rattle.place.specs.PlaceTypes.{projectionTy, multiProjectionTy}
 use Rattle.pattern_matching.specs.Variants.{shapeOf, fieldsUpTo}
+use Rattle.pattern_matching.specs.Slices.{suffixItems}
 use Rattle.counting.specs.Reaching.{behindDerefs, Argument, zip, inARow, byFields, fieldCount, isEnum, downcast, ofVariant, items, failing, Reached, anOr, Reaching, pathReached, throughArguments, throughAlternatives, reached, reachings, reaching?}
 use Rattle.counting.specs.Counting.{reachedFrom, visitsOf, Standing}
 use Rattle.counting.proofs.Tallies.{hit-or}
@@ -110,7 +111,7 @@ module _ {n : ℕ} where
   args-items : {rs rs′ : List Reaching} → Each n rs → Each n rs′ → Args n (items rs rs′)
   unfolding items
   args-items {rs = rs} {rs′ = rs′} e e′ =
-      args-append (args-zip (map (λ i. ProjectionElem.Index i) (upFrom 0 (length rs))) e) (args-zip (map (λ i. ProjectionElem.IndexFromEnd i) (upFrom 0 (length rs′))) e′)
+      args-append (args-zip (map (λ i. ProjectionElem.Index i) (upFrom 0 (length rs))) e) (args-zip (suffixItems (length rs′)) e′)
 
   args-downcast : {args : List (Argument Reaching)} (enum : Bool) (v : ℕ) → Args n args → Args n (downcast enum v args)
   unfolding downcast

@@ -8,7 +8,6 @@ use native.Mathlib.Omega.{arith}
 use lib.Dec.{eqb}
 use Rattle.image.specs.Tree.{Head}
 use Rattle.mir.specs.declared.BasicBlockId.{BasicBlockId}
-use Rattle.lower.specs.declared.temps.DiscrTemp.{DiscrTemp}
 use Rattle.lower.specs.declared.merging.OptBlock.{OptBlock}
 use Rattle.pattern_matching.specs.declared.MatchingMode.{MatchingMode}
 use Rattle.pattern_matching.specs.Walking.{Ctx, Out, visited}
@@ -86,7 +85,7 @@ Before checks enum d = Unit {0}
 Before binds enum d = (has d || enum) ≡ has d
 
 -- so it is for the first of two lists
-pub before-first : (pass : Pass) (a b : Bool) (d : DiscrTemp) → Before pass (a || b) d → Before pass a d
+pub before-first : (pass : Pass) (a b : Bool) → Before pass (a || b) d → Before pass a d
 before-first checks a b d h = tt
 before-first binds a b (DiscrTemp.Some l) h = refl
 before-first binds true b DiscrTemp.None h = absurd (true≢false h)

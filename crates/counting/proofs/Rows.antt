@@ -77,13 +77,13 @@ module _ (image : List ℕ) (p n : ℕ) (pass : Pass) (c : Ctx) (current : Basic
 
   -- both add what their patterns add
   holds-two : {xs ys : List Lowering} {fs gs : List (PlaceTy → Bool)} {rs qs : List Reaching} (b : Bool) → Each image xs fs rs → Each image ys gs qs → On image c place ty →
-      Before pass (someEnum (throughArguments image ty k (zip (fieldsUpTo n) rs ++ zip (reverse (fieldsUpTo n)) (reverse qs)))) (c .discr) →
+      Before pass (someEnum (throughArguments image ty k (zip (fieldsUpTo n) rs ++ zip (reverse (fieldsUpTo n)) (reverse qs)))) →
       Holds (AfterArguments image pass c els ty k (zip (fieldsUpTo n) fs ++ zip (reverse (fieldsUpTo n)) (reverse gs)) (zip (fieldsUpTo n) rs ++ zip (reverse (fieldsUpTo n)) (reverse qs))) (two b xs ys)
   holds-two {fs = fs} {gs = gs} {rs = rs} {qs = qs} false e e′ o before = refuses (AfterArguments image pass c els ty k (zip (fieldsUpTo n) fs ++ zip (reverse (fieldsUpTo n)) (reverse gs)) (zip (fieldsUpTo n) rs ++ zip (reverse (fieldsUpTo n)) (reverse qs))) MirLowerError.Ellipsis p
   holds-two {xs = xs} {ys = ys} {fs = fs} {gs = gs} {rs = rs} {qs = qs} true e e′ o before =
       let first = zip (fieldsUpTo n) rs in
       let last = zip (reverse (fieldsUpTo n)) (reverse qs) in
-      let b = subst (λ (l : List Reached). Before pass (someEnum l) (c .discr)) (through-append image ty k first last) before in
+      let b = subst (λ (l : List Reached). Before pass (someEnum l)) (through-append image ty k first last) before in
       holds-next (patternMatchAdt p (fieldsUpTo n) xs (modeOf pass) c current els place) (λ r. patternMatchAdt p (reverse (fieldsUpTo n)) (reverse ys) (modeOf pass) (r .ctx) (r .then) (r .else) place)
       (holds-arguments p (fieldsUpTo n) e fits pass c current els place ty k o (before-start pass c (throughArguments image ty k first) (throughArguments image ty k last) b)) (λ r a.
       holds-as (λ r′ a′. after-both image ty (zip (fieldsUpTo n) fs) (zip (reverse (fieldsUpTo n)) (reverse gs)) first last a a′)
@@ -92,7 +92,7 @@ module _ (image : List ℕ) (p n : ℕ) (pass : Pass) (c : Ctx) (current : Basic
 
   -- arguments in a row on n fields
   pub holds-row : {ls : List Lowering} {fs : List (PlaceTy → Bool)} {rs : List Reaching} (ellipsis : Option ℕ) → Each image ls fs rs → On image c place ty →
-      Before pass (someEnum (throughArguments image ty k (inARow ellipsis n rs))) (c .discr) →
+      Before pass (someEnum (throughArguments image ty k (inARow ellipsis n rs))) →
       Holds (AfterArguments image pass c els ty k (inARow ellipsis n fs) (inARow ellipsis n rs)) (patternMatchTupleLike p ls (ellipsisAt ellipsis ls) n (modeOf pass) c current els place)
   unfolding inARow patternMatchTupleLike ellipsisAt
   holds-row {ls = ls} {fs = fs} {rs = rs} (some at) e o before = holds-two (leb at (length ls)) (each-take at e) (each-drop at e) o before
@@ -102,7 +102,7 @@ module _ (image : List ℕ) (p n : ℕ) (pass : Pass) (c : Ctx) (current : Basic
       subst (λ (l : List (Argument (PlaceTy → Bool))). Holds (AfterArguments image pass c els ty k l (zip F rs)) (two (leb (length ls) (length ls)) (take (length ls) ls) (drop (length ls) ls))) (row-whole F (reverse F) fs)
       (subst (λ (l : List (Argument Reaching)). Holds (AfterArguments image pass c els ty k (zip F fs ++ zip (reverse F) []) l) (two (leb (length ls) (length ls)) (take (length ls) ls) (drop (length ls) ls))) same
       (subst (λ (w : Walk Out). Holds (AfterArguments image pass c els ty k (zip F fs ++ zip (reverse F) []) (zip F rs ++ zip (reverse F) [])) w) (sym whole)
-      (holds-two true e none-left o (subst (λ (l : List (Argument Reaching)). Before pass (someEnum (throughArguments image ty k l)) (c .discr)) (sym same) before))))
+      (holds-two true e none-left o (subst (λ (l : List (Argument Reaching)). Before pass (someEnum (throughArguments image ty k l))) (sym same) before))))
     where
       whole : two (leb (length ls) (length ls)) (take (length ls) ls) (drop (length ls) ls) ≡ two true ls []
       whole =
@@ -134,7 +134,7 @@ resolves A count (some i ∷ fields) = by (ltb i count) refl (resolved count fie
 -- arguments by fields
 pub holds-fields : {image : List ℕ} {ls : List Lowering} {fs : List (PlaceTy → Bool)} {rs : List Reaching} (p n : ℕ) (pass : Pass) (c : Ctx) (current : BasicBlockId) (els : OptBlock) (place : Place)
     (ty : PlaceTy) (k : ℕ) (fields : List (Option ℕ)) → Each image ls fs rs → On image c place ty →
-    Before pass (someEnum (throughArguments image ty k (byFields fields rs))) (c .discr) →
+    Before pass (someEnum (throughArguments image ty k (byFields fields rs))) →
     Holds (AfterArguments image pass c els ty k (byFields fields fs) (byFields fields rs)) (recordFields (resolved n fields) p ls (modeOf pass) c current els place)
 unfolding recordFields
 holds-fields {image = image} {ls = ls} {fs = fs} {rs = rs} p n pass c current els place ty k fields e o before =
@@ -146,4 +146,4 @@ holds-fields {image = image} {ls = ls} {fs = fs} {rs = rs} p n pass c current el
     by (some elems) h h′ =
         subst (λ (l : List (Argument (PlaceTy → Bool))). Holds (AfterArguments image pass c els ty k l (byFields fields rs)) (patternMatchAdt p elems ls (modeOf pass) c current els place)) (sym (h .1 fs))
         (subst (λ (l : List (Argument Reaching)). Holds (AfterArguments image pass c els ty k (zip elems fs) l) (patternMatchAdt p elems ls (modeOf pass) c current els place)) (sym (h′ .1 rs))
-        (holds-arguments p elems e (h .0) pass c current els place ty k o (subst (λ (l : List (Argument Reaching)). Before pass (someEnum (throughArguments image ty k l)) (c .discr)) (h′ .1 rs) before)))
+        (holds-arguments p elems e (h .0) pass c current els place ty k o (subst (λ (l : List (Argument Reaching)). Before pass (someEnum (throughArguments image ty k l))) (h′ .1 rs) before)))

@@ -6,7 +6,6 @@ use native.Mathlib.Nat.{le-trans, lt-of-lt-of-le}
 use native.Mathlib.Omega.{arith}
 use lib.ListN.{length}
 use Rattle.mir.specs.declared.BasicBlockId.{BasicBlockId}
-use Rattle.lower.specs.declared.temps.DiscrTemp.{DiscrTemp}
 use Rattle.lower.specs.declared.merging.OptBlock.{OptBlock}
 use Rattle.pattern_matching.specs.Walking.{Ctx, Out}
 use Rattle.counting.specs.Counting.{one, elseMade, discrMade}
@@ -31,9 +30,9 @@ extra (visit n) fails els enum d = 0
 
 -- from c, with the else els or none, to r: with a test that can fail or not, and one of an enum or not
 pub record Steps (c : Ctx) (els : OptBlock) (r : Out) (fails enum : Bool) (minus plus : What → ℕ) : Type 0 where
-  pub went : Went c (r .ctx) minus (λ w. plus w + extra w fails els enum (c .discr))
+  pub went : Went c (r .ctx) minus (λ w. plus w + extra w fails els enum)
   pub else : ElseIs fails els (r .else) (length (c .state .blocks)) (length (r .ctx .state .blocks))
-  pub discr : has (r .ctx .discr) ≡ (has (c .discr) || enum)
+  pub discr : has ≡ (has || enum)
 
 -- the second of two parts makes no second else
 else-once : (f f′ : Bool) (els els₁ : OptBlock) (from to : ℕ) → ElseIs f els els₁ from to → elseMade f els + elseMade f′ els₁ ≡ elseMade (f || f′) els
@@ -78,10 +77,9 @@ pub steps-on : {c : Ctx} {els : OptBlock} {r r′ : Out} {f f′ e e′ : Bool} 
 steps-on {c = c} {els = els} {r = r} {r′ = r′} {f = f} {f′ = f′} {e = e} {e′ = e′} {p = p} {p′ = p′} g h =
     record {
       went = went-as
-          (λ w. let x = extra-once w f f′ e e′ els (r .else) (c .discr) (r .ctx .discr) _ _ (g .else) (g .discr) in omega (arith, x))
+          (λ w. let x = extra-once w f f′ e e′ els (r .else) _ _ (g .else) in omega (arith, x))
           (went-on (g .went) (h .went));
       else = else-on f f′ els (r .else) (r′ .else) _ _ _ (g .went .grown) (h .went .grown) (g .else) (h .else);
-      discr = h .discr ∙ ap (λ (b : Bool). b || e′) (g .discr) ∙ or-assoc (has (c .discr)) e e′;
     }
 
 -- the same part, counted otherwise
@@ -94,7 +92,7 @@ same-else OptBlock.None from to = refl
 same-else (OptBlock.Some e) from to = refl
 
 -- nothing more is made where nothing is tested
-pub none-extra : (w : What) (els : OptBlock) (d : DiscrTemp) → extra w false els false d ≡ 0
+pub none-extra : (w : What) (els : OptBlock) → extra w false els false d ≡ 0
 none-extra block OptBlock.None d = refl
 none-extra block (OptBlock.Some e) d = refl
 none-extra statement els DiscrTemp.None = refl
@@ -106,7 +104,6 @@ pub steps-plain : {c c′ : Ctx} {m p : What → ℕ} (current : BasicBlockId) (
     Steps c els (record { ctx = c′; then = current; else = els }) false false m p
 steps-plain {c = c} current els d g =
     record {
-      went = went-as (λ w. let x = none-extra w els (c .discr) in omega (arith, x)) g;
+      went = went-as (λ w. let x = none-extra w els in omega (arith, x)) g;
       else = same-else els _ _;
-      discr = ap has d ∙ sym (or-false (has (c .discr)));
     }

@@ -19,7 +19,6 @@ use Rattle.mir.specs.Rvalues.{placeRvalueRow, constantRow, binaryRow}
 use Rattle.state.specs.State.{State}
 use Rattle.state.specs.Steps.{nextBlock, nextLocal, tryBlock, tryStatement, setTerminator}
 use Rattle.literals.specs.Literals.{lowerConstToOperand, lowerLiteralOrConstToOperand}
-use Rattle.lower.specs.declared.temps.DiscrTemp.{DiscrTemp}
 use Rattle.lower.specs.declared.merging.OptBlock.{OptBlock}
 use Rattle.lower.specs.Temps.{temp, discrTempPlace, discrLocal}
 use Rattle.pattern_matching.specs.declared.MatchingMode.{MatchingMode}
@@ -47,19 +46,19 @@ else-tested (OptBlock.Some e) st from to h k = refl
 else-tested OptBlock.None st from to h k = (h, omega arith)
 
 -- a test that makes so many blocks and statements, where st is the state in which an else is numbered
-test-made : {c c′ : Ctx} {t s : ℕ} (then : BasicBlockId) (els : OptBlock) (st : State) (enum : Bool) → Built (c .state) (c′ .state) (t + elseMade true els) (s + discrMade enum (c .discr)) →
-    c′ .visits ≡ c .visits → has (c′ .discr) ≡ (has (c .discr) || enum) → length (c .state .blocks) ≤ length (st .blocks) → length (st .blocks) + elseMade true els ≤ length (c′ .state .blocks) →
+test-made : {c c′ : Ctx} {t s : ℕ} (then : BasicBlockId) (els : OptBlock) (st : State) (enum : Bool) → Built (c .state) (c′ .state) (t + elseMade true els) (s + discrMade enum) →
+    c′ .visits ≡ c .visits → has (c′ .discr) ≡ (has || enum) → length (c .state .blocks) ≤ length (st .blocks) → length (st .blocks) + elseMade true els ≤ length (c′ .state .blocks) →
     Steps c els (record { ctx = c′; then = then; else = OptBlock.Some (elseBlock st els) }) true enum nothing (made t s)
 test-made {c = c} {t = t} {s = s} then els st enum g v d h k =
     record { went = went-as same (went-built g v); else = else-tested els st _ _ h k; discr = d }
   where
-    same : (w : What) → 0 + (made t s w + extra w true els enum (c .discr)) ≡ 0 + made (t + elseMade true els) (s + discrMade enum (c .discr)) w
+    same : (w : What) → 0 + (made t s w + extra w true els enum) ≡ 0 + made (t + elseMade true els) (s + discrMade enum) w
     same block = refl
     same statement = refl
     same (visit n) = refl
 
 -- no discriminant local is made where no enum is tested
-no-discr : (d : DiscrTemp) → discrMade false d ≡ 0
+no-discr : → discrMade false d ≡ 0
 no-discr DiscrTemp.None = refl
 no-discr (DiscrTemp.Some l) = refl
 
@@ -68,9 +67,9 @@ pub plain-test : {c : Ctx} {t s b n : ℕ} (st′ : State) (then : BasicBlockId)
     length (c .state .blocks) ≤ length (st .blocks) → length (st .blocks) + elseMade true els ≤ length (st′ .blocks) →
     Steps c els (record { ctx = withState c st′; then = then; else = OptBlock.Some (elseBlock st els) }) true false nothing (made t s)
 plain-test {c = c} {s = s} {n = n} st′ then els st g e f h k =
-    let z = no-discr (c .discr) in
-    let f′ : n ≡ s + discrMade false (c .discr) = omega (arith, z, f) in
-    test-made then els st false (built-as e f′ g) refl (sym (or-false (has (c .discr)))) h k
+    let z = no-discr in
+    let f′ : n ≡ s + discrMade false = omega (arith, z, f) in
+    test-made then els st false (built-as e f′ g) refl (sym (or-false (has))) h k
 
 -- a comparison: a temporary, a statement, and the block's end
 holds-compare : {Q : Out → Type 0} (image : List ℕ) (p : ℕ) (op : BinOp) (left : Left) (place : Place) (c : Ctx) (st : State) (current then else : BasicBlockId) →
@@ -184,24 +183,24 @@ pub holds-discriminant : (image : List ℕ) (p v : ℕ) (c : Ctx) (current : Bas
     Holds (λ r. Steps c els r true true nothing (made 1 1)) (discriminantTest image p v c current els place)
 unfolding discriminantTest
 holds-discriminant image p v c current els place =
-    holds-step p (discrTempPlace image (c .state) (c .discr) current) k₁ (gives-discr image (c .state) (c .discr) current) (λ st₁ g₁.
+    holds-step p (discrTempPlace image (c .state) current) k₁ (gives-discr image (c .state) current) (λ st₁ g₁.
     holds-step p (tryStatement st₁ row) k₂ (gives-statement st₁ row) (λ st₂ g₂.
     holds-step p (tryBlock st₂) (k₃ st₂) (gives-block st₂) (λ st₃ g₃.
     holds-step p (elseState st₃ els) (k₄ st₂ st₃) (gives-else st₃ els) (λ st₄ g₄.
     let end = built-terminator st₄ current (ending st₂ st₃) in
     holds (λ r. Steps c els r true true nothing (made 1 1)) _
-    (test-made (nextBlock st₂) els st₃ true (built-as (omega arith) (omega arith) (built-on g₁ (built-on g₂ (built-on g₃ (built-on g₄ end))))) refl (sym (or-true (has (c .discr))))
+    (test-made (nextBlock st₂) els st₃ true (built-as (omega arith) (omega arith) (built-on g₁ (built-on g₂ (built-on g₃ (built-on g₄ end))))) refl (sym (or-true (has)))
     (omega (arith, g₁ .blocks, g₂ .blocks, g₃ .blocks)) (omega (arith, g₄ .blocks, end .blocks)))))))
   where
     row : List ℕ
-    row = placeRvalueRow current (discrLocal (c .state) (c .discr)) PlaceRvalue.Discr place
+    row = placeRvalueRow current (discrLocal (c .state)) PlaceRvalue.Discr place
 
     ending : State → State → Terminator
-    ending st₂ st₃ = Terminator.Switch (discrLocal (c .state) (c .discr)) (variantOf image v .discriminant % 18446744073709551616) (variantOf image v .discriminant / 18446744073709551616) (nextBlock st₂) (elseBlock st₃ els)
+    ending st₂ st₃ = Terminator.Switch (discrLocal (c .state)) (variantOf image v .discriminant % 18446744073709551616) (variantOf image v .discriminant / 18446744073709551616) (nextBlock st₂) (elseBlock st₃ els)
 
     k₄ : State → State → State → Walk Out
     k₄ st₂ st₃ st₄ =
-        out (record { state = setTerminator st₄ current (ending st₂ st₃); discr = DiscrTemp.Some (discrLocal (c .state) (c .discr)); visits = c .visits })
+        out (record { state = setTerminator st₄ current (ending st₂ st₃); visits = c .visits })
         (nextBlock st₂) (OptBlock.Some (elseBlock st₃ els))
 
     k₃ : State → State → Walk Out

@@ -28,7 +28,7 @@ use Rattle.counting.proofs.Leaves.{inside-range, inside-lit, inside-var
 -- a subpattern that may be absent
 record Below (image : List ℕ) (l : Lowering) (fails : PlaceTy → Bool) (reach : Reaching) : Type 0 where
   pub goes : (pass : Pass) (c : Ctx) (current : BasicBlockId) (els : OptBlock) (place : Place) (ty : PlaceTy) (k : ℕ) → On image c place ty →
-      Before pass (someEnum (reach ty k false)) (c .discr) → Holds (After pass c els (fails ty) k false (reach ty k false)) (l (modeOf pass) c current els place)
+      Before pass (someEnum (reach ty k false)) → Holds (After pass c els (fails ty) k false (reach ty k false)) (l (modeOf pass) c current els place)
 
 -- a Bind
 inside-bind : {image : List ℕ} {l : Lowering} {fails : PlaceTy → Bool} {reach : Reaching} (bindings : List ℕ) (h : Head) (b : ℕ) (how : BindingMode) → Below image l fails reach →
@@ -67,7 +67,7 @@ module _ (image bindings : List ℕ) where
     counts (Pat.Tuple h args ellipsis) = counts-entered (inside-tuple h ellipsis (each args))
     counts (Pat.Or h alts) = counts-entered (inside-or h (each alts))
     counts (Pat.Record h fields args v) = counts-entered (inside-variant h v (fielded-record fields (each args)))
-    counts (Pat.Range h start end halfOpen) = counts-entered (inside-range image h start end)
+    counts (Pat.Range h start end halfOpen) = counts-entered (inside-range image h start end halfOpen)
     counts (Pat.Slice h prefix rest suffix) = counts-entered (inside-slice bindings h (restOf rest) (each prefix) (each suffix))
     counts (Pat.Path h target) = counts-entered (inside-path image bindings h target)
     counts (Pat.Lit h operand) = counts-entered (inside-lit image h operand)

@@ -10,7 +10,6 @@ use Rattle.image.specs.Tree.{Pat}
 use Rattle.place.specs.declared.Place.{Place}
 use Rattle.place.specs.declared.place_ty.PlaceTy.{PlaceTy}
 use Rattle.mir.specs.declared.BasicBlockId.{BasicBlockId}
-use Rattle.lower.specs.declared.temps.DiscrTemp.{DiscrTemp}
 use Rattle.lower.specs.declared.merging.OptBlock.{OptBlock}
 use Rattle.pattern_matching.specs.declared.MatchingMode.{MatchingMode}
 use Rattle.pattern_matching.specs.Walking.{Ctx, Out, Walk, ok}
@@ -60,7 +59,7 @@ module _ (image : List ℕ) (root : Pat) (ctx : Ctx) (els : OptBlock) (place : P
         blocks = let a = s .went .sizes block tt in let b = blocks-both rs in omega (arith, a, b);
         statements = let a = s .went .sizes statement tt in let b = statements-both rs in omega (arith, a, b);
         block-bound = blocks-bound rs (canFail image root ty) els small some;
-        statement-bound = statements-bound rs (someEnum rs) (ctx .discr) small some;
+        statement-bound = statements-bound rs (someEnum rs) small some;
         else = s .else;
       }
 
@@ -90,7 +89,7 @@ module _ (image bindings : List ℕ) (root : Pat) (ctx : Ctx) (current : BasicBl
       walked =
           holds-next (patternMatchInner image bindings root MatchingMode.Check ctx current els place) bindsFrom (counts image bindings root .goes checks ctx current els place ty 0 false on tt) (λ r₁ a.
           holds-as (λ r₂ b. (both-passes a b, a .small))
-          (counts image bindings root .goes binds (r₁ .ctx) (r₁ .then) (r₁ .else) place ty 0 false (on-after a on) (found (ctx .discr) (r₁ .ctx .discr) (someEnum rs) (a .steps .discr))))
+          (counts image bindings root .goes binds (r₁ .ctx) (r₁ .then) (r₁ .else) place ty 0 false (on-after a on) (found (r₁ .ctx .discr) (someEnum rs) (a .steps .discr))))
 
   -- The theorem: every call of `pattern_match` that is accepted is counted.
   pub counted : Counted image root ctx els place r

@@ -13,6 +13,7 @@ use Rattle.place.specs.declared.elems.ProjectionElem.{ProjectionElem}
 use Rattle.place.specs.declared.place_ty.PlaceTy.{PlaceTy}
 use Rattle.place.specs.PlaceTypes.{projectionTy, multiProjectionTy}
 use Rattle.pattern_matching.specs.Variants.{shapeOf, fieldsUpTo}
+use Rattle.pattern_matching.specs.Slices.{suffixItems}
 use Rattle.counting.specs.Reaching.{behindDerefs, Argument, zip, inARow, byFields, fieldCount, isEnum, downcast, ofVariant, items, failing, Reached, Reaching, pathReached, throughArguments, throughAlternatives, reached, reachings, reaching?}
 use Rattle.counting.specs.Counting.{total}
 use Rattle.counting.proofs.Passing.{total-append}
@@ -97,7 +98,7 @@ module _ {n : ℕ} where
   args-items : {rs rs′ : List Reaching} {a b : ℕ} → Row n rs a → Row n rs′ b → Args n (items rs rs′) (a + b)
   unfolding items
   args-items {rs = rs} {rs′ = rs′} row row′ =
-      args-append (args-zip (map (λ i. ProjectionElem.Index i) (upFrom 0 (length rs))) row) (args-zip (map (λ i. ProjectionElem.IndexFromEnd i) (upFrom 0 (length rs′))) row′) (omega arith)
+      args-append (args-zip (map (λ i. ProjectionElem.Index i) (upFrom 0 (length rs))) row) (args-zip (suffixItems (length rs′)) row′) (omega arith)
 
   -- those of a variant
   args-downcast : {args : List (Argument Reaching)} {c : ℕ} (enum : Bool) (v : ℕ) → Args n args c → Args n (downcast enum v args) c

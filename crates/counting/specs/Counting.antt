@@ -7,7 +7,6 @@ use mathlib.Core.Logic.{_⊎_}
 use lib.Dec.{eqb}
 use Rattle.image.specs.Tree.{Pat}
 use Rattle.place.specs.declared.place_ty.PlaceTy.{PlaceTy}
-use Rattle.lower.specs.declared.temps.DiscrTemp.{DiscrTemp}
 use Rattle.lower.specs.declared.merging.OptBlock.{OptBlock}
 use Rattle.counting.specs.Reaching.{Reached, canFail, reached}
 
@@ -53,19 +52,8 @@ newBlocks image root ty else = total blocksOf (reachedFrom image root ty) + else
 abbrev pub statementsOf : Reached → ℕ
 statementsOf r = checkVisits r * r .testStatements + r .bindStatements
 
--- some test is that of an enum
-unfoldable pub someEnum : List Reached → Bool
-someEnum [] = false
-someEnum (r ∷ rs) = r .testsEnum || someEnum rs
-
--- the first test of an enum makes the discriminant local, and one statement more, where none was handed in
-abbrev pub discrMade : Bool → DiscrTemp → ℕ
-discrMade enum DiscrTemp.None = one enum
-discrMade enum (DiscrTemp.Some l) = 0
-
-unfoldable pub newStatements : List ℕ → Pat → PlaceTy → DiscrTemp → ℕ
-newStatements image root ty discr =
-    total statementsOf (reachedFrom image root ty) + discrMade (someEnum (reachedFrom image root ty)) discr
+unfoldable pub newStatements : List ℕ → Pat → PlaceTy → ℕ
+newStatements image root ty = total statementsOf (reachedFrom image root ty)
 
 -- the greatest count of Ors above any reached pattern
 unfoldable pub mostOrs : List Reached → ℕ

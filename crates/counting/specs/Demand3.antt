@@ -27,10 +27,10 @@ pub record Counted (image : List ℕ) (root : Pat) (ctx : Ctx) (els : OptBlock) 
       getD (r .ctx .visits) n 0 ≡ getD (ctx .visits) n 0 + visitsOf n (reachedFrom image root (placeTy image (ctx .state) place))
   -- "The new blocks and the new statements are exactly as many as document 01 counts"
   pub blocks : length (r .ctx .state .blocks) ≡ length (ctx .state .blocks) + newBlocks image root (placeTy image (ctx .state) place) els
-  pub statements : length (r .ctx .state .statements) ≡ length (ctx .state .statements) + newStatements image root (placeTy image (ctx .state) place) (ctx .discr)
+  pub statements : length (r .ctx .state .statements) ≡ length (ctx .state .statements) + newStatements image root (placeTy image (ctx .state) place)
   -- "for n patterns reached, with at most d Or patterns above any, that is at most 3n(d + 2) blocks and 4n(d + 2) statements"
   pub block-bound : let rs = reachedFrom image root (placeTy image (ctx .state) place) in
       newBlocks image root (placeTy image (ctx .state) place) els ≤ 3 * length rs * (mostOrs rs + 2)
   pub statement-bound : let rs = reachedFrom image root (placeTy image (ctx .state) place) in
-      newStatements image root (placeTy image (ctx .state) place) (ctx .discr) ≤ 4 * length rs * (mostOrs rs + 2)
+      newStatements image root (placeTy image (ctx .state) place) ≤ 4 * length rs * (mostOrs rs + 2)
   pub else : ElseIs (canFail image root (placeTy image (ctx .state) place)) els (r .else) (length (ctx .state .blocks)) (length (r .ctx .state .blocks))

@@ -12,7 +12,7 @@ use Rattle.place.specs.declared.elems.ProjectionElem.{ProjectionElem}
 use Rattle.place.specs.declared.place_ty.PlaceTy.{PlaceTy}
 use Rattle.place.specs.PlaceTypes.{projectionTy, multiProjectionTy}
 use Rattle.pattern_matching.specs.Variants.{shapeOf, fieldsUpTo}
-use Rattle.pattern_matching.specs.Slices.{RestOf}
+use Rattle.pattern_matching.specs.Slices.{RestOf, suffixItems}
 use Rattle.pattern_matching.specs.Patterns.{restOf}
 
 -- the type of a place behind so many references
@@ -104,7 +104,7 @@ ofVariant image ty (some v) args = downcast (isEnum (shapeOf image ty)) v (args 
 unfoldable pub items : {A : Type 0} → List A → List A → List (Argument A)
 items prefix suffix =
     zip (map (λ i. ProjectionElem.Index i) (upFrom 0 (length prefix))) prefix
-    ++ zip (map (λ i. ProjectionElem.IndexFromEnd i) (upFrom 0 (length suffix))) suffix
+    ++ zip (suffixItems (length suffix)) suffix
 
 -- what holds of one of the arguments, each at its type
 unfoldable pub someArgument : List ℕ → PlaceTy → List (Argument (PlaceTy → Bool)) → Bool
@@ -171,7 +171,7 @@ module _ (image : List ℕ) where
     canFail? (sub s) ty = canFail s ty
 
 -- What is counted of a reached pattern: its number, how many Or patterns are above it, its tests and the statements that they make in a Check visit, whether
--- it is an alternative that can fail, whether it is an Or, whether its test is that of an enum, and how many statements a Bind visit makes
+-- it is an alternative that can fail, whether it is an Or, and how many statements a Bind visit makes
 pub record Reached : Type 0 where
   pub number : ℕ
   pub ors : ℕ
@@ -179,35 +179,33 @@ pub record Reached : Type 0 where
   pub testStatements : ℕ
   pub failingAlternative : Bool
   pub isOr : Bool
-  pub testsEnum : Bool
   pub bindStatements : ℕ
 
 -- a pattern with so many tests, which make so many statements; k Ors are above it, and f says whether it is an alternative that can fail
 abbrev pub testing : Head → ℕ → Bool → ℕ → ℕ → Reached
 testing h k f tests statements =
-    record { number = h .number; ors = k; tests = tests; testStatements = statements; failingAlternative = f; isOr = false; testsEnum = false; bindStatements = 0 }
+    record { number = h .number; ors = k; tests = tests; testStatements = statements; failingAlternative = f; isOr = false; bindStatements = 0 }
 
--- one that names a variant: on an enum it has a test, which makes one statement
+-- one that names a variant: on an enum it has a test, which makes two statements
 abbrev pub naming : Head → ℕ → Bool → Bool → Reached
 naming h k f enum =
     record {
       number = h .number;
       ors = k;
       tests = cond enum 1 0;
-      testStatements = cond enum 1 0;
+      testStatements = cond enum 2 0;
       failingAlternative = f;
       isOr = false;
-      testsEnum = enum;
       bindStatements = 0;
     }
 
 -- one that binds: two statements in a Bind visit
 abbrev pub binding : Head → ℕ → Bool → ℕ → ℕ → ℕ → Reached
 binding h k f tests statements binds =
-    record { number = h .number; ors = k; tests = tests; testStatements = statements; failingAlternative = f; isOr = false; testsEnum = false; bindStatements = binds }
+    record { number = h .number; ors = k; tests = tests; testStatements = statements; failingAlternative = f; isOr = false; bindStatements = binds }
 
 abbrev pub anOr : Head → ℕ → Bool → Reached
-anOr h k f = record { number = h .number; ors = k; tests = 0; testStatements = 0; failingAlternative = f; isOr = true; testsEnum = false; bindStatements = 0 }
+anOr h k f = record { number = h .number; ors = k; tests = 0; testStatements = 0; failingAlternative = f; isOr = true; bindStatements = 0 }
 
 -- "a test makes 2, but .. of a Slice with a rest 4"
 unfoldable pub lengthStatements : RestOf → ℕ

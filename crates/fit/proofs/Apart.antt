@@ -10,7 +10,6 @@ use lib.ListN.{length, getD, drop, drop-of-length-le}
 use lib.Seq.{drop-cons}
 use Rattle.image.specs.Lists.{member, distinct}
 use Rattle.place.specs.declared.LocalId.{LocalId}
-use Rattle.lower.specs.declared.temps.DiscrTemp.{DiscrTemp}
 use Rattle.meaning.specs.Fits.{present, localsDiffer}
 use Rattle.fit_types.proofs.Fielding.{member-here, member-next, distinct-again, distinct-next}
 use Rattle.fit.specs.Calls.{discrApart}
@@ -88,13 +87,13 @@ parts-some false true n d = refl
 parts-some false false true d = refl
 parts-some false false false d = refl
 
-parts : (bindings : List ℕ) (root : ℕ) (discr : DiscrTemp) → localsDiffer bindings root discr ≡ not (member root (present bindings)) && discrApart bindings root discr && distinct (present bindings)
+parts : (bindings : List ℕ) (root : ℕ) → localsDiffer bindings root discr ≡ not (member root (present bindings)) && discrApart bindings root discr && distinct (present bindings)
 unfolding localsDiffer distinct member
 parts bindings root DiscrTemp.None = parts-none (member root (present bindings)) (distinct (present bindings))
 parts bindings root (DiscrTemp.Some l) = parts-some (eqb root (l .0)) (member root (present bindings)) (member (l .0) (present bindings)) (distinct (present bindings))
 
 -- `discr_differs`
-module _ (bindings : List ℕ) (root : ℕ) {discr : DiscrTemp} {l : LocalId} (is : discr ≡ DiscrTemp.Some l) where
+module _ (bindings : List ℕ) (root : ℕ) {l : LocalId} (is : discr ≡ DiscrTemp.Some l) where
   pub discr-root : root ≡ l .0 → false ≡ discrApart bindings root discr
   discr-root e = rw (is, eq-eqb root (l .0) e)
 
@@ -102,7 +101,7 @@ module _ (bindings : List ℕ) (root : ℕ) {discr : DiscrTemp} {l : LocalId} (i
   discr-other h e = rw (is, ne-eqb root (l .0) h, e)
 
 -- `locals_differ`
-module _ (bindings : List ℕ) (root : ℕ) (discr : DiscrTemp) {s : Bool} (stands : s ≡ member root (present bindings)) where
+module _ (bindings : List ℕ) (root : ℕ) {s : Bool} (stands : s ≡ member root (present bindings)) where
   pub root-again : s ≡ true → false ≡ localsDiffer bindings root discr
   root-again e = sym (parts bindings root discr ∙ rw (sym stands ∙ e))
 

@@ -15,7 +15,6 @@ use Rattle.image.specs.Valid.{valid}
 use Rattle.image.proofs.Bools.{and-left, and-right}
 use Rattle.read_image.specs.declared.Read.{Read}
 use Rattle.read_image.specs.Read.{readOf}
-use Rattle.lower.specs.declared.temps.DiscrTemp.{DiscrTemp}
 use Rattle.lower_calls.proofs.Prologue.{read-valid, read-refused, whole-of}
 use Rattle.meaning.specs.Fitting.{typesFit}
 use Rattle.meaning.specs.Fit.{bindingsFit}
@@ -62,7 +61,7 @@ pub somewhere : {image : List ℕ} {p : ℕ} (t : ℕ) {a : Bool} → a ≡ type
 somewhere t types typed h = record { place = t; named = h; fits = sym types ∙ typed }
 
 -- the clauses, one after the other
-module _ (image bindings : List ℕ) (root : ℕ) (discr : DiscrTemp) (t p : ℕ) {a : Bool} (types : a ≡ typesFit image (tree image p) (some t)) where
+module _ (image bindings : List ℕ) (root : ℕ) (t p : ℕ) {a : Bool} (types : a ≡ typesFit image (tree image p) (some t)) where
   pub types-do-not : a ≡ false → false ≡ fits image bindings root discr t (tree image p)
   unfolding fits allTrue
   types-do-not e = rw (sym types ∙ e)
@@ -102,7 +101,7 @@ module _ (image : List ℕ) {tables : Tables} (read : Read.Image tables ≡ read
     are-handed there = all-handed image bindings p t (sym by-image ∙ there)
 
     -- a number that names nothing, and what the test tells
-    module _ (root : ℕ) (discr : DiscrTemp) where
+    module _ (root : ℕ) where
       pub gives-no-number : n ≡ false → Gives (fitCall image bindings root discr t p) FitCall.BadCall
       unfolding fitCall
       gives-no-number e = record { reply = rw (is-valid, sym by-image ∙ e); refusal = rw (is-valid, sym by-image ∙ e) }
@@ -117,6 +116,6 @@ module _ (image : List ℕ) {tables : Tables} (read : Read.Image tables ≡ read
         gives-yes e = record { reply = rw (is-valid, sym by-image ∙ there, sym told ∙ e); refusal = rw (is-valid, sym by-image ∙ there) }
 
 -- an image that is not
-pub gives-no-image : (image bindings : List ℕ) (root : ℕ) (discr : DiscrTemp) (t p : ℕ) → Read.Refused ≡ readOf image → Gives (fitCall image bindings root discr t p) FitCall.BadImage
+pub gives-no-image : (image bindings : List ℕ) (root : ℕ) (t p : ℕ) → Read.Refused ≡ readOf image → Gives (fitCall image bindings root discr t p) FitCall.BadImage
 unfolding fitCall
 gives-no-image image bindings root discr t p e = let bad = read-refused image e in record { reply = rw bad; refusal = rw bad }

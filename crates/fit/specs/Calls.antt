@@ -11,7 +11,6 @@ use Rattle.image.specs.Tables.{typeCount, patternCount, bindingCount}
 use Rattle.image.specs.Lists.{member}
 use Rattle.image.specs.Tree.{tree}
 use Rattle.image.specs.Valid.{valid}
-use Rattle.lower.specs.declared.temps.DiscrTemp.{DiscrTemp}
 use Rattle.meaning.specs.Fits.{present, fits}
 use Rattle.fit.specs.declared.FitCall.{FitCall}
 
@@ -26,10 +25,10 @@ unfoldable pub handed : ℕ → ℕ → ℕ → List ℕ → ℕ → ℕ → Boo
 handed bindingsThere patterns types bindings p t = eqb (length bindings) bindingsThere && ltb p patterns && ltb t types
 
 -- "1 is tried before 2"
-unfoldable pub fitCall : List ℕ → List ℕ → ℕ → DiscrTemp → ℕ → ℕ → Called
-fitCall image bindings root discr t p =
+unfoldable pub fitCall : List ℕ → List ℕ → ℕ → ℕ → ℕ → Called
+fitCall image bindings root t p =
     cond (valid image)
-    (cond (handed (bindingCount image) (patternCount image) (typeCount image) bindings p t) (tested (fits image bindings root discr t (tree image p))) badCall)
+    (cond (handed (bindingCount image) (patternCount image) (typeCount image) bindings p t) (tested (fits image bindings root t (tree image p))) badCall)
     badImage
 
 -- the answer
@@ -55,8 +54,3 @@ refusalOf (tested b) = none
 pub record Gives (defined : Called) (r : FitCall) : Type 0 where
   pub reply : r ≡ answer defined
   pub refusal : numbers r ≡ refusalOf defined
-
--- the discriminant local, where there is one, is neither the root nor a binding's local
-abbrev pub discrApart : List ℕ → ℕ → DiscrTemp → Bool
-discrApart bindings root DiscrTemp.None = true
-discrApart bindings root (DiscrTemp.Some l) = not (eqb root (l .0)) && not (member (l .0) (present bindings))

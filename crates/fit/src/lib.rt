@@ -8,7 +8,6 @@ use fit_types::walk::types_fit;
 use image::PatId;
 use image::Tables;
 use locals::locals_differ;
-use lower::temps::DiscrTemp;
 use place::LocalId;
 use read_image::Read;
 use read_image::read_image;
@@ -49,7 +48,6 @@ fn pattern_fits(
     tables: Tables,
     bindings: &[u16],
     root: LocalId,
-    discr: DiscrTemp,
     t: u16,
     p: PatId,
 ) -> bool
@@ -69,14 +67,7 @@ fn pattern_fits(
 }
 
 // Whether the pattern p fits a place of the type t whose root is the local `root`, where the bindings and the discriminants have these locals.
-pub fn fit(
-    image: &[u8],
-    bindings: &[u16],
-    root: LocalId,
-    discr: DiscrTemp,
-    t: u16,
-    p: PatId,
-) -> FitCall
+pub fn fit(image: &[u8], bindings: &[u16], root: LocalId, t: u16, p: PatId) -> FitCall
     ensures { λ r. ⌜ Gives (fitCall (now (image .entry)) (now (bindings .entry)) (root .0) discr t (p .0)) r ⌝ }
 {
     match read_image(image) {

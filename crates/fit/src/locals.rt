@@ -1,5 +1,4 @@
 // The locals that must differ: those of the bindings that have one, the place's root and the discriminant local.
-use lower::temps::DiscrTemp;
 use place::LocalId;
 ghost use mathlib.Core.Path.{_≡_};
 ghost use lib.ListN.{drop};

@@ -1,5 +1,5 @@
 -- Arguments on their places: one of them can fail there exactly where one does by its own types. Assumes nothing.
-use Prim.Native.Nat.{ℕ, zero, suc, _+_, _≤_, _<_}
+use Prim.Native.Nat.{ℕ, zero, suc, _+_, _-_, _≤_, _<_}
 use mathlib.Core.Path.{_≡_, refl, sym, ap, ap₂, _∙_, subst}
 use mathlib.Core.Bool.{Bool, true, false, _&&_, _||_, or-assoc, false≢true}
 use mathlib.Core.Option.{Option, none, some}
@@ -14,6 +14,7 @@ use Rattle.place.specs.declared.elems.ProjectionElem.{ProjectionElem}
 use Rattle.place.specs.declared.place_ty.PlaceTy.{PlaceTy}
 use Rattle.place.specs.PlaceTypes.{projectionTy, multiProjectionTy}
 use Rattle.pattern_matching.specs.Variants.{fieldsUpTo}
+use Rattle.pattern_matching.specs.Slices.{suffixItems}
 use Rattle.counting.specs.Reaching.{Argument, zip, inARow, byFields, items, someArgument}
 use Rattle.meaning.specs.Typing.{TypeNumber, argumentsFit}
 use Rattle.meaning.specs.Matching.{recordFields}
@@ -142,10 +143,10 @@ module _ (image : List ℕ) (ty : PlaceTy) where
   unfolding items
   items-some u {cs} {cs′} {fs} {fs′} e e′ at at′ fits fits′ =
       let front = map (λ i. ProjectionElem.Index i) (upFrom 0 (length cs)) in
-      let back = map (λ i. ProjectionElem.IndexFromEnd i) (upFrom 0 (length cs′)) in
+      let back = suffixItems (length cs′) in
       some-append image ty (zip front cs) (zip back cs′)
       ∙ ap₂ (λ (x y : Bool). x || y)
       (zip-some front e (items-placed (Leads image ty) (λ i. ProjectionElem.Index i) 0 (length cs) fs u (λ i h. at (0 + i)) fits)
       (omega (arith, length-map (upFrom 0 (length cs)) (λ i. ProjectionElem.Index i), length-from 0 (length cs))))
-      (zip-some back e′ (items-placed (Leads image ty) (λ i. ProjectionElem.IndexFromEnd i) 0 (length cs′) fs′ u (λ i h. at′ (0 + i)) fits′)
-      (omega (arith, length-map (upFrom 0 (length cs′)) (λ i. ProjectionElem.IndexFromEnd i), length-from 0 (length cs′))))
+      (zip-some back e′ (items-placed (Leads image ty) (λ i. ProjectionElem.IndexFromEnd (length cs′ - 1 - i)) 0 (length cs′) fs′ u (λ i h. at′ (length cs′ - 1 - (0 + i))) fits′)
+      (omega (arith, length-map (upFrom 0 (length cs′)) (λ i. ProjectionElem.IndexFromEnd (length cs′ - 1 - i)), length-from 0 (length cs′))))

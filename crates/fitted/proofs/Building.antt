@@ -21,7 +21,6 @@ use Rattle.mir.specs.Scopes.{entryLimit}
 use Rattle.mir.specs.Rvalues.{liveRow}
 use Rattle.state.specs.State.{State}
 use Rattle.state.specs.Steps.{newBlock, setTerminator, pushStatement, newLocal, pushEntry, within, tryBlock, tryStatement, tryLocal, tryEntry, nextLocal}
-use Rattle.lower.specs.declared.temps.DiscrTemp.{DiscrTemp}
 use Rattle.lower.specs.declared.merging.OptBlock.{OptBlock}
 use Rattle.lower.specs.Temps.{isSlice, temp, pushStorageLiveForLocal, discrTempPlace}
 use Rattle.pattern_matching.specs.Walking.{elseState}
@@ -96,7 +95,7 @@ unfolding isSlice
 no-slice image word h = rw (le-ltb word (typeCount image) h)
 
 -- the local that all tests of enums share
-pub fair-discr : (image : List ℕ) (st : State) (d : DiscrTemp) (block : BasicBlockId) → typeCount image ≤ 256 → Fair (Kept st) (discrTempPlace image st d block)
+pub fair-discr : (image : List ℕ) (st : State) (block : BasicBlockId) → typeCount image ≤ 256 → Fair (Kept st) (discrTempPlace image st d block)
 unfolding discrTempPlace
 fair-discr image st (DiscrTemp.Some l) block h = fair-done (Kept st) st (kept-same st)
 fair-discr image st DiscrTemp.None block h = fair-temp image st 258 block (no-slice image 258 (omega arith))

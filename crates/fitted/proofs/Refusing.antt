@@ -205,7 +205,7 @@ module _ (image bindings : List ℕ) (v : valid image ≡ true) where
         inside-variant (h .number) (h .ty) w _ there has (fielded-record fields (variantFields image shape w) (each args below) row present))
     good (Pat.Range h start end halfOpen) t here fits taken =
         let (_, _, first, last) = range-fits image h (some t) start end halfOpen fits in
-        at-head (Pat.Range h start end halfOpen) t here fits (λ there. good-range image (few-types image v) (h .number) (h .ty) start end (PlaceTy.Ty (h .ty)) first last)
+        at-head (Pat.Range h start end halfOpen) t here fits (λ there. good-range image (few-types image v) (h .number) (h .ty) start end halfOpen (PlaceTy.Ty (h .ty)) first last)
     good (Pat.Slice h prefix rest suffix) t here fits taken =
         let shape = tyOf image (h .ty) .shape in
         let (kind, has, front, back) = four (leb 8 (kindNumber shape)) (restTaken? bindings rest) (noneRefused image bindings prefix) (noneRefused image bindings suffix) taken in
@@ -283,8 +283,8 @@ fitting-refused image bindings pat ctx current els place t e p v here typed root
 -- the same of a pattern that fits, by the numbers: a limit is passed, or no scope is open
 pub fit-refused : (image bindings : List ℕ) (pat : Pat) (ctx : Ctx) (current : BasicBlockId) (els : OptBlock) (place : Place) (t : ℕ) (e : MirLowerError) (p : ℕ) →
     valid image ≡ true → t < typeCount image → placeTy image (ctx .state) place ≡ PlaceTy.Ty t → place .local .0 < length (ctx .state .locals) → length (place .elems) ≡ 16 →
-    fits image bindings (place .local .0) (ctx .discr) t pat ≡ true → patternMatch image bindings pat ctx current els place ≡ refused e p → (numberOf e ≡ 11) ⊎ (numberOf e ≡ 14)
+    fits image bindings (place .local .0) t pat ≡ true → patternMatch image bindings pat ctx current els place ≡ refused e p → (numberOf e ≡ 11) ⊎ (numberOf e ≡ 14)
 unfolding fits
 fit-refused image bindings pat ctx current els place t e p v there placed rooted whole fit stopped =
-    let tests = typesFit image pat (some t) ∷ bindingsFit image pat ∷ nothingRefused image bindings pat ∷ localsDiffer bindings (place .local .0) (ctx .discr) ∷ [] in
+    let tests = typesFit image pat (some t) ∷ bindingsFit image pat ∷ nothingRefused image bindings pat ∷ localsDiffer bindings (place .local .0) ∷ [] in
     limit-numbers e (fitting-refused image bindings pat ctx current els place t e p v there placed rooted whole (all-true-at tests 0 fit) (all-true-at tests 2 fit) stopped)

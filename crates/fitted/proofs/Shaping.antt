@@ -3,7 +3,7 @@ use mathlib.Core.Path.{_≡_, refl, sym, ap, subst}
 use mathlib.Core.Bool.{Bool, true, false≢true}
 use mathlib.Core.Option.{Option, none, some}
 use mathlib.Core.List.{List, [], _∷_, map, reverse, reverseAux}
-use Prim.Native.Nat.{ℕ, zero, suc, _+_, _≤_, _<_}
+use Prim.Native.Nat.{ℕ, zero, suc, _+_, _-_, _≤_, _<_}
 use native.Mathlib.Nat.{le-refl}
 use borrow.Author.Tests.{le-leb}
 use lib.Dec.{leb}
@@ -21,7 +21,7 @@ use Rattle.place.specs.PlaceTypes.{projectionTy, Named}
 use Rattle.place.proofs.Named.{named-projection}
 use Rattle.pattern_matching.specs.Walking.{Lowering, out, project, inCheck}
 use Rattle.pattern_matching.specs.Variants.{patternMatchAdt, fieldsUpTo, patternMatchTupleLike, ellipsisAt, tupleOn, tuplePattern, refOn, refPattern, AdtPatternShape, recordFields, variantFields, discriminantTest, variantOn, adtOn, patternMatchingVariant}
-use Rattle.pattern_matching.specs.Slices.{RestOf, lengthTest, restBound, sliceItems, sliceOn}
+use Rattle.pattern_matching.specs.Slices.{RestOf, lengthTest, restBound, sliceItems, sliceOn, suffixItems}
 use Rattle.pattern_matching.specs.Patterns.{bindPattern}
 use Rattle.counting.proofs.Passing.{modeOf}
 use Rattle.meaning.specs.Values.{kindNumber, hasValues}
@@ -244,18 +244,21 @@ module _ (image : List ℕ) (v : valid image ≡ true) (few : typeCount image �
         at : (i : ℕ) → i < length ls → Leads image (PlaceTy.Ty t) (ProjectionElem.Index (0 + i)) u
         at i lt = let q = index-type image t (0 + i) s in (tt, q, in-table (PlaceTy.Ty t) (ProjectionElem.Index (0 + i)) here q)
 
-        at′ : (i : ℕ) → i < length ls′ → Leads image (PlaceTy.Ty t) (ProjectionElem.IndexFromEnd (0 + i)) u
-        at′ i lt = let q = end-index-type image t (0 + i) s in (tt, q, in-table (PlaceTy.Ty t) (ProjectionElem.IndexFromEnd (0 + i)) here q)
+        fromEnd : ℕ → ProjectionElem
+        fromEnd i = ProjectionElem.IndexFromEnd (length ls′ - 1 - i)
+
+        at′ : (i : ℕ) → i < length ls′ → Leads image (PlaceTy.Ty t) (fromEnd (0 + i)) u
+        at′ i lt = let q = end-index-type image t (length ls′ - 1 - (0 + i)) s in (tt, q, in-table (PlaceTy.Ty t) (fromEnd (0 + i)) here q)
 
         front : Good image (PlaceTy.Ty t) (patternMatchAdt p (map (λ i. ProjectionElem.Index i) (upFrom 0 (length ls))) ls)
         front =
             let elems = map (λ i. ProjectionElem.Index i) (upFrom 0 (length ls)) in
             good-arguments p elems ls (placed-row (PlaceTy.Ty t) elems e (items-placed (Leads image (PlaceTy.Ty t)) (λ i. ProjectionElem.Index i) 0 (length ls) fs u at fits))
 
-        back : Good image (PlaceTy.Ty t) (patternMatchAdt p (map (λ i. ProjectionElem.IndexFromEnd i) (upFrom 0 (length ls′))) ls′)
+        back : Good image (PlaceTy.Ty t) (patternMatchAdt p (suffixItems (length ls′)) ls′)
         back =
-            let elems = map (λ i. ProjectionElem.IndexFromEnd i) (upFrom 0 (length ls′)) in
-            good-arguments p elems ls′ (placed-row (PlaceTy.Ty t) elems e′ (items-placed (Leads image (PlaceTy.Ty t)) (λ i. ProjectionElem.IndexFromEnd i) 0 (length ls′) fs′ u at′ fits′))
+            let elems = suffixItems (length ls′) in
+            good-arguments p elems ls′ (placed-row (PlaceTy.Ty t) elems e′ (items-placed (Leads image (PlaceTy.Ty t)) fromEnd 0 (length ls′) fs′ u at′ fits′))
 
     -- a Slice, on an array or a slice
     pub good-slice : {ls ls′ : List Lowering} {fs fs′ : List (TypeNumber → Bool)} (bindings : List ℕ) (rest : RestOf) (s : Shape) → tyOf image t .shape ≡ s → leb 8 (kindNumber s) ≡ true →

@@ -32,7 +32,7 @@ use Rattle.pattern_matching.specs.Walking.{Ctx, elseState, elseBlock}
 use Rattle.pattern_matching.specs.Tests.{boolWord, usizeWord, compare, patternMatchConst, literal, litBy, constantPath, rangeEnd, rangeEnd?, patternMatchBinding}
 use Rattle.pattern_matching.specs.Variants.{discriminantTest}
 use Rattle.pattern_matching.specs.Slices.{RestOf, lengthCompared, lengthTest}
-use Rattle.pattern_matching.specs.Patterns.{rangePattern}
+use Rattle.pattern_matching.specs.Patterns.{endOp, rangePattern}
 use Rattle.place.specs.declared.place_ty.PlaceTy.{PlaceTy}
 use Rattle.meaning.specs.Typing.{integerFits}
 use Rattle.meaning.specs.Fitting.{constantFits, literalFits, endFits, endFits?}
@@ -210,15 +210,15 @@ module _ (image : List ℕ) (few : typeCount image ≤ 256) where
       fine-compare p op (Left.Constant k) place c st₂ current _ (elseBlock (c .state) els) (kept-on g₁ g₂))))
 
   -- a Range
-  pub good-range : (p t : ℕ) (start end : Option Operand) (ty : PlaceTy) → endFits? (tyOf image t .shape) start ≡ true → endFits? (tyOf image t .shape) end ≡ true →
-      Good image ty (rangePattern image p t start end)
+  pub good-range : (p t : ℕ) (start end : Option Operand) (halfOpen : Bool) (ty : PlaceTy) → endFits? (tyOf image t .shape) start ≡ true → endFits? (tyOf image t .shape) end ≡ true →
+      Good image ty (rangePattern image p t start end halfOpen)
   unfolding rangePattern
-  good-range p t start end ty e e′ =
+  good-range p t start end halfOpen ty e e′ =
       record {
         goes = λ pass c current els place on.
             fine-check pass _ _
             (fine-walk c (rangeEnd? image p t BinOp.Le start c current els place) _ (fine-end p t BinOp.Le start c current els place e)
-            (λ r g. fine-end p t BinOp.Ge end (r .ctx) (r .then) (r .else) place e′))
+            (λ r g. fine-end p t (endOp halfOpen) end (r .ctx) (r .then) (r .else) place e′))
             (fine-out c current els);
       }
 
@@ -244,7 +244,7 @@ module _ (image : List ℕ) (few : typeCount image ≤ 256) where
   pub fine-discriminant : (p v : ℕ) (c : Ctx) (current : BasicBlockId) (els : OptBlock) (place : Place) → Fine (Stays c) (discriminantTest image p v c current els place)
   unfolding discriminantTest
   fine-discriminant p v c current els place =
-      fine-step p (discrTempPlace image (c .state) (c .discr) current) _ (fair-discr image (c .state) (c .discr) current few) (λ st₁ g₁.
+      fine-step p (discrTempPlace image (c .state) current) _ (fair-discr image (c .state) current few) (λ st₁ g₁.
       fine-step p (tryStatement st₁ _) _ (fair-statement st₁ _) (λ st₂ g₂.
       fine-step p (tryBlock st₂) _ (fair-block st₂) (λ st₃ g₃.
       fine-step p (elseState st₃ els) _ (fair-else st₃ els) (λ st₄ g₄.

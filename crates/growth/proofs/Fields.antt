@@ -11,7 +11,7 @@ use Rattle.refusals.specs.declared.MirLowerError.{MirLowerError}
 use Rattle.place.specs.declared.elems.ProjectionElem.{ProjectionElem}
 use Rattle.pattern_matching.specs.Walking.{Lowering, out, project, inCheck}
 use Rattle.pattern_matching.specs.Variants.{placeTy, shapeOf, patternMatchAdt, fieldsUpTo, patternMatchTupleLike, ellipsisAt, tupleOn, tuplePattern, refOn, refPattern, AdtPatternShape, resolved, recordFields, variantFields, discriminantTest, variantOn, adtOn, patternMatchingVariant, variantPattern}
-use Rattle.pattern_matching.specs.Slices.{RestOf, lengthTest, restBound, sliceItems, sliceOn}
+use Rattle.pattern_matching.specs.Slices.{RestOf, lengthTest, restBound, sliceItems, sliceOn, suffixItems}
 use Rattle.growth.proofs.Walks.{good-refused, good-next, good-step, good-needed, good-cond, good-out, good-check, Grows, refuses, AllGrow, all-take, all-drop, all-reverse}
 use Rattle.growth.proofs.Testing.{good-length, good-discriminant, good-binding}
 
@@ -146,7 +146,7 @@ pub grows-items : (bindings : List ℕ) (p : ℕ) (prefix : List Lowering) (rest
 unfolding sliceItems
 grows-items bindings p prefix rest suffix g h mode ctx c els place =
     let front = map (λ i. ProjectionElem.Index i) (upFrom 0 (length prefix)) in
-    let back = map (λ i. ProjectionElem.IndexFromEnd i) (upFrom 0 (length suffix)) in
+    let back = suffixItems (length suffix) in
     good-next (patternMatchAdt p front prefix mode ctx c els place) _ (grows-adt p front prefix g mode ctx c els place) (λ r.
     good-next (restBound rest bindings p (length prefix) (length suffix) mode (r .ctx) (r .then) (r .else) place) _
     (grows-rest rest bindings p (length prefix) (length suffix) mode (r .ctx) (r .then) (r .else) place) (λ s.

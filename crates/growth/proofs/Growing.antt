@@ -1,5 +1,6 @@
 -- Every lowering of a pattern grows a body well: by induction on the pattern. Assumes nothing.
 use Prim.Native.Nat.{ℕ}
+use mathlib.Core.Bool.{Bool}
 use mathlib.Core.Option.{Option}
 use mathlib.Core.List.{List}
 use Rattle.image.specs.declared.kinds.BindingMode.{BindingMode}
@@ -13,7 +14,7 @@ use Rattle.pattern_matching.specs.Tests.{rangeEnd?}
 use Rattle.pattern_matching.specs.Variants.{AdtPatternShape, tuplePattern, refPattern, variantPattern}
 use Rattle.pattern_matching.specs.Slices.{sliceOn}
 use Rattle.pattern_matching.specs.Tests.{litBy}
-use Rattle.pattern_matching.specs.Patterns.{refusing, passing, orPattern, rangePattern, pathPattern, bindPattern, restOf, patternMatchInner, lowerings, lowering?}
+use Rattle.pattern_matching.specs.Patterns.{refusing, passing, orPattern, endOp, rangePattern, pathPattern, bindPattern, restOf, patternMatchInner, lowerings, lowering?}
 use Rattle.growth.proofs.Walks.{good-next, good-out, good-check, Grows, refuses, grows-entered, AllGrow}
 use Rattle.growth.proofs.Testing.{grows-lit, grows-constant, good-range-end, good-binding, grows-local}
 use Rattle.growth.proofs.Fields.{grows-tuple, grows-ref, grows-variant, grows-variant?, grows-slice}
@@ -24,12 +25,12 @@ grows-passing : Grows passing
 grows-passing mode ctx c els place = good-out ctx c els
 
 -- a Range: one end after the other
-grows-range : (image : List ℕ) (p ty : ℕ) (start end : Option Operand) → Grows (rangePattern image p ty start end)
+grows-range : (image : List ℕ) (p ty : ℕ) (start end : Option Operand) (halfOpen : Bool) → Grows (rangePattern image p ty start end halfOpen)
 unfolding rangePattern
-grows-range image p ty start end mode ctx c els place =
+grows-range image p ty start end halfOpen mode ctx c els place =
     good-check mode _ _
     (good-next (rangeEnd? image p ty BinOp.Le start ctx c els place) _ (good-range-end image p ty BinOp.Le start ctx c els place) (λ r.
-    good-range-end image p ty BinOp.Ge end (r .ctx) (r .then) (r .else) place))
+    good-range-end image p ty (endOp halfOpen) end (r .ctx) (r .then) (r .else) place))
     (λ b. good-out ctx c els)
 
 -- a Path by what it names
@@ -67,7 +68,7 @@ module _ (image bindings : List ℕ) where
         grows-entered (h .number) (h .derefs) (variantPattern image (h .number) v (AdtPatternShape.Record fields (lowerings image bindings args)))
         (grows-variant? image (h .number) v (AdtPatternShape.Record fields (lowerings image bindings args)) (all-grow args))
     grows (Pat.Range h start end halfOpen) =
-        grows-entered (h .number) (h .derefs) (rangePattern image (h .number) (h .ty) start end) (grows-range image (h .number) (h .ty) start end)
+        grows-entered (h .number) (h .derefs) (rangePattern image (h .number) (h .ty) start end halfOpen) (grows-range image (h .number) (h .ty) start end halfOpen)
     grows (Pat.Slice h prefix rest suffix) =
         grows-entered (h .number) (h .derefs)
         (sliceOn (tyOf image (h .ty) .shape) image bindings (h .number) (lowerings image bindings prefix) (restOf rest) (lowerings image bindings suffix))

@@ -11,7 +11,6 @@ use Rattle.mir.specs.declared.BasicBlockId.{BasicBlockId}
 use Rattle.mir.specs.declared.blocks.Terminator.{Terminator}
 use Rattle.state.specs.State.{State}
 use Rattle.state.specs.Steps.{nextBlock, tryBlock, setTerminator}
-use Rattle.lower.specs.declared.temps.DiscrTemp.{DiscrTemp}
 use Rattle.lower.specs.declared.merging.OptBlock.{OptBlock}
 use Rattle.views.specs.Growing.{Closed}
 use Rattle.pattern_matching.specs.declared.MatchingMode.{MatchingMode}
@@ -26,7 +25,7 @@ use Rattle.growth.proofs.Walks.{Beyond, ok-is, walked, Good, good-ok, g
 use Rattle.growth.proofs.Alternating.{Tried, tried, tried-all}
 
 -- the alternatives go on at a new block, made before them
-leaves-join : {st st₀ st₃ : State} {c : BasicBlockId} {els els₃ : OptBlock} {d : DiscrTemp} {v : List ℕ} → Ready st c els → tryBlock st ≡ done st₀ → Worked st₀ (c .0) st₃ →
+leaves-join : {st st₀ st₃ : State} {c : BasicBlockId} {els els₃ : OptBlock} {v : List ℕ} → Ready st c els → tryBlock st ≡ done st₀ → Worked st₀ (c .0) st₃ →
     ElseReady st₃ (nextBlock st) els₃ → ElseLeft st els st₃ els₃ →
     ((b : ℕ) → b < count st₃ → From st₀ (c .0) b → b ≢ count st → (els₃ ≡ OptBlock.Some (record { 0 = b }) → ⊥) → Closed (terminator st₃ b)) →
     Leaves st c els (result st₃ d v (nextBlock st) els₃)
@@ -87,7 +86,7 @@ leaves-ended {st} {st₀} {c} {els} a h e q =
 -- a mismatch goes on at the else
 leaves-mismatch : {st st₀ st₂ : State} {c : BasicBlockId} {els : OptBlock} (a : Ctx) (b : BasicBlockId) → Ready st c els → tryBlock st ≡ done st₀ →
     Tried st₀ (c .0) (tried a (OptBlock.Some b)) → elseState (a .state) els ≡ done st₂ →
-    Leaves st c els (result (setTerminator st₂ b (Terminator.Goto (elseBlock (a .state) els))) (a .discr) (a .visits) (nextBlock st) (OptBlock.Some (elseBlock (a .state) els)))
+    Leaves st c els (result (setTerminator st₂ b (Terminator.Goto (elseBlock (a .state) els))) (a .visits) (nextBlock st) (OptBlock.Some (elseBlock (a .state) els)))
 leaves-mismatch {st} {st₀} {st₂} {c} {els} a b h e q e₂ =
     let one = count-tried st st₀ e in
     let grew = q .worked .blocks in
@@ -123,7 +122,7 @@ leaves-mismatch {st} {st₀} {st₂} {c} {els} a b h e q e₂ =
 
 -- a mismatch cannot be
 leaves-unreachable : {st st₀ : State} {c : BasicBlockId} {els : OptBlock} (a : Ctx) (b : BasicBlockId) → Ready st c els → tryBlock st ≡ done st₀ →
-    Tried st₀ (c .0) (tried a (OptBlock.Some b)) → Leaves st c els (result (setTerminator (a .state) b Terminator.Unreachable) (a .discr) (a .visits) (nextBlock st) els)
+    Tried st₀ (c .0) (tried a (OptBlock.Some b)) → Leaves st c els (result (setTerminator (a .state) b Terminator.Unreachable) (a .visits) (nextBlock st) els)
 leaves-unreachable {st} {st₀} {c} {els} a b h e q =
     let w : Worked st₀ (c .0) st₃ = worked-seq (q .worked) (q .left .2) (worked-terminator (a .state) b Terminator.Unreachable) in
     leaves-join h e w (else-apart st st₃ c els (omega (arith, count-tried st st₀ e, w .blocks)) (h .else)) (else-same st st₃ els) (λ x i f n m. go x i f (ℕ-discrete x (b .0)))

@@ -25,7 +25,6 @@ use Rattle.mir.specs.Scopes.{entryLimit}
 use Rattle.mir.specs.Rvalues.{liveRow, placeRvalueRow, constantRow, binaryRow}
 use Rattle.state.specs.State.{State}
 use Rattle.state.specs.Steps.{within, nextLocal, newBlock, pushStatement, newLocal, pushEntry, tryBlock, tryStatement, tryLocal, tryEntry}
-use Rattle.lower.specs.declared.temps.DiscrTemp.{DiscrTemp}
 use Rattle.lower.specs.declared.merging.OptBlock.{OptBlock}
 use Rattle.lower.specs.Temps.{isSlice, temp, pushStorageLiveForLocal, discrTempPlace}
 use Rattle.views.specs.Views.{Line, terminatorOf, lineOf, mirOf}
@@ -249,7 +248,7 @@ adds-temp image st st₁ word block e =
     (adds-live st₂ st₁ (nextLocal st) block e₃))
 
 -- the local that all tests of enums share
-pub adds-discr : (image : List ℕ) (st st₁ : State) (d : DiscrTemp) (block : BasicBlockId) → discrTempPlace image st d block ≡ ok st₁ → Adds st (block .0) st₁
+pub adds-discr : (image : List ℕ) (st st₁ : State) (block : BasicBlockId) → discrTempPlace image st d block ≡ ok st₁ → Adds st (block .0) st₁
 unfolding discrTempPlace
 adds-discr image st st₁ (DiscrTemp.Some l) block e = let same : st ≡ st₁ = cc in subst (λ (s : State). Adds st (block .0) s) same (adds-same st (block .0))
 adds-discr image st st₁ DiscrTemp.None block e = adds-temp image st st₁ 258 block e

@@ -19,7 +19,6 @@ use Rattle.mir.specs.Rvalues.{placeRvalueRow, constantRow, binaryRow}
 use Rattle.state.specs.State.{State}
 use Rattle.state.specs.Steps.{nextBlock, nextLocal, tryBlock, tryStatement, setTerminator}
 use Rattle.literals.specs.Literals.{lowerLiteralToOperand, lowerConstToOperand, lowerLiteralOrConstToOperand}
-use Rattle.lower.specs.declared.temps.DiscrTemp.{DiscrTemp}
 use Rattle.lower.specs.declared.merging.OptBlock.{OptBlock}
 use Rattle.lower.specs.Temps.{temp, bindingLocal, pushStorageLiveForLocal, discrTempPlace, discrLocal}
 use Rattle.views.specs.Growing.{Closed}
@@ -34,7 +33,7 @@ use Rattle.growth.proofs.Leaving.{result, Forks, leaves-fork}
 use Rattle.growth.proofs.Walks.{Good, good-refused, good-ok, good-lines, good-step, good-out, good-check, Grows}
 
 -- the end of a test
-good-fork : {st st₁ : State} {c : BasicBlockId} {els : OptBlock} (d : DiscrTemp) (v : List ℕ) (t e : BasicBlockId) (end : Terminator) → Closed end → Opens st (c .0) st₁ →
+good-fork : {st st₁ : State} {c : BasicBlockId} {els : OptBlock} (v : List ℕ) (t e : BasicBlockId) (end : Terminator) → Closed end → Opens st (c .0) st₁ →
     Forks (count st) els (count st₁) (t .0) (e .0) → Good MatchingMode.Check st c els (ok (result (setTerminator st₁ c end) d v t (OptBlock.Some e)))
 good-fork {st₁} {c} d v t e end z o f = good-ok (result (setTerminator st₁ c end) d v t (OptBlock.Some e)) (λ h. leaves-fork t e end z h o f) (λ b. absurd b)
 
@@ -62,7 +61,7 @@ good-compare image p op left place ctx {start} {st} {c} {els} t e o f =
     good-step p (temp image st boolWord c) _ (λ st₁ e₁.
     good-step p (tryStatement st₁ (binaryRow c (nextLocal st) op left place)) _ (λ st₂ e₂.
     let a = adds-seq (adds-temp image st st₁ boolWord c e₁) (adds-statement st₁ st₂ (c .0) (binaryRow c (nextLocal st) op left place) (binary-block c (nextLocal st) op left place) e₂) in
-    good-fork (ctx .discr) (ctx .visits) t e (Terminator.Switch (nextLocal st) 1 0 t e) tt (opens-seq o (a .opens)) (fork-lines (count start) els (t .0) (e .0) a f)))
+    good-fork (ctx .visits) t e (Terminator.Switch (nextLocal st) 1 0 t e) tt (opens-seq o (a .opens)) (fork-lines (count start) els (t .0) (e .0) a f)))
 
 -- a constant's test
 pub good-const : (image : List ℕ) (p : ℕ) (k : Constant) (ctx : Ctx) (c : BasicBlockId) (els : OptBlock) (place : Place) →
@@ -113,7 +112,7 @@ grows-constant image p ty operand mode ctx c els place =
     let a = adds-seq (adds-seq (adds-temp image st st₁ ty c e₁) (adds-statement st₁ st₂ (c .0) (constantRow c (nextLocal st) k) (constant-block c (nextLocal st) k) e₂))
     (adds-seq (adds-temp image st₂ st₃ boolWord c e₃)
     (adds-statement st₃ st₄ (c .0) (binaryRow c (nextLocal st₂) BinOp.Eq (Left.Local (nextLocal st)) place) (binary-block c (nextLocal st₂) BinOp.Eq (Left.Local (nextLocal st)) place) e₄)) in
-    good-fork (ctx .discr) (ctx .visits) (nextBlock st₄) (elseBlock st₅ els) (Terminator.Switch (nextLocal st₂) 1 0 (nextBlock st₄) (elseBlock st₅ els)) tt
+    good-fork (ctx .visits) (nextBlock st₄) (elseBlock st₅ els) (Terminator.Switch (nextLocal st₂) 1 0 (nextBlock st₄) (elseBlock st₅ els)) tt
     (opens-seq (a .opens) (opens-seq (opens-block st₄ st₅ (c .0) e₅) (opens-else st₅ st₆ (c .0) els e₆)))
     (then-else (count st) (count st₄) els st₅ (count st₆) (a .same) (count-tried st₄ st₅ e₅) (count-else st₅ st₆ els e₆)))))))))
     (λ b. good-out ctx c els)
@@ -136,7 +135,7 @@ good-range-end image p ty op (some operand) ctx c els place =
 good-length-end : (rest : RestOf) (image : List ℕ) (p n : ℕ) (ctx : Ctx) (st₀ : State) {start st : State} {c : BasicBlockId} {els : OptBlock} (t e : BasicBlockId) →
     Opens start (c .0) st → Forks (count start) els (count st) (t .0) (e .0) → Good MatchingMode.Check start c els (lengthCompared rest image p n ctx st₀ st c t e)
 unfolding lengthCompared
-good-length-end RestOf.none image p n ctx st₀ t e o f = good-fork (ctx .discr) (ctx .visits) t e (Terminator.Switch (nextLocal st₀) n 0 t e) tt o f
+good-length-end RestOf.none image p n ctx st₀ t e o f = good-fork (ctx .visits) t e (Terminator.Switch (nextLocal st₀) n 0 t e) tt o f
 good-length-end (RestOf.binds q b how) image p n ctx st₀ t e o f =
     good-compare image p BinOp.Le (Left.Constant (lengthConstant n)) (localPlace (nextLocal st₀)) ctx t e o f
 good-length-end RestOf.ignores image p n ctx st₀ t e o f = good-compare image p BinOp.Le (Left.Constant (lengthConstant n)) (localPlace (nextLocal st₀)) ctx t e o f
@@ -163,12 +162,12 @@ pub good-discriminant : (image : List ℕ) (p v : ℕ) (ctx : Ctx) (c : BasicBlo
 unfolding discriminantTest
 good-discriminant image p v ctx c els place =
     let st = ctx .state in
-    let l = discrLocal st (ctx .discr) in
-    good-step p (discrTempPlace image st (ctx .discr) c) _ (λ st₁ e₁.
+    let l = discrLocal st in
+    good-step p (discrTempPlace image st c) _ (λ st₁ e₁.
     good-step p (tryStatement st₁ (placeRvalueRow c l PlaceRvalue.Discr place)) _ (λ st₂ e₂.
     good-step p (tryBlock st₂) _ (λ st₃ e₃.
     good-step p (elseState st₃ els) _ (λ st₄ e₄.
-    let a = adds-seq (adds-discr image st st₁ (ctx .discr) c e₁)
+    let a = adds-seq (adds-discr image st st₁ c e₁)
     (adds-statement st₁ st₂ (c .0) (placeRvalueRow c l PlaceRvalue.Discr place) (place-block c l PlaceRvalue.Discr place) e₂) in
     let value = variantOf image v .discriminant in
     good-fork (DiscrTemp.Some l) (ctx .visits) (nextBlock st₂) (elseBlock st₃ els)
@@ -185,7 +184,7 @@ good-binding bindings p q b how ctx c els place =
     good-step q (bindingLocal bindings b) _ (λ l e.
     good-step p (pushStorageLiveForLocal st l c) _ (λ st₁ e₁.
     good-step p (tryStatement st₁ (placeRvalueRow c l (bindingRvalue how) place)) _ (λ st₂ e₂.
-    good-lines (ctx .discr) (ctx .visits) (adds-seq (adds-live st st₁ l c e₁)
+    good-lines (ctx .visits) (adds-seq (adds-live st st₁ l c e₁)
     (adds-statement st₁ st₂ (c .0) (placeRvalueRow c l (bindingRvalue how) place) (place-block c l (bindingRvalue how) place) e₂)))))
 
 -- a path that names a local
@@ -196,4 +195,4 @@ grows-local bindings p b MatchingMode.Bind ctx c els place = good-out ctx c els
 grows-local bindings p b MatchingMode.Assign ctx c els place =
     good-step p (bindingLocal bindings b) _ (λ l e.
     good-step p (tryStatement (ctx .state) (placeRvalueRow c l PlaceRvalue.Copy place)) _ (λ st₁ e₁.
-    good-lines (ctx .discr) (ctx .visits) (adds-statement (ctx .state) st₁ (c .0) (placeRvalueRow c l PlaceRvalue.Copy place) (place-block c l PlaceRvalue.Copy place) e₁)))
+    good-lines (ctx .visits) (adds-statement (ctx .state) st₁ (c .0) (placeRvalueRow c l PlaceRvalue.Copy place) (place-block c l PlaceRvalue.Copy place) e₁)))

@@ -14,7 +14,6 @@ use Rattle.place.specs.declared.Place.{Place}
 use Rattle.place.specs.declared.elems.ProjectionElem.{ProjectionElem}
 use Rattle.mir.specs.declared.BasicBlockId.{BasicBlockId}
 use Rattle.state.specs.State.{State}
-use Rattle.lower.specs.declared.temps.DiscrTemp.{DiscrTemp}
 use Rattle.lower.specs.declared.merging.OptBlock.{OptBlock}
 use Rattle.pattern_matching.specs.declared.MatchingMode.{MatchingMode}
 use Rattle.pattern_matching.specs.Walking.{Ctx, Out, Walk, ok, refused, Lowering, next, step, out, project, visited, derefed, entered, inCheck}
@@ -61,7 +60,7 @@ module _ {mode : MatchingMode} {st : State} {c : BasicBlockId} {els : OptBlock} 
       }
 
   -- lines at the end of the block
-  pub good-lines : {st₁ : State} (d : DiscrTemp) (v : List ℕ) → Adds st (c .0) st₁ → Good mode st c els (ok (result st₁ d v c els))
+  pub good-lines : {st₁ : State} (v : List ℕ) → Adds st (c .0) st₁ → Good mode st c els (ok (result st₁ d v c els))
   good-lines {st₁} d v a = good-ok (result st₁ d v c els) (λ h. leaves-lines h a) (λ b. refl)
 
   -- a walk, and then what follows it
@@ -96,7 +95,7 @@ module _ {mode : MatchingMode} {st : State} {c : BasicBlockId} {els : OptBlock} 
 
 -- nothing done
 pub good-out : {mode : MatchingMode} (ctx : Ctx) (c : BasicBlockId) (els : OptBlock) → Good mode (ctx .state) c els (out ctx c els)
-good-out ctx c els = good-lines (ctx .discr) (ctx .visits) (adds-same (ctx .state) (c .0))
+good-out ctx c els = good-lines (ctx .visits) (adds-same (ctx .state) (c .0))
 
 -- what only a walk in Check does
 pub good-check : {st : State} {c : BasicBlockId} {els : OptBlock} (mode : MatchingMode) (test skip : Walk Out) → Good MatchingMode.Check st c els test →

@@ -15,7 +15,6 @@ use Rattle.mir.specs.declared.BasicBlockId.{BasicBlockId}
 use Rattle.mir.specs.declared.Counts.{Counts}
 use Rattle.mir.specs.Blocks.{isOpen}
 use Rattle.check_body.specs.Bodies.{isBlock, isLocal, elemHolds}
-use Rattle.lower.specs.declared.temps.DiscrTemp.{DiscrTemp}
 use Rattle.lower.specs.declared.merging.OptBlock.{OptBlock}
 use Rattle.lower.specs.Promises.{Within}
 use Rattle.handed.specs.Handed.{startHolds, elseHolds, placeHolds, bindingHolds, bindingsHold, discrHolds, patternHanded, Named, matchHolds, selfHolds}
@@ -40,7 +39,7 @@ bindings-of count c bindings e = eqb-true _ _ (and-left (eqb (length bindings) c
 abbrev elemsHold : ℕ → Place → Bool
 elemsHold variants place = allBelow (λ i. elemHolds variants (elemOf (getD (place .elems) i 0))) (place .len)
 
-module _ (named : Named) (bindings blocks visits : List ℕ) (c : Counts) (discr : DiscrTemp) (p : ℕ) (current : BasicBlockId) (els : OptBlock) (place : Place) where
+module _ (named : Named) (bindings blocks visits : List ℕ) (c : Counts) (p : ℕ) (current : BasicBlockId) (els : OptBlock) (place : Place) where
   -- the tests
   abbrev rules : List Bool
   rules =
@@ -54,7 +53,7 @@ module _ (named : Named) (bindings blocks visits : List ℕ) (c : Counts) (discr
 
   -- all that a call of `pattern_match` is handed names something
   abbrev pub Handed : Type 0
-  Handed = matchHolds named bindings blocks visits c discr p current els place ≡ true
+  Handed = matchHolds named bindings blocks visits c p current els place ≡ true
 
   -- each test is passed
   rule : Handed → (k : ℕ) → getD rules k true ≡ true

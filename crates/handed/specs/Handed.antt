@@ -13,7 +13,6 @@ use Rattle.mir.specs.declared.BasicBlockId.{BasicBlockId}
 use Rattle.mir.specs.declared.Counts.{Counts}
 use Rattle.mir.specs.Blocks.{isOpen}
 use Rattle.check_body.specs.Bodies.{isBlock, isLocal, elemHolds}
-use Rattle.lower.specs.declared.temps.DiscrTemp.{DiscrTemp}
 use Rattle.lower.specs.declared.merging.OptBlock.{OptBlock}
 
 -- "start block missing or not open" is refused
@@ -37,11 +36,6 @@ bindingHolds c l = eqb l 65535 || isLocal c l
 unfoldable pub bindingsHold : ℕ → Counts → List ℕ → Bool
 bindingsHold count c bindings = eqb (length bindings) count && allIn (bindingHolds c) bindings
 
--- the discriminant local is there, if one is handed in
-unfoldable pub discrHolds : Counts → DiscrTemp → Bool
-discrHolds c DiscrTemp.None = true
-discrHolds c (DiscrTemp.Some l) = isLocal c (l .0)
-
 -- the pattern is there, and the visits' table has its size: a word for each of the 512 patterns that an image may have
 unfoldable pub patternHanded : ℕ → List ℕ → ℕ → Bool
 patternHanded count visits p = ltb p count && eqb (length visits) 512
@@ -53,12 +47,11 @@ pub record Named : Type 0 where
   pub bindings : ℕ
 
 -- all that a call of `pattern_match` is handed names something
-unfoldable pub matchHolds : Named → List ℕ → List ℕ → List ℕ → Counts → DiscrTemp → ℕ → BasicBlockId → OptBlock → Place → Bool
-matchHolds named bindings blocks visits c discr p current els place =
+unfoldable pub matchHolds : Named → List ℕ → List ℕ → List ℕ → Counts → ℕ → BasicBlockId → OptBlock → Place → Bool
+matchHolds named bindings blocks visits c p current els place =
     allTrue
     (patternHanded (named .patterns) visits p
     ∷ bindingsHold (named .bindings) c bindings
-    ∷ discrHolds c discr
     ∷ startHolds blocks c current
     ∷ elseHolds c current els
     ∷ placeHolds (named .variants) c place

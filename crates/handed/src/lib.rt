@@ -4,7 +4,6 @@ use image::BindingId;
 use image::PatId;
 use image::Tables;
 use lower::merging::OptBlock;
-use lower::temps::DiscrTemp;
 use mir::BasicBlockId;
 use mir::Counts;
 use mir::blocks::is_unterminated;
@@ -87,7 +86,7 @@ pub fn bindings_hold(count: u16, counts: Counts, bindings: &[u16]) -> bool
 }
 
 pub fn discr_holds(counts: Counts, discr: DiscrTemp) -> bool
-    ensures { λ r. ⌜ r ≡ discrHolds counts discr ⌝ }
+    ensures { λ r. ⌜ r ≡ discrHolds counts ⌝ }
 {
     match discr {
         DiscrTemp::None => true,
@@ -111,14 +110,13 @@ pub fn match_holds(
     blocks: &[u16],
     visits: &[u16],
     counts: Counts,
-    discr: DiscrTemp,
     p: PatId,
     current: BasicBlockId,
     els: OptBlock,
     place: Place,
 ) -> bool
     requires { ⌜ (length (now blocks) ≡ 6144) × (counts .blocks ≤ 512) ⌝ }
-    ensures { λ r. ⌜ r ≡ matchHolds (record { variants = tables .variants .count; patterns = tables .patterns .count; bindings = tables .bindings .count }) (now (bindings .entry)) (now (blocks .entry)) (now (visits .entry)) counts discr (p .0) current els place ⌝ }
+    ensures { λ r. ⌜ r ≡ matchHolds (record { variants = tables .variants .count; patterns = tables .patterns .count; bindings = tables .bindings .count }) (now (bindings .entry)) (now (blocks .entry)) (now (visits .entry)) counts (p .0) current els place ⌝ }
 {
     if !pattern_handed(tables.patterns.count, visits, p) {
         return false;

@@ -9,7 +9,6 @@ use listing_start::start_type;
 use listing_text::pen::Pen;
 use listing_text::put_refusal;
 use lower::merging::OptBlock;
-use lower::temps::DiscrTemp;
 use mir::BasicBlockId;
 use pattern_calls::pattern_match;
 use place::LocalId;
@@ -74,7 +73,6 @@ fn put_lowered(
         entries,
         visits,
         counts,
-        DiscrTemp::None,
         PatId(tables.patterns.count - 1),
         BasicBlockId(0),
         OptBlock::None,

@@ -10,7 +10,6 @@ use Rattle.mir.specs.declared.BasicBlockId.{BasicBlockId}
 use Rattle.mir.specs.declared.Counts.{Counts}
 use Rattle.state.specs.State.{Body, body, decode, countsOf}
 use Rattle.state.specs.Contracts.{Ready}
-use Rattle.lower.specs.declared.temps.DiscrTemp.{DiscrTemp}
 use Rattle.lower.specs.declared.merging.OptBlock.{OptBlock}
 use Rattle.views.specs.Views.{mirOf}
 use Rattle.listing_text.specs.Listing.{listing, refusalText}
@@ -25,7 +24,7 @@ unfolding mirOf decode
 mir-same b c = refl
 
 -- an accepted call
-accepted-text : (defined : Called) (b : Body) {c : Counts} {d : DiscrTemp} {then : BasicBlockId} {els : OptBlock} → MatchCall.Matched c d then els ≡ answer defined → Reads defined b →
+accepted-text : (defined : Called) (b : Body) {c : Counts} {then : BasicBlockId} {els : OptBlock} → MatchCall.Matched c d then els ≡ answer defined → Reads defined b →
     listing then els (mirOf (decode (body (b .blocks) (b .statements) (b .locals) [] []) c)) ≡ callText defined
 unfolding callText walkText
 accepted-text badImage b is reads = absurd (let z : _≡_ {A = ℕ} 0 1 = cc in omega arith)
@@ -38,7 +37,7 @@ accepted-text (walked (ok r)) b {c} {d} {then} {els} is reads =
     let state : decode b c ≡ r .ctx .state = ap (decode b) count ∙ reads in
     rw (goes-on, fails) (ap (listing (r .then) (r .else)) (mir-same b c ∙ ap mirOf state))
 
-accepted-ready : (defined : Called) (b : Body) {c : Counts} {d : DiscrTemp} {then : BasicBlockId} {els : OptBlock} → MatchCall.Matched c d then els ≡ answer defined → ReadyAfter defined b → Ready b c
+accepted-ready : (defined : Called) (b : Body) {c : Counts} {then : BasicBlockId} {els : OptBlock} → MatchCall.Matched c d then els ≡ answer defined → ReadyAfter defined b → Ready b c
 accepted-ready badImage b is ready = absurd (let z : _≡_ {A = ℕ} 0 1 = cc in omega arith)
 accepted-ready badCall b is ready = absurd (let z : _≡_ {A = ℕ} 0 1 = cc in omega arith)
 accepted-ready (walked (refused e p)) b is ready = absurd (let z : _≡_ {A = ℕ} 0 1 = cc in omega arith)
@@ -90,11 +89,11 @@ module _ {b : Body} {v : List ℕ} {c : Counts} {defined : Called} {b′ : Body}
 
 -- the ways through `put_answer`
 module _ (blocks statements locals : List ℕ) {answer : MatchCall} where
-  pub listing-asked : {c : Counts} {d : DiscrTemp} {then : BasicBlockId} {els : OptBlock} → answer ≡ MatchCall.Matched c d then els → Listable blocks statements locals answer →
+  pub listing-asked : {c : Counts} {then : BasicBlockId} {els : OptBlock} → answer ≡ MatchCall.Matched c d then els → Listable blocks statements locals answer →
       Listable blocks statements locals (MatchCall.Matched c d then els)
   listing-asked is L = subst (Listable blocks statements locals) is L
 
-  pub lists : {c : Counts} {d : DiscrTemp} {then : BasicBlockId} {els : OptBlock} → answer ≡ MatchCall.Matched c d then els →
+  pub lists : {c : Counts} {then : BasicBlockId} {els : OptBlock} → answer ≡ MatchCall.Matched c d then els →
       listing then els (mirOf (decode (body blocks statements locals [] []) c)) ≡ answerText blocks statements locals answer
   unfolding answerText
   lists is = sym (ap (answerText blocks statements locals) is)

@@ -18,7 +18,6 @@ use Rattle.image.specs.Valid.{valid}
 use Rattle.place.specs.declared.Place.{Place}
 use Rattle.mir.specs.declared.Counts.{Counts}
 use Rattle.state.specs.State.{Body, encode, countsOf}
-use Rattle.lower.specs.declared.temps.DiscrTemp.{DiscrTemp}
 use Rattle.lower.specs.declared.merging.OptBlock.{OptBlock}
 use Rattle.read_image.specs.declared.Read.{Read}
 use Rattle.read_image.specs.Read.{Reads}

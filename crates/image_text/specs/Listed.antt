@@ -9,7 +9,6 @@ use Rattle.row_tables.specs.Rows.{zeros}
 use Rattle.refusals.specs.Refusals.{breaksARule, namesNothing, refusalAt}
 use Rattle.image.specs.Valid.{valid}
 use Rattle.state.specs.State.{body, decode, encode, countsOf}
-use Rattle.lower.specs.declared.temps.DiscrTemp.{DiscrTemp}
 use Rattle.lower.specs.declared.merging.OptBlock.{OptBlock}
 use Rattle.views.specs.Views.{mirOf}
 use Rattle.listing_text.specs.Listing.{listing, refusalText}
@@ -21,7 +20,7 @@ use Rattle.listing_start.specs.Started.{lastPattern, startType, startState, bin
 -- the call of `pattern_match`: from block 0, with no else, on local 0 of the type t
 unfoldable pub listingCall : List ℕ → ℕ → Called
 listingCall image t =
-    patternMatchCall image (bindingLocals image) (encode (startState image t)) (zeros 512) (countsOf (startState image t)) DiscrTemp.None (lastPattern image)
+    patternMatchCall image (bindingLocals image) (encode (startState image t)) (zeros 512) (countsOf (startState image t)) (lastPattern image)
     (record { 0 = 0 }) OptBlock.None (localPlace (record { 0 = 0 }))
 
 -- the text of what the call gives: the listing, or the refusal
@@ -45,14 +44,14 @@ imageText image = cond (valid image) (typedText image (startType image)) (refusa
 
 -- the text of an answer, where the tables of blocks, statements and locals are these
 unfoldable pub answerText : List ℕ → List ℕ → List ℕ → MatchCall → List ℕ
-answerText blocks statements locals (MatchCall.Matched c discr then els) = listing then els (mirOf (decode (body blocks statements locals [] []) c))
+answerText blocks statements locals (MatchCall.Matched c then els) = listing then els (mirOf (decode (body blocks statements locals [] []) c))
 answerText blocks statements locals (MatchCall.Refused e p) = refusalText (refusalAt e (p .0))
 answerText blocks statements locals MatchCall.BadCall = refusalText namesNothing
 answerText blocks statements locals MatchCall.BadImage = refusalText breaksARule
 
 -- the tables of an accepted call can be listed: they have their sizes, and the counts are within the limits
 abbrev pub Listable : List ℕ → List ℕ → List ℕ → MatchCall → Type 0
-Listable blocks statements locals (MatchCall.Matched c discr then els) =
+Listable blocks statements locals (MatchCall.Matched c then els) =
     (length blocks ≡ 6144) × (length statements ≡ 50176) × (length locals ≡ 512) × (c .blocks ≤ 512) × (c .statements ≤ 1024) × (c .locals ≤ 512)
 Listable blocks statements locals (MatchCall.Refused e p) = Unit
 Listable blocks statements locals MatchCall.BadCall = Unit

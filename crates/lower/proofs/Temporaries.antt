@@ -20,11 +20,10 @@ use Rattle.state.specs.State.{body, decode}
 use Rattle.state.specs.Steps.{nextLocal, tryLocal}
 use Rattle.state.specs.Contracts.{Ready, Answers, steppedCounts, steppedResult}
 use Rattle.state.specs.declared.Stepped.{Stepped}
-use Rattle.state.proofs.Answering.{next-local, then, stops, refuses, done}
+use Rattle.state.proofs.Answering.{next-local, then, stops, refuses}
 use Rattle.lower.specs.declared.temps.NewTemp.{NewTemp}
-use Rattle.lower.specs.declared.temps.DiscrTemp.{DiscrTemp}
-use Rattle.lower.specs.Temps.{isSlice, temp, pushStorageLiveForLocal, discrTempPlace}
-use Rattle.lower.specs.Promises.{Marks, Makes, Shares}
+use Rattle.lower.specs.Temps.{isSlice, temp, pushStorageLiveForLocal}
+use Rattle.lower.specs.Promises.{Marks, Makes}
 use Rattle.state.proofs.Calls.{local-number, new-local-answers}
 
 -- `is_slice`, n being the count of the types
@@ -78,15 +77,3 @@ module _ (image s₀ l₀ e₀ : List ℕ) (c : Counts) (word : ℕ) (block : Ba
       -- both are made
       pub temp-made : {c₂ : Counts} → Marks (λ st. pushStorageLiveForLocal st n block) c₁ block s₀ e₀ (Stepped.Now c₂) s e → Temp (NewTemp.Local c₂ n) s l e
       temp-made {c₂ = c₂} M = record { answers = temp-marked (Stepped.Now c₂) M; number = local-number c is }
-
--- `discr_temp_place`
-module _ (image s₀ l₀ e₀ : List ℕ) (c : Counts) (block : BasicBlockId) where
-  -- it is made already
-  pub discr-there : (l : LocalId) → Shares image (DiscrTemp.Some l) c block s₀ l₀ e₀ (NewTemp.Local c l) s₀ l₀ e₀
-  unfolding discrTempPlace
-  discr-there l = record { answers = λ bl sc R. done (decode (body bl s₀ l₀ sc e₀) c) R; number = refl }
-
-  -- it is made now
-  pub discr-new : {r : NewTemp} {s l e : List ℕ} → Makes (λ st. temp image st 258 block) c block s₀ l₀ e₀ r s l e → Shares image DiscrTemp.None c block s₀ l₀ e₀ r s l e
-  unfolding discrTempPlace
-  discr-new M = record { answers = M .answers; number = M .number }

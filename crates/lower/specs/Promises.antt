@@ -12,10 +12,8 @@ use Rattle.state.specs.State.{State, body, decode}
 use Rattle.state.specs.Contracts.{Ready, Goes, Answers, steppedResult, steppedCounts}
 use Rattle.state.specs.declared.Stepped.{Stepped}
 use Rattle.lower.specs.declared.temps.NewTemp.{NewTemp}
-use Rattle.lower.specs.declared.temps.DiscrTemp.{DiscrTemp}
 use Rattle.lower.specs.declared.merging.Merged.{Merged}
 use Rattle.lower.specs.declared.merging.OptBlock.{OptBlock}
-use Rattle.lower.specs.Temps.{discrTempPlace}
 use Rattle.lower.specs.Merging.{mergeBlocks, mergedAt}
 use Rattle.lower.specs.Replies.{tempResult, tempCounts, mergedResult, mergedCounts}
 
@@ -31,28 +29,12 @@ abbrev pub Numbered : Counts → NewTemp → Type 0
 Numbered c (NewTemp.Local c′ l) = _≡_ {A = LocalId} l (record { 0 = c .locals })
 Numbered c (NewTemp.Refused e) = Unit
 
-abbrev pub Named : LocalId → NewTemp → Type 0
-Named d (NewTemp.Local c l) = _≡_ {A = LocalId} l d
-Named d (NewTemp.Refused e) = Unit
-
 -- statements, locals and entries s₀, l₀ and e₀ before, s, l and e after
 pub record Makes (defined : State → Result State) (c : Counts) (block : BasicBlockId) (s₀ l₀ e₀ : List ℕ) (r : NewTemp) (s l e : List ℕ) : Type 0 where
   pub answers : (blocks scopes : List ℕ) → Ready (body blocks s₀ l₀ scopes e₀) c →
       Answers (body blocks s₀ l₀ scopes e₀) c (block .0) (body blocks s l scopes e) (tempCounts r) (tempResult r (body blocks s l scopes e))
       (defined (decode (body blocks s₀ l₀ scopes e₀) c))
   pub number : Numbered c r
-
--- the number of the shared local
-abbrev pub Shared : Counts → DiscrTemp → NewTemp → Type 0
-Shared c (DiscrTemp.Some d) r = Named d r
-Shared c DiscrTemp.None r = Numbered c r
-
--- the same for the local that all tests of enums share
-pub record Shares (image : List ℕ) (discr : DiscrTemp) (c : Counts) (block : BasicBlockId) (s₀ l₀ e₀ : List ℕ) (r : NewTemp) (s l e : List ℕ) : Type 0 where
-  pub answers : (blocks scopes : List ℕ) → Ready (body blocks s₀ l₀ scopes e₀) c →
-      Answers (body blocks s₀ l₀ scopes e₀) c (block .0) (body blocks s l scopes e) (tempCounts r) (tempResult r (body blocks s l scopes e))
-      (discrTempPlace image (decode (body blocks s₀ l₀ scopes e₀) c) discr block)
-  pub number : Shared c discr r
 
 -- a block that there is, where there is one
 abbrev pub Within : Counts → OptBlock → Type 0

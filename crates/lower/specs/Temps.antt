@@ -13,7 +13,6 @@ use Rattle.mir.specs.declared.BasicBlockId.{BasicBlockId}
 use Rattle.mir.specs.Rvalues.{liveRow}
 use Rattle.state.specs.State.{State}
 use Rattle.state.specs.Steps.{nextLocal, tryLocal, tryEntry, tryStatement}
-use Rattle.lower.specs.declared.temps.DiscrTemp.{DiscrTemp}
 
 -- the word of a local's type says a slice, kind 9 of the type table; str is none
 unfoldable pub isSlice : List ℕ → ℕ → Bool
@@ -39,12 +38,6 @@ bindingLocal locals b = cond (eqb (getD locals b 65535) 65535) (refused MirLower
 unfoldable pub pushStorageLive : State → List ℕ → ℕ → BasicBlockId → Result State
 pushStorageLive st locals b block = andThen (bindingLocal locals b) (λ l. pushStorageLiveForLocal st l block)
 
--- the local that all tests of enums share: made at the first, of type i128 (word 258)
-unfoldable pub discrTempPlace : List ℕ → State → DiscrTemp → BasicBlockId → Result State
-discrTempPlace image st (DiscrTemp.Some l) block = ok st
-discrTempPlace image st DiscrTemp.None block = temp image st 258 block
-
--- its number
-unfoldable pub discrLocal : State → DiscrTemp → LocalId
-discrLocal st (DiscrTemp.Some l) = l
-discrLocal st DiscrTemp.None = nextLocal st
+-- the local of a test of an enum: a temporary of its own, of type i128 (word 258)
+abbrev pub discrTempPlace : List ℕ → State → BasicBlockId → Result State
+discrTempPlace image st block = temp image st 258 block

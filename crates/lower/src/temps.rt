@@ -17,9 +17,9 @@ ghost use mathlib.Core.Path.{_≡_};
 ghost use Prim.Native.Nat.{_<_};
 ghost use lib.ListN.{length};
 ghost use Rattle.image.specs.Tables.{Whole};
-ghost use Rattle.lower.specs.Temps.{isSlice, pushStorageLiveForLocal, temp, bindingLocal, pushStorageLive};
+ghost use Rattle.lower.specs.Temps.{isSlice, pushStorageLiveForLocal, temp, bindingLocal, pushStorageLive, discrTempPlace};
 ghost use Rattle.lower.specs.Replies.{boundResult};
-ghost use Rattle.lower.specs.Promises.{Marks, Makes, Shares};
+ghost use Rattle.lower.specs.Promises.{Marks, Makes};
 
 pub enum NewTemp {
     Local(Counts, LocalId),
@@ -29,12 +29,6 @@ pub enum NewTemp {
 pub enum BoundLocal {
     Local(LocalId),
     Refused(MirLowerError),
-}
-
-// The local that all tests of enums share, once it is made.
-pub enum DiscrTemp {
-    None,
-    Some(LocalId),
 }
 
 // The word of a local's type says a slice.
@@ -133,7 +127,7 @@ pub fn push_storage_live(
     }
 }
 
-// The local that all tests of enums share: made at the first.
+// The local of a test of an enum: a temporary of its own.
 pub fn discr_temp_place(
     image: &[u8],
     tables: Tables,
@@ -141,23 +135,19 @@ pub fn discr_temp_place(
     locals: &mut [u16],
     entries: &mut [u16],
     counts: Counts,
-    discr: DiscrTemp,
     block: BasicBlockId,
 ) -> NewTemp
     requires { ⌜ Whole (now image) tables × (length (now statements) ≡ 50176) × (length (now locals) ≡ 512) × (length (now entries) ≡ 1024) ⌝ }
-    ensures { λ r. ⌜ Shares (now (image .entry)) discr counts block (now (statements .entry)) (now (locals .entry)) (now (entries .entry)) r (now (statements .exit)) (now (locals .exit)) (now (entries .exit)) ⌝ }
+    ensures { λ r. ⌜ Makes (λ st. discrTempPlace (now (image .entry)) st block) counts block (now (statements .entry)) (now (locals .entry)) (now (entries .entry)) r (now (statements .exit)) (now (locals .exit)) (now (entries .exit)) ⌝ }
 {
-    match discr {
-        DiscrTemp::Some(l) => NewTemp::Local(counts, l),
-        DiscrTemp::None => temp(
-            image,
-            tables,
-            statements,
-            locals,
-            entries,
-            counts,
-            I128,
-            block,
-        ),
-    }
+    temp(
+        image,
+        tables,
+        statements,
+        locals,
+        entries,
+        counts,
+        I128,
+        block,
+    )
 }

@@ -16,11 +16,10 @@ use Rattle.mir.specs.declared.BasicBlockId.{BasicBlockId}
 use Rattle.mir.specs.declared.Counts.{Counts}
 use Rattle.state.specs.State.{Body, decode, encode, countsOf}
 use Rattle.state.specs.Contracts.{Ready}
-use Rattle.lower.specs.declared.temps.DiscrTemp.{DiscrTemp}
 use Rattle.lower_calls.specs.Calls.{bodyTaken}
 use Rattle.pattern_matching.specs.Walking.{Walk, ok, refused}
 use Rattle.walks.specs.Answers.{ctxOf, visitWord}
-use Rattle.handed.specs.Handed.{bindingsHold, discrHolds, startHolds}
+use Rattle.handed.specs.Handed.{bindingsHold, startHolds}
 use Rattle.lowered_params.specs.declared.SelfParam.{SelfParam}
 use Rattle.lowered_params.specs.declared.ParamsCall.{ParamsCall}
 use Rattle.lowered_params.specs.Params.{Param, ParamsOut, plainBinding, lowerParamsAndBindings}
@@ -72,9 +71,9 @@ selfNamed image SelfParam.None = true
 selfNamed image (SelfParam.Some b ty) = ltb (b .0) (bindingCount image) && ltb ty (typeCount image)
 
 -- all else that the call is handed names something
-unfoldable pub paramsHold : List ℕ → SelfParam → List ℕ → List ℕ → List ℕ → Counts → DiscrTemp → BasicBlockId → Bool
-paramsHold image self bindings blocks visits c discr current =
-    allTrue (selfNamed image self ∷ bindingsHold (bindingCount image) c bindings ∷ discrHolds c discr ∷ startHolds blocks c current ∷ eqb (length visits) 512 ∷ [])
+unfoldable pub paramsHold : List ℕ → SelfParam → List ℕ → List ℕ → List ℕ → Counts → BasicBlockId → Bool
+paramsHold image self bindings blocks visits c current =
+    allTrue (selfNamed image self ∷ bindingsHold (bindingCount image) c bindings ∷ startHolds blocks c current ∷ eqb (length visits) 512 ∷ [])
 
 -- what the call gives: the image or the list breaks a rule, the body or a number of the call names nothing, or what the walk gives
 pub data ParamsCalled : Type 0 where
@@ -83,15 +82,15 @@ pub data ParamsCalled : Type 0 where
   walked : Walk ParamsOut → ParamsCalled
 
 -- `lower_params_and_bindings`: "1 is tried before 2, both before the walk"
-unfoldable pub paramsCall : List ℕ → List ℕ → SelfParam → List ℕ → Body → List ℕ → Counts → DiscrTemp → BasicBlockId → ParamsCalled
-paramsCall image words self bindings b visits c discr current =
+unfoldable pub paramsCall : List ℕ → List ℕ → SelfParam → List ℕ → Body → List ℕ → Counts → BasicBlockId → ParamsCalled
+paramsCall image words self bindings b visits c current =
     cond (valid image && listHolds image self words)
-    (cond (bodyTaken image b c && paramsHold image self bindings (b .blocks) visits c discr current)
-    (walked (lowerParamsAndBindings image self (paramsOf words) bindings (ctxOf b c discr (zeros 512)) current)) badCall) badImage
+    (cond (bodyTaken image b c && paramsHold image self bindings (b .blocks) visits c current)
+    (walked (lowerParamsAndBindings image self (paramsOf words) bindings (ctxOf b c (zeros 512)) current)) badCall) badImage
 
 -- the answer: the counts, the discriminant local, the block to go on from and the first parameter's local, which is the next one when the call comes
 abbrev pub walkAnswer : Counts → Walk ParamsOut → ParamsCall
-walkAnswer c (ok r) = ParamsCall.Lowered (countsOf (r .ctx .state)) (r .ctx .discr) (r .then) (record { 0 = c .locals })
+walkAnswer c (ok r) = ParamsCall.Lowered (countsOf (r .ctx .state)) (r .then) (record { 0 = c .locals })
 walkAnswer c (refused e p) = ParamsCall.Refused e (record { 0 = p })
 
 abbrev pub answer : Counts → ParamsCalled → ParamsCall
@@ -101,7 +100,7 @@ answer c (walked w) = walkAnswer c w
 
 -- document 01's three numbers, of an answer and of what is defined
 abbrev pub numbers : ParamsCall → Option Refusal
-numbers (ParamsCall.Lowered c discr then first) = none
+numbers (ParamsCall.Lowered c then first) = none
 numbers (ParamsCall.Refused e p) = some (refusalAt e (p .0))
 numbers ParamsCall.BadCall = some namesNothing
 numbers ParamsCall.BadImage = some breaksARule

@@ -1,7 +1,6 @@
 // What `lower_params_and_bindings` is handed and what it answers. Its definition stands in specs/.
 use image::BindingId;
 use image::PatId;
-use lower::temps::DiscrTemp;
 use mir::BasicBlockId;
 use mir::Counts;
 use place::LocalId;

@@ -9,7 +9,6 @@ use Rattle.row_tables.specs.Rows.{zeros}
 use Rattle.refusals.specs.Refusals.{numberOf, reasonOf}
 use Rattle.mir.specs.declared.Counts.{Counts}
 use Rattle.state.specs.State.{Body}
-use Rattle.lower.specs.declared.temps.DiscrTemp.{DiscrTemp}
 use Rattle.lower.specs.declared.merging.OptBlock.{OptBlock}
 use Rattle.match_calls.specs.declared.MatchCall.{MatchCall}
 use Rattle.match_calls.specs.Calls.{Called, answer, bodyAfter, visitsAfter}
@@ -41,7 +40,7 @@ refusalWords number p reason = number ∷ p ∷ reason ∷ zeros 8
 
 -- the words of an answer: after three zeros the block where a match goes on, the one where a mismatch does, the shared local and the five counts
 unfoldable pub answerWords : MatchCall → List ℕ
-answerWords (MatchCall.Matched c discr then els) =
+answerWords (MatchCall.Matched c then els) =
     0 ∷ 0 ∷ 0 ∷ then .0 ∷ blockWord els ∷ discrWord discr ∷ c .blocks ∷ c .statements ∷ c .locals ∷ c .scopes ∷ c .entries ∷ []
 answerWords (MatchCall.Refused e p) = refusalWords (numberOf e) (p .0) (reasonOf e)
 answerWords MatchCall.BadCall = refusalWords 2 65535 0

@@ -3,7 +3,6 @@ use image::PatId;
 use image_text::number_of;
 use image_text::reason_of;
 use lower::merging::OptBlock;
-use lower::temps::DiscrTemp;
 use match_calls::MatchCall;
 use mir::BasicBlockId;
 use mir::Counts;
@@ -61,7 +60,7 @@ fn answer_words(call: MatchCall) -> [u16; 11]
     ensures { λ r. ⌜ r ≡ answerWords call ⌝ }
 {
     match call {
-        MatchCall::Matched(c, discr, then, els) => [
+        MatchCall::Matched(c, then, els) => [
             0,
             0,
             0,

@@ -22,7 +22,6 @@ use Rattle.state.specs.State.{Body, State, decode}
 use Rattle.state.specs.Contracts.{Ready}
 use Rattle.check_body.specs.Bodies.{isTypeWord}
 use Rattle.check_body.proofs.Checked.{local-type}
-use Rattle.lower.specs.declared.temps.DiscrTemp.{DiscrTemp}
 use Rattle.lower.specs.declared.merging.OptBlock.{OptBlock}
 use Rattle.lower_calls.specs.Sizes.{Taken}
 use Rattle.lower_calls.proofs.Clearing.{Cleared}
@@ -104,19 +103,19 @@ placed-of {image = image} {b = b} {c = c} t scopes place T C root short =
     record { root = root; named = rw same (word-named image (getD (b .locals) l 0) typed); within = short }
 
 -- a call of `pattern_match` or `pattern_match_assignment` that is taken
-module _ {image : List ℕ} {tables : Tables} {b : Body} {c : Counts} (t : Lent) (scopes bindings visits : List ℕ) (discr : DiscrTemp) (p : ℕ) (current : BasicBlockId) (els : OptBlock) (place : Place) (T : Taken image tables b c) (C : Cleared b c (bodyOf t scopes)) (H : Handed (namedIn image) bindings (b .blocks) visits c discr p current els place) where
+module _ {image : List ℕ} {tables : Tables} {b : Body} {c : Counts} (t : Lent) (scopes bindings visits : List ℕ) (p : ℕ) (current : BasicBlockId) (els : OptBlock) (place : Place) (T : Taken image tables b c) (C : Cleared b c (bodyOf t scopes)) (H : Handed (namedIn image) bindings (b .blocks) visits c p current els place) where
   pub start-primed : Primed t c
   start-primed = primed-of t scopes c (C .ready)
 
   pub start-begins : Begins c current els
   start-begins =
       record {
-        start = start-there (namedIn image) bindings (b .blocks) visits c discr p current els place H;
-        else = else-there (namedIn image) bindings (b .blocks) visits c discr p current els place H;
+        start = start-there (namedIn image) bindings (b .blocks) visits c p current els place H;
+        else = else-there (namedIn image) bindings (b .blocks) visits c p current els place H;
       }
 
   pub start-placed : Placed image t c place
   start-placed =
       placed-of t scopes place T C
-      (root-there (namedIn image) bindings (b .blocks) visits c discr p current els place H)
-      (elems-within (namedIn image) bindings (b .blocks) visits c discr p current els place H)
+      (root-there (namedIn image) bindings (b .blocks) visits c p current els place H)
+      (elems-within (namedIn image) bindings (b .blocks) visits c p current els place H)

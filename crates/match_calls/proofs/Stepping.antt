@@ -10,7 +10,6 @@ use Rattle.mir.specs.declared.BasicBlockId.{BasicBlockId}
 use Rattle.mir.specs.declared.Counts.{Counts}
 use Rattle.state.specs.State.{Body, State, body, decode, encode}
 use Rattle.state.specs.Contracts.{Ready}
-use Rattle.lower.specs.declared.temps.DiscrTemp.{DiscrTemp}
 use Rattle.lower.specs.declared.merging.OptBlock.{OptBlock}
 use Rattle.lower_calls.proofs.Clearing.{Cleared, held, counted}
 use Rattle.lower_calls.proofs.Restoring.{kept-below, put-back}
@@ -32,7 +31,7 @@ self-gives-by {b = b} {b′ = b′} {c = c} {r = r} e G = subst (λ x. GivesSelf
 
 -- the numbers do not hang on the discriminant local
 same-numbers : (r : MatchCall) → selfNumbers (withoutDiscr r) ≡ numbers r
-same-numbers (MatchCall.Matched c discr then els) = refl
+same-numbers (MatchCall.Matched c then els) = refl
 same-numbers (MatchCall.Refused e p) = refl
 same-numbers MatchCall.BadCall = refl
 same-numbers MatchCall.BadImage = refl
@@ -43,17 +42,17 @@ self-gives r G =
     record { reply = ap withoutDiscr (G .reply); refusal = same-numbers r ∙ G .refusal; tables = G .tables; reads = G .reads; ready = G .ready }
 
 -- A call that gives `defined`. The tables b and v were found; t₀, scopes and v₁ are those after zeros were written above the counts c, and in the visits'.
-module _ (defined : Ctx → Walk Out) {b : Body} {v v₁ : List ℕ} {c : Counts} {discr : DiscrTemp} {current : BasicBlockId} {els : OptBlock} {t₀ : Lent} {scopes : List ℕ} where
+module _ (defined : Ctx → Walk Out) {b : Body} {v v₁ : List ℕ} {c : Counts} {current : BasicBlockId} {els : OptBlock} {t₀ : Lent} {scopes : List ℕ} where
   -- the walk is accepted
-  pub accepted : {c′ : Counts} {d : DiscrTemp} {then : BasicBlockId} {els′ : OptBlock} {t : Lent} {v′ : List ℕ} → Cleared b c (bodyOf t₀ scopes) → v₁ ≡ zeros 512 →
-      Walks defined c discr current els t₀ v₁ (Lowered.Done c′ d then els′) t v′ →
+  pub accepted : {c′ : Counts} {then : BasicBlockId} {els′ : OptBlock} {t : Lent} {v′ : List ℕ} → Cleared b c (bodyOf t₀ scopes) → v₁ ≡ zeros 512 →
+      Walks defined c current els t₀ v₁ (Lowered.Done c′ then els′) t v′ →
       Visits b v c (walked (defined (startCtx b c discr))) (MatchCall.Matched c′ d then els′) (bodyOf t scopes) v′
   accepted {c′ = c′} {d = d} {then = then} {els′ = els′} {t = t} C zero W =
       let A = W .answers scopes (zeros 512) (C .ready) (zero ∙ no-visits) in
       let ready = A .answers .goes .0 in
       let after = bodyOf t scopes in
       visits-by
-      (ap walked (A .answers .says ∙ ap (λ (st : State). defined (record { state = st; discr = discr; visits = zeros 512 })) (C .same)))
+      (ap walked (A .answers .says ∙ ap (λ (st : State). defined (record { state = st; visits = zeros 512 })) (C .same)))
       (record {
         gives = record {
           reply = ap (λ (n : Counts). MatchCall.Matched n d then els′) (sym (counted after c′ ready));
@@ -67,12 +66,12 @@ module _ (defined : Ctx → Walk Out) {b : Body} {v v₁ : List ℕ} {c : Counts
 
   -- the walk is refused: b₂ lies in the tables after what changed below the counts was put back, and b₃ after zeros were written again
   stopped : {e : MirLowerError} {q : PatId} {t : Lent} {v′ v₃ : List ℕ} (b₂ : Body) {b₃ : Body} → Cleared b c (bodyOf t₀ scopes) → v₁ ≡ zeros 512 →
-      Walks defined c discr current els t₀ v₁ (Lowered.Refused e q) t v′ → decode b₂ c ≡ decode (bodyOf t₀ scopes) c → b₃ ≡ encode (decode b₂ c) → v₃ ≡ zeros 512 →
+      Walks defined c current els t₀ v₁ (Lowered.Refused e q) t v′ → decode b₂ c ≡ decode (bodyOf t₀ scopes) c → b₃ ≡ encode (decode b₂ c) → v₃ ≡ zeros 512 →
       Visits b v c (walked (defined (startCtx b c discr))) (MatchCall.Refused e q) b₃ v₃
   stopped b₂ C zero W back is zero₃ =
       let A = W .answers scopes (zeros 512) (C .ready) (zero ∙ no-visits) in
       visits-by
-      (ap walked (A .answers .says ∙ ap (λ (st : State). defined (record { state = st; discr = discr; visits = zeros 512 })) (C .same)))
+      (ap walked (A .answers .says ∙ ap (λ (st : State). defined (record { state = st; visits = zeros 512 })) (C .same)))
       (record {
         gives = record { reply = refl; refusal = refl; tables = is ∙ ap encode (back ∙ C .same); reads = tt; ready = tt };
         visits = zero₃;
@@ -80,7 +79,7 @@ module _ (defined : Ctx → Walk Out) {b : Body} {v v₁ : List ℕ} {c : Counts
 
   -- the row of the block where it started is put back
   pub refused-back : {e : MirLowerError} {q : PatId} {t : Lent} {v′ v₃ row bl₂ : List ℕ} {b₃ : Body} → Cleared b c (bodyOf t₀ scopes) → v₁ ≡ zeros 512 →
-      Walks defined c discr current els t₀ v₁ (Lowered.Refused e q) t v′ → current .0 < c .blocks → length (t .blocks) ≡ length (t₀ .blocks) → row ≡ rowAt 12 (b .blocks) (current .0) →
+      Walks defined c current els t₀ v₁ (Lowered.Refused e q) t v′ → current .0 < c .blocks → length (t .blocks) ≡ length (t₀ .blocks) → row ≡ rowAt 12 (b .blocks) (current .0) →
       bl₂ ≡ stored (t .blocks) (12 * current .0) row → b₃ ≡ encode (decode (body bl₂ (t .statements) (t .locals) scopes (t .entries)) c) → v₃ ≡ zeros 512 →
       Visits b v c (walked (defined (startCtx b c discr))) (MatchCall.Refused e q) b₃ v₃
   refused-back {t = t} {row = row} {bl₂ = bl₂} C zero W start long is-row back is zero₃ =
@@ -94,15 +93,15 @@ module _ (defined : Ctx → Walk Out) {b : Body} {v v₁ : List ℕ} {c : Counts
       is zero₃
 
 -- `match_self_param`, which gives `defined`, writes no block and visits no pattern: bl, s, l, scopes and e are the tables after zeros were written above the counts c
-module _ (defined : Ctx → Walk Out) {b : Body} {c : Counts} {discr : DiscrTemp} {current : BasicBlockId} {els : OptBlock} {bl s l scopes e : List ℕ} where
-  pub filled : {c′ : Counts} {d : DiscrTemp} {then : BasicBlockId} {els′ : OptBlock} {s₂ e₂ : List ℕ} → Cleared b c (body bl s l scopes e) →
-      Lowers defined c discr current els (lent bl s l e) (Lowered.Done c′ d then els′) (lent bl s₂ l e₂) →
+module _ (defined : Ctx → Walk Out) {b : Body} {c : Counts} {current : BasicBlockId} {els : OptBlock} {bl s l scopes e : List ℕ} where
+  pub filled : {c′ : Counts} {then : BasicBlockId} {els′ : OptBlock} {s₂ e₂ : List ℕ} → Cleared b c (body bl s l scopes e) →
+      Lowers defined c current els (lent bl s l e) (Lowered.Done c′ then els′) (lent bl s₂ l e₂) →
       GivesSelf b c (walked (defined (startCtx b c discr))) (SelfCall.Matched c′ then els′) (body bl s₂ l scopes e₂)
   filled {c′ = c′} {d = d} {then = then} {els′ = els′} C L =
       self-gives (MatchCall.Matched c′ d then els′) (accepted defined {v = []} C refl (lowers-walks (zeros 512) L) .gives)
 
   pub not-filled : {err : MirLowerError} {q : PatId} {s₂ e₂ : List ℕ} {b₃ : Body} → Cleared b c (body bl s l scopes e) →
-      Lowers defined c discr current els (lent bl s l e) (Lowered.Refused err q) (lent bl s₂ l e₂) → b₃ ≡ encode (decode (body bl s₂ l scopes e₂) c) →
+      Lowers defined c current els (lent bl s l e) (Lowered.Refused err q) (lent bl s₂ l e₂) → b₃ ≡ encode (decode (body bl s₂ l scopes e₂) c) →
       GivesSelf b c (walked (defined (startCtx b c discr))) (SelfCall.Refused err q) b₃
   not-filled {err = err} {q = q} {s₂ = s₂} {e₂ = e₂} C L is =
       let kept = L .answers scopes (zeros 512) (C .ready) .kept in

@@ -7,7 +7,6 @@ use Rattle.image.specs.Tree.{Pat}
 use Rattle.place.specs.declared.Place.{Place}
 use Rattle.mir.specs.declared.BasicBlockId.{BasicBlockId}
 use Rattle.mir.specs.declared.Counts.{Counts}
-use Rattle.lower.specs.declared.temps.DiscrTemp.{DiscrTemp}
 use Rattle.lower.specs.declared.merging.OptBlock.{OptBlock}
 use Rattle.pattern_matching.specs.declared.MatchingMode.{MatchingMode}
 use Rattle.pattern_matching.specs.Walking.{Ctx, Out, Walk}
@@ -25,22 +24,22 @@ module _ (image bindings : List ℕ) (pat : Pat) (place : Place) where
   abbrev pub binds : Out → Walk Out
   binds r = inMode MatchingMode.Bind (r .then) (r .else) (r .ctx)
 
-  module _ {c : Counts} {discr : DiscrTemp} {current : BasicBlockId} {els : OptBlock} {t₀ : Lent} {v₀ : List ℕ} where
+  module _ {c : Counts} {current : BasicBlockId} {els : OptBlock} {t₀ : Lent} {v₀ : List ℕ} where
     -- the walk in Check refuses
-    pub check-refuses : {e : MirLowerError} {q : PatId} {t : Lent} {v : List ℕ} → Walks (inMode MatchingMode.Check current els) c discr current els t₀ v₀ (Lowered.Refused e q) t v →
-        Walks (λ ctx. patternMatch image bindings pat ctx current els place) c discr current els t₀ v₀ (Lowered.Refused e q) t v
+    pub check-refuses : {e : MirLowerError} {q : PatId} {t : Lent} {v : List ℕ} → Walks (inMode MatchingMode.Check current els) c current els t₀ v₀ (Lowered.Refused e q) t v →
+        Walks (λ ctx. patternMatch image bindings pat ctx current els place) c current els t₀ v₀ (Lowered.Refused e q) t v
     unfolding patternMatch
     check-refuses W = walks-stops binds W
 
     -- the walk in Bind follows it
-    pub bind-follows : {c₁ : Counts} {d₁ : DiscrTemp} {then : BasicBlockId} {els₁ : OptBlock} {t : Lent} {v : List ℕ} {r : Lowered} {t₂ : Lent} {v₂ : List ℕ} → Primed t₀ c →
-        Walks (inMode MatchingMode.Check current els) c discr current els t₀ v₀ (Lowered.Done c₁ d₁ then els₁) t v → Walks (inMode MatchingMode.Bind then els₁) c₁ d₁ then els₁ t v r t₂ v₂ →
-        Walks (λ ctx. patternMatch image bindings pat ctx current els place) c discr current els t₀ v₀ r t₂ v₂
+    pub bind-follows : {c₁ : Counts} {then : BasicBlockId} {els₁ : OptBlock} {t : Lent} {v : List ℕ} {r : Lowered} {t₂ : Lent} {v₂ : List ℕ} → Primed t₀ c →
+        Walks (inMode MatchingMode.Check current els) c current els t₀ v₀ (Lowered.Done c₁ then els₁) t v → Walks (inMode MatchingMode.Bind then els₁) c₁ then els₁ t v r t₂ v₂ →
+        Walks (λ ctx. patternMatch image bindings pat ctx current els place) c current els t₀ v₀ r t₂ v₂
     unfolding patternMatch
     bind-follows P W S = walks-then W P binds S
 
     -- `pattern_match_assignment` is the walk in Assign
-    pub assigns : {r : Lowered} {t : Lent} {v : List ℕ} → Walks (inMode MatchingMode.Assign current OptBlock.None) c discr current els t₀ v₀ r t v →
-        Walks (λ ctx. patternMatchAssignment image bindings pat ctx current place) c discr current els t₀ v₀ r t v
+    pub assigns : {r : Lowered} {t : Lent} {v : List ℕ} → Walks (inMode MatchingMode.Assign current OptBlock.None) c current els t₀ v₀ r t v →
+        Walks (λ ctx. patternMatchAssignment image bindings pat ctx current place) c current els t₀ v₀ r t v
     unfolding patternMatchAssignment
     assigns W = W

@@ -15,7 +15,6 @@ use Rattle.mir.specs.declared.BasicBlockId.{BasicBlockId}
 use Rattle.mir.specs.declared.Counts.{Counts}
 use Rattle.state.specs.State.{Body, decode, encode, countsOf}
 use Rattle.state.specs.Contracts.{Ready}
-use Rattle.lower.specs.declared.temps.DiscrTemp.{DiscrTemp}
 use Rattle.lower.specs.declared.merging.OptBlock.{OptBlock}
 use Rattle.lower_calls.specs.Calls.{bodyTaken}
 use Rattle.pattern_matching.specs.Walking.{Ctx, Out, Walk, ok, refused}
@@ -40,30 +39,30 @@ abbrev pub namedIn : List ℕ → Named
 namedIn image = record { variants = variantCount image; patterns = patternCount image; bindings = bindingCount image }
 
 -- the walk starts from the body that is handed in, with no pattern visited
-abbrev pub startCtx : Body → Counts → DiscrTemp → Ctx
-startCtx b c discr = ctxOf b c discr (zeros 512)
+abbrev pub startCtx : Body → Counts → Ctx
+startCtx b c = ctxOf b c (zeros 512)
 
 -- `pattern_match`
-unfoldable pub patternMatchCall : List ℕ → List ℕ → Body → List ℕ → Counts → DiscrTemp → ℕ → BasicBlockId → OptBlock → Place → Called
-patternMatchCall image bindings b visits c discr p current els place =
-    call image b c (matchHolds (namedIn image) bindings (b .blocks) visits c discr p current els place)
-    (patternMatch image bindings (tree image p) (startCtx b c discr) current els place)
+unfoldable pub patternMatchCall : List ℕ → List ℕ → Body → List ℕ → Counts → ℕ → BasicBlockId → OptBlock → Place → Called
+patternMatchCall image bindings b visits c p current els place =
+    call image b c (matchHolds (namedIn image) bindings (b .blocks) visits c p current els place)
+    (patternMatch image bindings (tree image p) (startCtx b c) current els place)
 
 -- `pattern_match_assignment`: it has no else
-unfoldable pub patternMatchAssignmentCall : List ℕ → List ℕ → Body → List ℕ → Counts → DiscrTemp → ℕ → BasicBlockId → Place → Called
-patternMatchAssignmentCall image bindings b visits c discr p current place =
-    call image b c (matchHolds (namedIn image) bindings (b .blocks) visits c discr p current OptBlock.None place)
-    (patternMatchAssignment image bindings (tree image p) (startCtx b c discr) current place)
+unfoldable pub patternMatchAssignmentCall : List ℕ → List ℕ → Body → List ℕ → Counts → ℕ → BasicBlockId → Place → Called
+patternMatchAssignmentCall image bindings b visits c p current place =
+    call image b c (matchHolds (namedIn image) bindings (b .blocks) visits c p current OptBlock.None place)
+    (patternMatchAssignment image bindings (tree image p) (startCtx b c) current place)
 
--- `match_self_param`: it visits no pattern and tests no enum
+-- `match_self_param`: it visits no pattern
 unfoldable pub matchSelfParamCall : List ℕ → List ℕ → Body → Counts → ℕ → BasicBlockId → LocalId → Called
 matchSelfParamCall image bindings b c binding current l =
     call image b c (selfHolds (namedIn image) bindings (b .blocks) c binding current (l .0))
-    (matchSelfParam image bindings binding (startCtx b c DiscrTemp.None) current l)
+    (matchSelfParam image bindings binding (startCtx b c) current l)
 
--- the answer: the counts, the discriminant local, then and else, or why it was refused
+-- the answer: the counts, then and else, or why it was refused
 abbrev pub walkAnswer : Walk Out → MatchCall
-walkAnswer (ok r) = MatchCall.Matched (countsOf (r .ctx .state)) (r .ctx .discr) (r .then) (r .else)
+walkAnswer (ok r) = MatchCall.Matched (countsOf (r .ctx .state)) (r .then) (r .else)
 walkAnswer (refused e p) = MatchCall.Refused e (record { 0 = p })
 
 abbrev pub answer : Called → MatchCall
@@ -73,7 +72,7 @@ answer (walked w) = walkAnswer w
 
 -- document 01's three numbers, of an answer and of what is defined
 abbrev pub numbers : MatchCall → Option Refusal
-numbers (MatchCall.Matched c discr then els) = none
+numbers (MatchCall.Matched c then els) = none
 numbers (MatchCall.Refused e p) = some (refusalAt e (p .0))
 numbers MatchCall.BadCall = some namesNothing
 numbers MatchCall.BadImage = some breaksARule
@@ -140,25 +139,3 @@ pub record Gives (b : Body) (c : Counts) (defined : Called) (r : MatchCall) (b�
 pub record Visits (b : Body) (v : List ℕ) (c : Counts) (defined : Called) (r : MatchCall) (b′ : Body) (v′ : List ℕ) : Type 0 where
   pub gives : Gives b c defined r b′
   pub visits : v′ ≡ visitsAfter v defined
-
--- the answer of `match_self_param`: the same without the discriminant local, which it was not handed
-abbrev pub withoutDiscr : MatchCall → SelfCall
-withoutDiscr (MatchCall.Matched c discr then els) = SelfCall.Matched c then els
-withoutDiscr (MatchCall.Refused e p) = SelfCall.Refused e p
-withoutDiscr MatchCall.BadCall = SelfCall.BadCall
-withoutDiscr MatchCall.BadImage = SelfCall.BadImage
-
--- its three numbers
-abbrev pub selfNumbers : SelfCall → Option Refusal
-selfNumbers (SelfCall.Matched c then els) = none
-selfNumbers (SelfCall.Refused e p) = some (refusalAt e (p .0))
-selfNumbers SelfCall.BadCall = some namesNothing
-selfNumbers SelfCall.BadImage = some breaksARule
-
--- its promise
-pub record GivesSelf (b : Body) (c : Counts) (defined : Called) (r : SelfCall) (b′ : Body) : Type 0 where
-  pub reply : r ≡ withoutDiscr (answer defined)
-  pub refusal : selfNumbers r ≡ refusalOf defined
-  pub tables : b′ ≡ bodyAfter b c defined
-  pub reads : Reads defined b′
-  pub ready : ReadyAfter defined b′

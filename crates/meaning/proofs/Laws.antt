@@ -97,22 +97,6 @@ same-itself (string bytes) = bytes-met bytes
 pub same-exactly-when-equal : (v w : Value) → Comparable v → Comparable w → sameValue v w ≡ true ↔ v ≡ w
 same-exactly-when-equal v w c d = (same-equal c d, λ e. rw (sym e) (same-itself c))
 
--- the operators: integers in their order, false before true, chars by their numbers
-pub integers-compared : (y z : ℤ) → (compared BinOp.Le (Int y) (Int z) ≡ leZ y z) × (compared BinOp.Ge (Int y) (Int z) ≡ leZ z y)
-unfolding compared scalarOf
-integers-compared y z = (refl, refl)
-
-pub chars-compared : (c d : ℕ) → (compared BinOp.Le (Char c) (Char d) ≡ leb c d) × (compared BinOp.Ge (Char c) (Char d) ≡ leb d c)
-unfolding compared scalarOf
-chars-compared c d = (refl, refl)
-
-pub bools-compared : (a b : Bool) → (compared BinOp.Le (Bool′ a) (Bool′ b) ≡ not a || b) × (compared BinOp.Ge (Bool′ a) (Bool′ b) ≡ not b || a)
-unfolding compared scalarOf
-bools-compared true true = (refl, refl)
-bools-compared true false = (refl, refl)
-bools-compared false true = (refl, refl)
-bools-compared false false = (refl, refl)
-
 -- at most and not the same is below
 below-number : (m n : ℕ) → leb m n && not (leb m n && leb n m || false) ≡ ltb m n
 below-number m n = by (leb n m) refl
@@ -130,6 +114,22 @@ below-integer (pos m) (pos n) = below-number m n
 below-integer (pos m) (negsuc n) = refl
 below-integer (negsuc m) (pos n) = refl
 below-integer (negsuc m) (negsuc n) = below-number n m
+
+-- the operators: integers in their order, false before true, chars by their numbers
+pub integers-compared : (y z : ℤ) → (compared BinOp.Le (Int y) (Int z) ≡ leZ y z) × (compared BinOp.Ge (Int y) (Int z) ≡ leZ z y) × (compared BinOp.Gt (Int y) (Int z) ≡ ltZ z y)
+unfolding compared sameValue scalarOf bytesOf derefed
+integers-compared y z = (refl, refl, below-integer z y)
+
+pub chars-compared : (c d : ℕ) → (compared BinOp.Le (Char c) (Char d) ≡ leb c d) × (compared BinOp.Ge (Char c) (Char d) ≡ leb d c) × (compared BinOp.Gt (Char c) (Char d) ≡ ltb d c)
+unfolding compared sameValue scalarOf bytesOf derefed
+chars-compared c d = (refl, refl, below-number d c)
+
+pub bools-compared : (a b : Bool) → (compared BinOp.Le (Bool′ a) (Bool′ b) ≡ not a || b) × (compared BinOp.Ge (Bool′ a) (Bool′ b) ≡ not b || a) × (compared BinOp.Gt (Bool′ a) (Bool′ b) ≡ a && not b)
+unfolding compared sameValue scalarOf bytesOf derefed
+bools-compared true true = (refl, refl, refl)
+bools-compared true false = (refl, refl, refl)
+bools-compared false true = (refl, refl, refl)
+bools-compared false false = (refl, refl, refl)
 
 -- an absent end of a range bounds nothing
 pub unbounded : (v : Value) (halfOpen : Bool) → (fromStart none v ≡ true) × (toEnd none halfOpen v ≡ true)

@@ -10,7 +10,6 @@ use Rattle.image.specs.Lists.{member, distinct, allTrue}
 use Rattle.image.specs.Types.{Shape, integer, bool, char, str, tuple, adt, reference, array, slice, unknown, tyOf}
 use Rattle.image.specs.Tree.{Target, unresolved, variant, local, constant, other, Pat, Pats, nil, cons, PatOpt, no, sub}
 use Rattle.place.specs.declared.place_ty.PlaceTy.{PlaceTy}
-use Rattle.lower.specs.declared.temps.DiscrTemp.{DiscrTemp}
 use Rattle.counting.specs.Reaching.{canFail}
 use Rattle.meaning.specs.Values.{kindNumber, hasValues}
 use Rattle.meaning.specs.Typing.{variantFields}
@@ -122,15 +121,11 @@ unfoldable pub present : List ℕ → List ℕ
 present [] = []
 present (l ∷ ls) = cond (eqb l 65535) (present ls) (l ∷ present ls)
 
-abbrev pub discrLocals : DiscrTemp → List ℕ
-discrLocals DiscrTemp.None = []
-discrLocals (DiscrTemp.Some l) = l .0 ∷ []
-
--- "The bindings' locals, the place's root and the discriminant local all differ."
-unfoldable pub localsDiffer : List ℕ → ℕ → DiscrTemp → Bool
-localsDiffer bindings root discr = distinct (root ∷ (discrLocals discr ++ present bindings))
+-- "The bindings' locals, the place's root .. all differ"
+unfoldable pub localsDiffer : List ℕ → ℕ → Bool
+localsDiffer bindings root = distinct (root ∷ present bindings)
 
 -- "A pattern fits", on a place of the type t whose root is the local `root`
-unfoldable pub fits : List ℕ → List ℕ → ℕ → DiscrTemp → ℕ → Pat → Bool
-fits image bindings root discr t pat =
-    allTrue (typesFit image pat (some t) ∷ bindingsFit image pat ∷ nothingRefused image bindings pat ∷ localsDiffer bindings root discr ∷ [])
+unfoldable pub fits : List ℕ → List ℕ → ℕ → ℕ → Pat → Bool
+fits image bindings root t pat =
+    allTrue (typesFit image pat (some t) ∷ bindingsFit image pat ∷ nothingRefused image bindings pat ∷ localsDiffer bindings root ∷ [])

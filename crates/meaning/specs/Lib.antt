@@ -7,4 +7,3 @@ pub mod Typing
 pub mod Fitting
 pub mod Fit
 pub mod Fits
-pub mod Differences

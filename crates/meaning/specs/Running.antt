@@ -129,6 +129,7 @@ unfoldable pub compared : BinOp → Value → Value → Bool
 compared BinOp.Eq v w = sameValue v w
 compared BinOp.Le v w = both notAbove (scalarOf v) (scalarOf w)
 compared BinOp.Ge v w = both notAbove (scalarOf w) (scalarOf v)
+compared BinOp.Gt v w = both notAbove (scalarOf w) (scalarOf v) && not (sameValue w v)
 
 -- the discriminant of a variant: 16 bytes, as a number
 unfoldable pub discriminantOf : List ℕ → Value → ℕ

@@ -9,7 +9,6 @@ use Rattle.image.specs.Valid.{valid}
 use Rattle.mir.specs.declared.BasicBlockId.{BasicBlockId}
 use Rattle.mir.specs.declared.Counts.{Counts}
 use Rattle.state.specs.State.{Body}
-use Rattle.lower.specs.declared.temps.DiscrTemp.{DiscrTemp}
 use Rattle.lower_calls.specs.declared.opening.Opened.{Opened}
 use Rattle.lower_calls.specs.Calls.{bodyTaken}
 use Rattle.lower_calls.specs.Sizes.{Taken}
@@ -17,13 +16,13 @@ use Rattle.lowered_params.specs.declared.SelfParam.{SelfParam}
 use Rattle.lowered_params.specs.Calls.{listHolds, paramsHold}
 
 -- the tables' places, where image, list, body and the call's own values are taken
-unfoldable pub openedParams : List ℕ → List ℕ → SelfParam → List ℕ → Body → List ℕ → Counts → DiscrTemp → BasicBlockId → Opened
-openedParams image words self bindings b visits c discr current =
+unfoldable pub openedParams : List ℕ → List ℕ → SelfParam → List ℕ → Body → List ℕ → Counts → BasicBlockId → Opened
+openedParams image words self bindings b visits c current =
     cond (valid image && listHolds image self words)
-    (cond (bodyTaken image b c && paramsHold image self bindings (b .blocks) visits c discr current) (Opened.Image (tablesOf image)) Opened.BadCall) Opened.BadImage
+    (cond (bodyTaken image b c && paramsHold image self bindings (b .blocks) visits c current) (Opened.Image (tablesOf image)) Opened.BadCall) Opened.BadImage
 
 -- image, list, body and the call's own values are taken
-pub record ParamsTaken (image : List ℕ) (tables : Tables) (words : List ℕ) (self : SelfParam) (bindings : List ℕ) (b : Body) (visits : List ℕ) (c : Counts) (discr : DiscrTemp) (current : BasicBlockId) : Type 0 where
+pub record ParamsTaken (image : List ℕ) (tables : Tables) (words : List ℕ) (self : SelfParam) (bindings : List ℕ) (b : Body) (visits : List ℕ) (c : Counts) (current : BasicBlockId) : Type 0 where
   pub both : Taken image tables b c
   pub list : listHolds image self words ≡ true
-  pub call : paramsHold image self bindings (b .blocks) visits c discr current ≡ true
+  pub call : paramsHold image self bindings (b .blocks) visits c current ≡ true

@@ -4,7 +4,6 @@ use handed::bindings_hold;
 use handed::discr_holds;
 use handed::start_holds;
 use image::Tables;
-use lower::temps::DiscrTemp;
 use lower_calls::opening::Opened;
 use lowered_params::SelfParam;
 use mir::BasicBlockId;
@@ -45,11 +44,10 @@ fn params_hold(
     blocks: &[u16],
     visits: &[u16],
     counts: Counts,
-    discr: DiscrTemp,
     current: BasicBlockId,
 ) -> bool
     requires { ⌜ Whole (now image) tables × (length (now blocks) ≡ 6144) × (counts .blocks ≤ 512) ⌝ }
-    ensures { λ r. ⌜ r ≡ paramsHold (now (image .entry)) receiver (now (bindings .entry)) (now (blocks .entry)) (now (visits .entry)) counts discr current ⌝ }
+    ensures { λ r. ⌜ r ≡ paramsHold (now (image .entry)) receiver (now (bindings .entry)) (now (blocks .entry)) (now (visits .entry)) counts current ⌝ }
 {
     if !self_named(image, tables, receiver) {
         return false;
@@ -79,10 +77,9 @@ pub fn open_params(
     entries: &[u16],
     visits: &[u16],
     counts: Counts,
-    discr: DiscrTemp,
     current: BasicBlockId,
 ) -> Opened
-    ensures { λ r. ⌜ r ≡ openedParams (now (image .entry)) (now (words .entry)) receiver (now (bindings .entry)) (body (now (blocks .entry)) (now (statements .entry)) (now (locals .entry)) (now (scopes .entry)) (now (entries .entry))) (now (visits .entry)) counts discr current ⌝ }
+    ensures { λ r. ⌜ r ≡ openedParams (now (image .entry)) (now (words .entry)) receiver (now (bindings .entry)) (body (now (blocks .entry)) (now (statements .entry)) (now (locals .entry)) (now (scopes .entry)) (now (entries .entry))) (now (visits .entry)) counts current ⌝ }
 {
     match read_image(image) {
         Read::Refused => Opened::BadImage,
@@ -110,7 +107,6 @@ pub fn open_params(
                 blocks,
                 visits,
                 counts,
-                discr,
                 current,
             ) {
                 return Opened::BadCall;

@@ -10,7 +10,6 @@ use lib.ListN.{length}
 use Rattle.image.specs.Lists.{allTrue, member, distinct}
 use Rattle.image.specs.Tree.{Pat}
 use Rattle.image.proofs.Bools.{and-left, and-right, and-true}
-use Rattle.lower.specs.declared.temps.DiscrTemp.{DiscrTemp}
 use Rattle.pattern_matching.specs.Walking.{Ctx}
 use Rattle.meaning.specs.Fitting.{typesFit}
 use Rattle.meaning.specs.Fit.{bindingsFit}
@@ -26,14 +25,14 @@ to-not true h = absurd (h refl)
 to-not false h = refl
 
 -- the root, the discriminant local and the bindings' locals: which of them differ
-pub record Differ (bindings : List ℕ) (root : ℕ) (discr : DiscrTemp) : Type 0 where
+pub record Differ (bindings : List ℕ) (root : ℕ) : Type 0 where
   pub root-bound : member root (present bindings) ≡ true → ⊥
   pub root-discr : IsNotDiscr discr root
   pub bound-discr : (l : ℕ) → member l (present bindings) ≡ true → IsNotDiscr discr l
   pub bound : distinct (present bindings) ≡ true
 
 -- all of them, where they do
-pub differ : (bindings : List ℕ) (root : ℕ) (discr : DiscrTemp) → localsDiffer bindings root discr ≡ true → Differ bindings root discr
+pub differ : (bindings : List ℕ) (root : ℕ) → localsDiffer bindings root discr ≡ true → Differ bindings root discr
 unfolding localsDiffer distinct member
 differ bindings root DiscrTemp.None e =
     let ls = present bindings in
@@ -50,7 +49,7 @@ differ bindings root (DiscrTemp.Some d) e =
     }
 
 -- and back
-differs : (bindings : List ℕ) (root : ℕ) (discr : DiscrTemp) → Differ bindings root discr → localsDiffer bindings root discr ≡ true
+differs : (bindings : List ℕ) (root : ℕ) → Differ bindings root discr → localsDiffer bindings root discr ≡ true
 unfolding localsDiffer distinct member
 differs bindings root DiscrTemp.None h = and-true (not (member root (present bindings))) (distinct (present bindings)) (to-not (member root (present bindings)) (h .root-bound)) (h .bound)
 differs bindings root (DiscrTemp.Some d) h =
@@ -65,7 +64,7 @@ BoundBelow bindings n = (l : ℕ) → member l (present bindings) ≡ true → l
 
 -- they differ in a later context too
 pub differ-later : (bindings : List ℕ) (root : ℕ) (ctx ctx₁ : Ctx) → Shares ctx ctx₁ → root < length (ctx .state .locals) → BoundBelow bindings (length (ctx .state .locals)) →
-    Differ bindings root (ctx .discr) → Differ bindings root (ctx₁ .discr)
+    Differ bindings root → Differ bindings root
 differ-later bindings root ctx ctx₁ s i below h =
     record {
       root-bound = h .root-bound;
@@ -76,11 +75,11 @@ differ-later bindings root ctx ctx₁ s i below h =
 
 -- so a pattern that fits does so in a later context
 pub fits-later : (image bindings : List ℕ) (root : ℕ) (ctx ctx₁ : Ctx) (t : ℕ) (pat : Pat) → Shares ctx ctx₁ → root < length (ctx .state .locals) →
-    BoundBelow bindings (length (ctx .state .locals)) → fits image bindings root (ctx .discr) t pat ≡ true → fits image bindings root (ctx₁ .discr) t pat ≡ true
+    BoundBelow bindings (length (ctx .state .locals)) → fits image bindings root t pat ≡ true → fits image bindings root t pat ≡ true
 unfolding fits allTrue
 fits-later image bindings root ctx ctx₁ t pat s i below e =
     let c = clauses image bindings root ctx t pat e in
-    let later = differs bindings root (ctx₁ .discr) (differ-later bindings root ctx ctx₁ s i below (differ bindings root (ctx .discr) (c .locals))) in
+    let later = differs bindings root (differ-later bindings root ctx ctx₁ s i below (differ bindings root (c .locals))) in
     and-true (typesFit image pat (some t)) _ (c .types)
     (and-true (bindingsFit image pat) _ (c .bindings-fit)
-    (and-true (nothingRefused image bindings pat) _ (c .reached) (and-true (localsDiffer bindings root (ctx₁ .discr)) true later refl)))
+    (and-true (nothingRefused image bindings pat) _ (c .reached) (and-true (localsDiffer bindings root) true later refl)))

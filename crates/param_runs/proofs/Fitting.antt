@@ -6,13 +6,11 @@ use mathlib.Core.List.{List, [], _∷_}
 use lib.ListN.{length}
 use Rattle.image.specs.Tree.{tree}
 use Rattle.image.proofs.Bools.{and-left, and-right, and-true}
-use Rattle.lower.specs.declared.temps.DiscrTemp.{DiscrTemp}
 use Rattle.pattern_matching.specs.Walking.{Ctx}
 use Rattle.lowered_params.specs.Params.{Param}
 use Rattle.meaning.specs.Values.{Value, valueFits}
 use Rattle.meaning.specs.Matching.{matches}
 use Rattle.meaning.specs.Fits.{fits}
-use Rattle.meaning.specs.Differences.{asTheReference}
 use Rattle.correctness.proofs.Walking.{Shares}
 use Rattle.param_runs.specs.Returned.{ownLocal}
 use Rattle.param_runs.specs.Through.{plain, patternFits, paramFits, paramsFit}
@@ -21,12 +19,11 @@ use Rattle.param_runs.proofs.Differing.{BoundBelow, fits-later}
 use Rattle.param_runs.proofs.Typing.{TypedFrom}
 
 -- what is asked of a parameter that is lowered
-pub record Lowered (image bindings : List ℕ) (discr : DiscrTemp) (q : Param) (l : ℕ) : Type 0 where
-  pub fitting : fits image bindings l discr (q .ty) (tree image (q .pattern)) ≡ true
-  pub unlisted : asTheReference (tree image (q .pattern)) ≡ true
+abbrev pub Lowered : List ℕ → List ℕ → DiscrTemp → Param → ℕ → Type 0
+Lowered image bindings discr q l = fits image bindings l discr (q .ty) (tree image (q .pattern)) ≡ true
 
 -- what is asked of any parameter
-pub record Asked (image bindings : List ℕ) (discr : DiscrTemp) (q : Param) (l : ℕ) (v : Value) : Type 0 where
+pub record Asked (image bindings : List ℕ) (q : Param) (l : ℕ) (v : Value) : Type 0 where
   pub owns : ownLocal bindings (tree image (q .pattern)) l ≡ true → Owns image bindings (tree image (q .pattern)) l v
   pub lowered : ownLocal bindings (tree image (q .pattern)) l ≡ false → Lowered image bindings discr q l
   pub valued : valueFits image v (q .ty) ≡ true
@@ -34,7 +31,7 @@ pub record Asked (image bindings : List ℕ) (discr : DiscrTemp) (q : Param) (l 
 
 module _ (image bindings : List ℕ) where
   -- of one that fits
-  pub asked : (discr : DiscrTemp) (q : Param) (l : ℕ) (v : Value) → paramFits image bindings discr q l v ≡ true → Asked image bindings discr q l v
+  pub asked : (q : Param) (l : ℕ) (v : Value) → paramFits image bindings discr q l v ≡ true → Asked image bindings discr q l v
   unfolding paramFits patternFits
   asked discr q l v e =
       let pat = tree image (q .pattern) in
@@ -44,10 +41,8 @@ module _ (image bindings : List ℕ) where
       let first = and-left (a && b) c e in
       let shape = and-left a b first in
       record {
-        owns = λ own. plain-owns image bindings pat l v (chosen (plain pat) (fits image bindings l discr (q .ty) pat && asTheReference pat) own shape) own;
-        lowered = λ other.
-            let both = left (plain pat) (fits image bindings l discr (q .ty) pat && asTheReference pat) other shape in
-            record { fitting = and-left (fits image bindings l discr (q .ty) pat) (asTheReference pat) both; unlisted = and-right (fits image bindings l discr (q .ty) pat) (asTheReference pat) both };
+        owns = λ own. plain-owns image bindings pat l v (chosen (plain pat) (fits image bindings l discr (q .ty) pat) own shape) own;
+        lowered = λ other. left (plain pat) (fits image bindings l discr (q .ty) pat) other shape;
         valued = and-right a b first;
         matched = and-right (a && b) c e;
       }
@@ -59,45 +54,41 @@ module _ (image bindings : List ℕ) where
       left x y o e = subst (λ (b : Bool). cond b x y ≡ true) o e
 
   -- the first of those that fit
-  pub fit-first : (discr : DiscrTemp) (q : Param) (qs : List Param) (l : ℕ) (v : Value) (vs : List Value) → paramsFit image bindings discr (q ∷ qs) l (v ∷ vs) ≡ true → paramFits image bindings discr q l v ≡ true
+  pub fit-first : (q : Param) (qs : List Param) (l : ℕ) (v : Value) (vs : List Value) → paramsFit image bindings discr (q ∷ qs) l (v ∷ vs) ≡ true → paramFits image bindings discr q l v ≡ true
   unfolding paramsFit
   fit-first discr q qs l v vs e = and-left (paramFits image bindings discr q l v) (paramsFit image bindings discr qs (l + 1) vs) e
 
   -- and the others
-  pub fit-rest : (discr : DiscrTemp) (q : Param) (qs : List Param) (l : ℕ) (v : Value) (vs : List Value) → paramsFit image bindings discr (q ∷ qs) l (v ∷ vs) ≡ true → paramsFit image bindings discr qs (l + 1) vs ≡ true
+  pub fit-rest : (q : Param) (qs : List Param) (l : ℕ) (v : Value) (vs : List Value) → paramsFit image bindings discr (q ∷ qs) l (v ∷ vs) ≡ true → paramsFit image bindings discr qs (l + 1) vs ≡ true
   unfolding paramsFit
   fit-rest discr q qs l v vs e = and-right (paramFits image bindings discr q l v) (paramsFit image bindings discr qs (l + 1) vs) e
 
   module _ (ctx ctx₁ : Ctx) (s : Shares ctx ctx₁) (below : BoundBelow bindings (length (ctx .state .locals))) where
     -- a parameter in a later context
-    one-later : (q : Param) (l : ℕ) (v : Value) → l < length (ctx .state .locals) → paramFits image bindings (ctx .discr) q l v ≡ true → paramFits image bindings (ctx₁ .discr) q l v ≡ true
+    one-later : (q : Param) (l : ℕ) (v : Value) → l < length (ctx .state .locals) → paramFits image bindings q l v ≡ true → paramFits image bindings q l v ≡ true
     unfolding paramFits patternFits
     one-later q l v i e =
         let pat = tree image (q .pattern) in
         let b = valueFits image v (q .ty) in
         let c = matches image pat v in
-        let a = patternFits image bindings (ctx .discr) pat l (q .ty) in
+        let a = patternFits image bindings pat l (q .ty) in
         let first = and-left (a && b) c e in
-        and-true (patternFits image bindings (ctx₁ .discr) pat l (q .ty) && b) c
-        (and-true (patternFits image bindings (ctx₁ .discr) pat l (q .ty)) b (by (ownLocal bindings pat l) (and-left a b first)) (and-right a b first)) (and-right (a && b) c e)
+        and-true (patternFits image bindings pat l (q .ty) && b) c
+        (and-true (patternFits image bindings pat l (q .ty)) b (by (ownLocal bindings pat l) (and-left a b first)) (and-right a b first)) (and-right (a && b) c e)
       where
-        by : (t : Bool) → cond t (plain (tree image (q .pattern))) (fits image bindings l (ctx .discr) (q .ty) (tree image (q .pattern)) && asTheReference (tree image (q .pattern))) ≡ true →
-            cond t (plain (tree image (q .pattern))) (fits image bindings l (ctx₁ .discr) (q .ty) (tree image (q .pattern)) && asTheReference (tree image (q .pattern))) ≡ true
+        by : (t : Bool) → cond t (plain (tree image (q .pattern))) (fits image bindings l (q .ty) (tree image (q .pattern))) ≡ true →
+            cond t (plain (tree image (q .pattern))) (fits image bindings l (q .ty) (tree image (q .pattern))) ≡ true
         by true e = e
-        by false e =
-            let pat = tree image (q .pattern) in
-            let f = fits image bindings l (ctx .discr) (q .ty) pat in
-            and-true (fits image bindings l (ctx₁ .discr) (q .ty) pat) (asTheReference pat)
-            (fits-later image bindings l ctx ctx₁ (q .ty) pat s i below (and-left f (asTheReference pat) e)) (and-right f (asTheReference pat) e)
+        by false e = fits-later image bindings l ctx ctx₁ (q .ty) (tree image (q .pattern)) s i below e
 
     -- all of them
-    pub fit-later : (qs : List Param) (l : ℕ) (vs : List Value) → TypedFrom (ctx .state .locals) l qs → paramsFit image bindings (ctx .discr) qs l vs ≡ true →
-        paramsFit image bindings (ctx₁ .discr) qs l vs ≡ true
+    pub fit-later : (qs : List Param) (l : ℕ) (vs : List Value) → TypedFrom (ctx .state .locals) l qs → paramsFit image bindings qs l vs ≡ true →
+        paramsFit image bindings qs l vs ≡ true
     unfolding paramsFit
     fit-later [] l [] t e = refl
     fit-later [] l (v ∷ vs) t e = e
     fit-later (q ∷ qs) l [] t e = e
     fit-later (q ∷ qs) l (v ∷ vs) (i, is, t) e =
-        and-true (paramFits image bindings (ctx₁ .discr) q l v) (paramsFit image bindings (ctx₁ .discr) qs (l + 1) vs)
-        (one-later q l v i (and-left (paramFits image bindings (ctx .discr) q l v) (paramsFit image bindings (ctx .discr) qs (l + 1) vs) e))
-        (fit-later qs (l + 1) vs t (and-right (paramFits image bindings (ctx .discr) q l v) (paramsFit image bindings (ctx .discr) qs (l + 1) vs) e))
+        and-true (paramFits image bindings q l v) (paramsFit image bindings qs (l + 1) vs)
+        (one-later q l v i (and-left (paramFits image bindings q l v) (paramsFit image bindings qs (l + 1) vs) e))
+        (fit-later qs (l + 1) vs t (and-right (paramFits image bindings q l v) (paramsFit image bindings qs (l + 1) vs) e))

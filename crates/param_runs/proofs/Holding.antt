@@ -16,7 +16,6 @@ use Rattle.meaning.specs.Binding.{binds}
 use Rattle.meaning.specs.Fit.{boundIn}
 use Rattle.meaning.specs.Fits.{present}
 use Rattle.correctness.specs.Demand2.{IsNotDiscr, after}
-use Rattle.correctness.proofs.Reading.{reads-the-same}
 use Rattle.correctness.proofs.Permuting.{Each, each-map, localOf, after-untouched}
 use Rattle.correctness.proofs.BindingNames.{names, Among, binds-among, locals-apart, present-member, member-left, member-right}
 use Rattle.correctness.proofs.BindingLocals.{all-local}
@@ -41,34 +40,33 @@ small-from locals l (q ∷ qs) few (i, is, t) = (let h = few (omega arith) in om
 abbrev pub Apart : List ℕ → List ℕ → Type 0
 Apart xs ys = (a b : ℕ) → member a xs ≡ true → member b ys ≡ true → a ≢ b
 
-module _ (image bindings : List ℕ) (ctx : Ctx) (q : Param) (l : ℕ) (v : Value) (low : Lowered image bindings (ctx .discr) q l) where
+module _ (image bindings : List ℕ) (ctx : Ctx) (q : Param) (l : ℕ) (v : Value) (low : Lowered image bindings q l) where
   -- its pattern
   abbrev pat : Pat
   pat = tree image (q .pattern)
 
   -- its locals
-  locals-differ : Differ bindings l (ctx .discr)
-  locals-differ = differ bindings l (ctx .discr) (clauses image bindings l ctx (q .ty) pat (low .fitting) .locals)
+  locals-differ : Differ bindings l
+  locals-differ = differ bindings l (clauses image bindings l ctx (q .ty) pat low .locals)
 
   -- a binding that it has has a local
   has-local : (x : ℕ) → member x (names (boundIn image pat)) ≡ true → getD bindings x 65535 ≢ 65535
-  has-local = all-local image bindings pat (clauses image bindings l ctx (q .ty) pat (low .fitting) .reached)
+  has-local = all-local image bindings pat (clauses image bindings l ctx (q .ty) pat low .reached)
 
   -- a local that is none of its bindings' is left as it was
   untouched : (k : ℕ) (held : Held) → ((x : ℕ) → member x (names (boundIn image pat)) ≡ true → k ≢ getD bindings x 65535) → after bindings (binds image pat (whole l) v) k held ≡ held
   untouched k held f =
       after-untouched bindings (binds image pat (whole l) v) k held
       (each-map (Among (boundIn image pat)) (λ b. k ≢ localOf bindings b) (binds image pat (whole l) v) (λ b m. f (b .binding) m)
-      (subst (λ (x : Pat). Each (Among (boundIn image pat)) (binds image x (whole l) v)) (reads-the-same pat (low .unlisted))
-      (binds-among image pat (clauses image bindings l ctx (q .ty) pat (low .fitting) .bindings-fit) (whole l) v)))
+      (binds-among image pat (clauses image bindings l ctx (q .ty) pat low .bindings-fit) (whole l) v))
 
   -- a parameter with other bindings: its local is neither the discriminant's nor one of those
   record Other (k : ℕ) : Type 0 where
-    discr : IsNotDiscr (ctx .discr) k
+    discr : IsNotDiscr k
     bound : (x : ℕ) → member x (names (boundIn image pat)) ≡ true → k ≢ getD bindings x 65535
 
   -- so it is with each that fits
-  other : (q′ : Param) (k : ℕ) (w : Value) → Asked image bindings (ctx .discr) q′ k w → k < 65535 → Apart (names (boundIn image pat)) (names (boundIn image (tree image (q′ .pattern)))) → Other k
+  other : (q′ : Param) (k : ℕ) (w : Value) → Asked image bindings q′ k w → k < 65535 → Apart (names (boundIn image pat)) (names (boundIn image (tree image (q′ .pattern)))) → Other k
   other q′ k w ask small apart = by (ownLocal bindings (tree image (q′ .pattern)) k) refl
     where
       by : (t : Bool) → ownLocal bindings (tree image (q′ .pattern)) k ≡ t → Other k
@@ -76,21 +74,19 @@ module _ (image bindings : List ℕ) (ctx : Ctx) (q : Param) (l : ℕ) (v : Valu
           let own = ask .owns e in
           let there : getD bindings (own .binding) 65535 ≢ 65535 = λ z. let same = own .local in absurd (omega (arith, small, same, z)) in
           record {
-            discr = subst (IsNotDiscr (ctx .discr)) (own .local) (locals-differ .bound-discr (getD bindings (own .binding) 65535) (present-member bindings (own .binding) there));
             bound = λ x m is.
                 apart x (own .binding) m (own .named) (locals-apart bindings (locals-differ .bound) x (own .binding) (has-local x m) (sym is ∙ sym (own .local)));
           }
       by false e =
           let low′ = ask .lowered e in
-          let d = differ bindings k (ctx .discr) (clauses image bindings k ctx (q′ .ty) (tree image (q′ .pattern)) (low′ .fitting) .locals) in
+          let d = differ bindings k (clauses image bindings k ctx (q′ .ty) (tree image (q′ .pattern)) low′ .locals) in
           record {
-            discr = d .root-discr;
             bound = λ x m is. d .root-bound (subst (λ (y : ℕ). member y (present bindings) ≡ true) (sym is) (present-member bindings x (has-local x m)));
           }
 
   -- The values of later parameters are held behind it.
-  pub held-later : (env env′ : Env) → ((k : ℕ) → k < length (ctx .state .locals) → IsNotDiscr (ctx .discr) k → env′ k ≡ after bindings (binds image pat (whole l) v) k (env k)) →
-      (qs : List Param) (k : ℕ) (vs : List Value) → paramsFit image bindings (ctx .discr) qs k vs ≡ true → TypedFrom (ctx .state .locals) k qs → SmallFrom k qs →
+  pub held-later : (env env′ : Env) → ((k : ℕ) → k < length (ctx .state .locals) → IsNotDiscr k → env′ k ≡ after bindings (binds image pat (whole l) v) k (env k)) →
+      (qs : List Param) (k : ℕ) (vs : List Value) → paramsFit image bindings qs k vs ≡ true → TypedFrom (ctx .state .locals) k qs → SmallFrom k qs →
       Apart (names (boundIn image pat)) (paramsBound image qs) → HeldFrom env k vs → HeldFrom env′ k vs
   unfolding paramsFit paramsBound
   held-later env env′ f [] k [] fit typed small apart held = tt
@@ -99,7 +95,7 @@ module _ (image bindings : List ℕ) (ctx : Ctx) (q : Param) (l : ℕ) (v : Valu
   held-later env env′ f (q′ ∷ qs) k (w ∷ vs) fit (there, is, typed) (i, small) apart (here, held) =
       let first = names (boundIn image (tree image (q′ .pattern))) in
       let rest = paramsBound image qs in
-      let o = other q′ k w (asked image bindings (ctx .discr) q′ k w (fit-first image bindings (ctx .discr) q′ qs k w vs fit)) i (λ a b m n. apart a b m (member-left b first rest n)) in (
-        f k there (o .discr) ∙ untouched k (env k) (o .bound) ∙ here,
-        held-later env env′ f qs (k + 1) vs (fit-rest image bindings (ctx .discr) q′ qs k w vs fit) typed small (λ a b m n. apart a b m (member-right b first rest n)) held,
+      let o = other q′ k w (asked image bindings q′ k w (fit-first image bindings q′ qs k w vs fit)) i (λ a b m n. apart a b m (member-left b first rest n)) in (
+        f k there ∙ untouched k (env k) (o .bound) ∙ here,
+        held-later env env′ f qs (k + 1) vs (fit-rest image bindings q′ qs k w vs fit) typed small (λ a b m n. apart a b m (member-right b first rest n)) held,
       )

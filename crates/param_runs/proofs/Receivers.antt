@@ -19,7 +19,6 @@ use Rattle.image.proofs.Bools.{and-left, and-right}
 use Rattle.mir.specs.declared.BasicBlockId.{BasicBlockId}
 use Rattle.mir.specs.declared.Counts.{Counts}
 use Rattle.state.specs.State.{Body, decode}
-use Rattle.lower.specs.declared.temps.DiscrTemp.{DiscrTemp}
 use Rattle.lower.specs.declared.merging.OptBlock.{OptBlock}
 use Rattle.lower.specs.Temps.{bindingLocal}
 use Rattle.lower_calls.specs.Calls.{bodyTaken}
@@ -53,11 +52,11 @@ lowerWithSelf image self params bindings ctx current =
     lowerAllWithSelf image (d .bindings) self params (length (ctx .state .locals)) (withState ctx (d .state)) current)
 
 -- the call with that step
-unfoldable pub callWithSelf : List ℕ → List ℕ → SelfParam → List ℕ → Body → List ℕ → Counts → DiscrTemp → BasicBlockId → ParamsCalled
-callWithSelf image words self bindings b visits c discr current =
+unfoldable pub callWithSelf : List ℕ → List ℕ → SelfParam → List ℕ → Body → List ℕ → Counts → BasicBlockId → ParamsCalled
+callWithSelf image words self bindings b visits c current =
     cond (valid image && listHolds image self words)
-    (cond (bodyTaken image b c && paramsHold image self bindings (b .blocks) visits c discr current)
-    (walked (lowerWithSelf image self (paramsOf words) bindings (ctxOf b c discr (zeros 512)) current)) badCall) badImage
+    (cond (bodyTaken image b c && paramsHold image self bindings (b .blocks) visits c current)
+    (walked (lowerWithSelf image self (paramsOf words) bindings (ctxOf b c (zeros 512)) current)) badCall) badImage
 
 -- self's binding has the local l
 abbrev pub SelfHas : SelfParam → List ℕ → ℕ → Type 0
@@ -111,8 +110,8 @@ module _ (image : List ℕ) (self : SelfParam) (params : List Param) (bindings :
       (self-idle image (d .bindings) self (length (ctx .state .locals)) (withState ctx (d .state)) current (self-has ctx d e)))
 
 -- what a call is handed that is taken
-module _ (image words : List ℕ) (self : SelfParam) (bindings : List ℕ) (b : Body) (visits : List ℕ) (c : Counts) (discr : DiscrTemp) (current : BasicBlockId)
-    (list : listHolds image self words ≡ true) (call : paramsHold image self bindings (b .blocks) visits c discr current ≡ true) where
+module _ (image words : List ℕ) (self : SelfParam) (bindings : List ℕ) (b : Body) (visits : List ℕ) (c : Counts) (current : BasicBlockId)
+    (list : listHolds image self words ≡ true) (call : paramsHold image self bindings (b .blocks) visits c current ≡ true) where
   taken-apart : receiverApart image self (paramsOf words) ≡ true
   unfolding listHolds
   taken-apart = and-right (listFormed image words) (receiverApart image self (paramsOf words)) list
@@ -130,11 +129,11 @@ module _ (image words : List ℕ) (self : SelfParam) (bindings : List ℕ) (b : 
   -- When all locals are made, self's binding has self's own local.
   pub self-has-its-own-local : (made : Declared) → declare image self (paramsOf words) (record { state = decode b c; bindings = bindings }) ≡ done made →
       SelfHas self (made .bindings) (length (decode b c .locals))
-  self-has-its-own-local made e = self-has image self (paramsOf words) bindings taken-named taken-long taken-apart (ctxOf b c discr (zeros 512)) made e .0
+  self-has-its-own-local made e = self-has image self (paramsOf words) bindings taken-named taken-long taken-apart (ctxOf b c (zeros 512)) made e .0
 
   -- the walk with the step for self is the one without it
-  same-walk : lowerWithSelf image self (paramsOf words) bindings (ctxOf b c discr (zeros 512)) current ≡ lowerParamsAndBindings image self (paramsOf words) bindings (ctxOf b c discr (zeros 512)) current
-  same-walk = same-lowering image self (paramsOf words) bindings taken-named taken-long taken-apart (ctxOf b c discr (zeros 512)) current
+  same-walk : lowerWithSelf image self (paramsOf words) bindings (ctxOf b c (zeros 512)) current ≡ lowerParamsAndBindings image self (paramsOf words) bindings (ctxOf b c (zeros 512)) current
+  same-walk = same-lowering image self (paramsOf words) bindings taken-named taken-long taken-apart (ctxOf b c (zeros 512)) current
 
 -- two tests before what is the same where both hold
 guarded : {A : Type 0} (s t u v : Bool) (x y z w : A) → (t ≡ true → v ≡ true → x ≡ y) → cond (s && t) (cond (u && v) x z) w ≡ cond (s && t) (cond (u && v) y z) w
@@ -145,9 +144,9 @@ guarded true false u v x y z w f = refl
 guarded false t u v x y z w f = refl
 
 -- The call with that step is the call without it, whatever it is handed.
-pub the-step-for-self-has-no-input : (image words : List ℕ) (self : SelfParam) (bindings : List ℕ) (b : Body) (visits : List ℕ) (c : Counts) (discr : DiscrTemp) (current : BasicBlockId) →
-    callWithSelf image words self bindings b visits c discr current ≡ paramsCall image words self bindings b visits c discr current
+pub the-step-for-self-has-no-input : (image words : List ℕ) (self : SelfParam) (bindings : List ℕ) (b : Body) (visits : List ℕ) (c : Counts) (current : BasicBlockId) →
+    callWithSelf image words self bindings b visits c current ≡ paramsCall image words self bindings b visits c current
 unfolding callWithSelf paramsCall
-the-step-for-self-has-no-input image words self bindings b visits c discr current =
-    guarded (valid image) (listHolds image self words) (bodyTaken image b c) (paramsHold image self bindings (b .blocks) visits c discr current) _ _ badCall badImage (λ list call.
-    ap walked (same-walk image words self bindings b visits c discr current list call))
+the-step-for-self-has-no-input image words self bindings b visits c current =
+    guarded (valid image) (listHolds image self words) (bodyTaken image b c) (paramsHold image self bindings (b .blocks) visits c current) _ _ badCall badImage (λ list call.
+    ap walked (same-walk image words self bindings b visits c current list call))

@@ -100,7 +100,7 @@ module _ (image : List ℕ) (params : List Param) (bindings : List ℕ) (ctx : C
   -- the parameters, behind self
   behind-self : (self : SelfParam) (vs : List Value) → Handed image self params bindings ctx current → AllMade image self params (record { state = ctx .state; bindings = bindings }) made →
       lowerParams image (made .bindings) params (first + selfCount self) started current ≡ ok last →
-      paramsFit image (made .bindings) (ctx .discr) params (first + selfCount self) vs ≡ true → bindingsDiffer image self params ≡ true → HeldFrom env (first + selfCount self) vs →
+      paramsFit image (made .bindings) params (first + selfCount self) vs ≡ true → bindingsDiffer image self params ≡ true → HeldFrom env (first + selfCount self) vs →
       Starts started current OptBlock.None →
       Passed image (made .bindings) M started (current .0) env (first + selfCount self) vs (paramsBind image params (first + selfCount self) vs) (last .ctx) (last .then .0)
   behind-self self vs handed m e fit differ held starts =
@@ -117,13 +117,13 @@ module _ (image : List ℕ) (params : List Param) (bindings : List ℕ) (ctx : C
   -- self, whose binding has its own local, and then the parameters
   passes : (self : SelfParam) (vs : List Value) → Handed image self params bindings ctx current → AllMade image self params (record { state = ctx .state; bindings = bindings }) made →
       lowerParams image (made .bindings) params (first + selfCount self) started current ≡ ok last →
-      allFit image (made .bindings) (ctx .discr) self params first vs ≡ true → bindingsDiffer image self params ≡ true → HeldFrom env first vs → Starts started current OptBlock.None →
+      allFit image (made .bindings) self params first vs ≡ true → bindingsDiffer image self params ≡ true → HeldFrom env first vs → Starts started current OptBlock.None →
       Passed image (made .bindings) M started (current .0) env first vs (boundBy image self params first vs) (last .ctx) (last .then .0)
   unfolding allFit boundBy selfCount
   passes SelfParam.None vs handed m e fit differ held starts =
       let none : first ≡ first + 0 = omega arith in
       subst (λ (l : ℕ). Passed image (made .bindings) M started (current .0) env l vs (paramsBind image params l vs) (last .ctx) (last .then .0)) (sym none)
-      (behind-self SelfParam.None vs handed m e (subst (λ (l : ℕ). paramsFit image (made .bindings) (ctx .discr) params l vs ≡ true) none fit) differ
+      (behind-self SelfParam.None vs handed m e (subst (λ (l : ℕ). paramsFit image (made .bindings) params l vs ≡ true) none fit) differ
       (subst (λ (l : ℕ). HeldFrom env l vs) none held) starts)
   passes (SelfParam.Some b ty) [] handed m e fit differ held starts = absurd (false≢true fit)
   passes (SelfParam.Some b ty) (v ∷ vs) handed m e fit differ held starts =
@@ -153,12 +153,12 @@ finish image self params bindings ctx current M vs env made last declared same p
 -- For parameters that all fit, on values that all match, in every body that goes on from the lowered one.
 module _ (image : List ℕ) (self : SelfParam) (params : List Param) (bindings : List ℕ) (ctx : Ctx) (current : BasicBlockId) (handed : Handed image self params bindings ctx current)
     (r : ParamsOut) (lowered : lowerParamsAndBindings image self params bindings ctx current ≡ ok r) (M : Mir) (onward : GoesOn (mirOf (r .ctx .state)) M) (vs : List Value)
-    (fit : allFit image (r .bindings) (ctx .discr) self params (length (ctx .state .locals)) vs ≡ true) (differ : bindingsDiffer image self params ≡ true) (env : Env)
+    (fit : allFit image (r .bindings) self params (length (ctx .state .locals)) vs ≡ true) (differ : bindingsDiffer image self params ≡ true) (env : Env)
     (held : HeldFrom env (length (ctx .state .locals)) vs) where
   -- the same of any result
   abbrev Runs : ParamsOut → Type 0
   Runs r =
-      GoesOn (mirOf (r .ctx .state)) M → allFit image (r .bindings) (ctx .discr) self params (length (ctx .state .locals)) vs ≡ true →
+      GoesOn (mirOf (r .ctx .state)) M → allFit image (r .bindings) self params (length (ctx .state .locals)) vs ≡ true →
       ComesThrough image self params bindings ctx current r M vs env
 
   -- The run comes to the returned block with every parameter's bindings as the Reference says, and enters no block twice.

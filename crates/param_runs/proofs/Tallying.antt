@@ -10,7 +10,6 @@ use Rattle.image.specs.Tree.{Pat}
 use Rattle.place.specs.declared.Place.{Place}
 use Rattle.mir.specs.declared.BasicBlockId.{BasicBlockId}
 use Rattle.mir.specs.declared.blocks.Terminator.{Terminator}
-use Rattle.lower.specs.declared.temps.DiscrTemp.{DiscrTemp}
 use Rattle.lower.specs.declared.merging.OptBlock.{OptBlock}
 use Rattle.state.specs.State.{State}
 use Rattle.pattern_matching.specs.Walking.{Ctx, Out, ok, withState}
@@ -30,10 +29,10 @@ use Rattle.param_runs.proofs.Declaring.{Makes}
 -- where one was or an enum is tested
 pub record Tally (c c′ : Ctx) (b : ℕ) (rs : List Reached) : Type 0 where
   pub blocks : length (c′ .state .blocks) ≡ length (c .state .blocks) + b
-  pub statements : length (c′ .state .statements) ≡ length (c .state .statements) + (total statementsOf rs + discrMade (someEnum rs) (c .discr))
+  pub statements : length (c′ .state .statements) ≡ length (c .state .statements) + (total statementsOf rs + discrMade (someEnum rs))
   pub visits : (n : ℕ) → n < length (c .visits) → getD (c′ .visits) n 0 ≡ getD (c .visits) n 0 + visitsOf n rs
   pub listed : length (c′ .visits) ≡ length (c .visits)
-  pub discr : has (c′ .discr) ≡ (has (c .discr) || someEnum rs)
+  pub discr : has (c′ .discr) ≡ (has || someEnum rs)
   pub locals : length (c .state .locals) ≤ length (c′ .state .locals)
   pub kept : (i : ℕ) → i < length (c .state .locals) → getD (c′ .state .locals) i 0 ≡ getD (c .state .locals) i 0
 
@@ -49,20 +48,20 @@ tally-seq {c} {c₁} {rs} {rs′} f g =
       blocks = omega (arith, f .blocks, g .blocks);
       statements =
           let t = total-append statementsOf rs rs′ in
-          let d = discr-once (someEnum rs) (someEnum rs′) (c .discr) (c₁ .discr) (f .discr) in
-          let e : discrMade (someEnum (rs ++ rs′)) (c .discr) ≡ discrMade (someEnum rs || someEnum rs′) (c .discr) = ap (λ (x : Bool). discrMade x (c .discr)) (some-append rs rs′) in
+          let d = discr-once (someEnum rs) (someEnum rs′) in
+          let e : discrMade (someEnum (rs ++ rs′)) ≡ discrMade (someEnum rs || someEnum rs′) = ap (λ (x : Bool). discrMade x) (some-append rs rs′) in
           omega (arith, f .statements, g .statements, t, d, e);
       visits = λ n l.
           let i : n < length (c₁ .visits) = omega (arith, f .listed) in
           omega (arith, f .visits n l, g .visits n i, visits-append n rs rs′);
       listed = g .listed ∙ f .listed;
-      discr = g .discr ∙ ap (λ (x : Bool). x || someEnum rs′) (f .discr) ∙ or-assoc (has (c .discr)) (someEnum rs) (someEnum rs′) ∙ ap (λ (x : Bool). has (c .discr) || x) (sym (some-append rs rs′));
+     
       locals = le-trans (f .locals) (g .locals);
       kept = λ i l. g .kept i (lt-of-lt-of-le l (f .locals)) ∙ f .kept i l;
     }
 
 -- nothing made but locals
-plain-made : (d : DiscrTemp) → discrMade false d ≡ 0
+plain-made : → discrMade false d ≡ 0
 plain-made DiscrTemp.None = refl
 plain-made (DiscrTemp.Some l) = refl
 
@@ -72,10 +71,10 @@ unfolding total someEnum visitsOf
 tally-locals c st types m =
     record {
       blocks = let e : length (st .blocks) ≡ length (c .state .blocks) = ap (λ (x : List (List ℕ)). length x) (m .blocks) in omega arith;
-      statements = let e : length (st .statements) ≡ length (c .state .statements) = ap (λ (x : List (List ℕ)). length x) (m .statements) in omega (arith, plain-made (c .discr));
+      statements = let e : length (st .statements) ≡ length (c .state .statements) = ap (λ (x : List (List ℕ)). length x) (m .statements) in omega (arith, plain-made);
       visits = λ n l. omega arith;
       listed = refl;
-      discr = sym (or-false (has (c .discr)));
+     
       locals = let e : length (st .locals) ≡ length (c .state .locals) + length types = ap (λ (x : List ℕ). length x) (m .locals) ∙ length-append (c .state .locals) types in omega arith;
       kept = λ i l. ap (λ (x : List ℕ). getD x i 0) (m .locals) ∙ List·getD-append (c .state .locals) types 0 i l;
     }
@@ -86,10 +85,10 @@ unfolding total someEnum visitsOf
 tally-none c =
     record {
       blocks = omega arith;
-      statements = omega (arith, plain-made (c .discr));
+      statements = omega (arith, plain-made);
       visits = λ n l. omega arith;
       listed = refl;
-      discr = sym (or-false (has (c .discr)));
+     
       locals = le-refl _;
       kept = λ i l. refl;
     }
@@ -105,7 +104,7 @@ tally-shut {c′} (OptBlock.Some e) f =
       statements = omega (arith, f .statements, built .statements);
       visits = f .visits;
       listed = f .listed;
-      discr = f .discr;
+     
       locals = le-trans (f .locals) (built .locals);
       kept = λ i l. built .kept i (lt-of-lt-of-le l (f .locals)) ∙ f .kept i l;
     }
@@ -124,7 +123,7 @@ module _ (image bindings : List ℕ) (ctx : Ctx) (current : BasicBlockId) (r : O
         statements = omega (arith, c .statements);
         visits = c .visits;
         listed = s .went .listed;
-        discr = s .discr;
+       
         locals = s .went .locals;
         kept = s .went .kept;
       }

@@ -48,7 +48,7 @@ module _ (image bindings : List ℕ) (M : Mir) where
     pub env′ : Env
     pub entered : List ℕ
     pub through : Through image M l vs current (rest (ctx .state) M) env b (rest (ctx₁ .state) M) env′ entered
-    pub locals : (k : ℕ) → k < length (ctx .state .locals) → IsNotDiscr (ctx .discr) k → env′ k ≡ after bindings bs k (env k)
+    pub locals : (k : ℕ) → k < length (ctx .state .locals) → IsNotDiscr k → env′ k ≡ after bindings bs k (env k)
     pub trail : Trail (ctx .state) (ctx₁ .state) current entered b
 
   -- no value
@@ -97,13 +97,13 @@ module _ (image bindings : List ℕ) (M : Mir) where
 
     -- a parameter
     param-step : (q : Param) (qs : List Param) (l : ℕ) (v : Value) (vs : List Value) (ctx : Ctx) (current : BasicBlockId) (env : Env) (r : Out) → NamedParam image q →
-        Starts ctx current OptBlock.None → TypedFrom (ctx .state .locals) l (q ∷ qs) → SmallFrom l (q ∷ qs) → paramsFit image bindings (ctx .discr) (q ∷ qs) l (v ∷ vs) ≡ true →
+        Starts ctx current OptBlock.None → TypedFrom (ctx .state .locals) l (q ∷ qs) → SmallFrom l (q ∷ qs) → paramsFit image bindings (q ∷ qs) l (v ∷ vs) ≡ true →
         distinct (paramsBound image (q ∷ qs)) ≡ true → HeldFrom env l (v ∷ vs) → lowerParam image bindings (q .pattern) l ctx current ≡ ok r → GoesOn (mirOf (r .ctx .state)) M →
         Step l v vs ctx current env r (binds image (tree image (q .pattern)) (whole l) v)
     unfolding paramsBound own-walked
     param-step q qs l v vs ctx current env r named starts (there, is, typed) (i, small) fit differ (holds, held) =
         let pat = tree image (q .pattern) in
-        let ask = asked image bindings (ctx .discr) q l v (fit-first image bindings (ctx .discr) q qs l v vs fit) in
+        let ask = asked image bindings q l v (fit-first image bindings q qs l v vs fit) in
         param-case image bindings l ctx current (λ r. GoesOn (mirOf (r .ctx .state)) M → Step l v vs ctx current env r (binds image pat (whole l) v)) r (q .pattern)
         (λ own onward.
         let o = ask .owns own in
@@ -111,17 +111,17 @@ module _ (image bindings : List ℕ) (M : Mir) where
         (record { walk = own-walked ctx (current .0) env (o .binding) l v (starts .inside) (o .local) holds; held = held }))
         (λ r₁ other e₁ onward.
         let low = ask .lowered other in
-        let w = lowered-walks image bindings q l v ctx current r₁ M env image-valid image-bytes named starts there is (low .fitting) (low .unlisted) (ask .valued) (ask .matched) e₁ onward in
+        let w = lowered-walks image bindings q l v ctx current r₁ M env image-valid image-bytes named starts there is low (ask .valued) (ask .matched) e₁ onward in
         record {
           walk = w;
-          held = held-later image bindings ctx q l v low env (w .env′) (w .locals) qs (l + 1) vs (fit-rest image bindings (ctx .discr) q qs l v vs fit) typed small
+          held = held-later image bindings ctx q l v low env (w .env′) (w .locals) qs (l + 1) vs (fit-rest image bindings q qs l v vs fit) typed small
               (distinct-apart (names (boundIn image pat)) (paramsBound image qs) differ) held;
         })
 
     -- each parameter in order
     pub params-pass : (qs : List Param) (l : ℕ) (vs : List Value) (ctx : Ctx) (current : BasicBlockId) (env : Env) (r : Out) → paramsNamed image qs ≡ true →
         Starts ctx current OptBlock.None → TypedFrom (ctx .state .locals) l qs → SmallFrom l qs → WordsBelow bindings (length (ctx .state .locals)) →
-        paramsFit image bindings (ctx .discr) qs l vs ≡ true → distinct (paramsBound image qs) ≡ true → HeldFrom env l vs → lowerParams image bindings qs l ctx current ≡ ok r →
+        paramsFit image bindings qs l vs ≡ true → distinct (paramsBound image qs) ≡ true → HeldFrom env l vs → lowerParams image bindings qs l ctx current ≡ ok r →
         GoesOn (mirOf (r .ctx .state)) M → Passed ctx (current .0) env l vs (paramsBind image qs l vs) (r .ctx) (r .then .0)
     unfolding lowerParams paramsFit paramsBind paramsBound
     params-pass [] l [] ctx current env r named starts typed small words fit differ held e onward =
@@ -136,7 +136,7 @@ module _ (image bindings : List ℕ) (M : Mir) where
         let step = param-step q qs l v vs ctx current env r₁ (named-first image q qs named) starts typed small fit differ held e₁ (goes-on-trans on onward) in
         let s = param-shares image bindings (q .pattern) l ctx current r₁ starts e₁ in
         let below = present-below bindings (length (ctx .state .locals)) words in
-        let later = fit-later image bindings ctx (r₁ .ctx) s below qs (l + 1) vs (typed .2) (fit-rest image bindings (ctx .discr) q qs l v vs fit) in
+        let later = fit-later image bindings ctx (r₁ .ctx) s below qs (l + 1) vs (typed .2) (fit-rest image bindings q qs l v vs fit) in
         passed-next (held .0) (step .walk)
         (params-pass qs (l + 1) vs (r₁ .ctx) (r₁ .then) (step .walk .env′) r (named-rest image q qs named) (p .ready)
         (typed-grown (ctx .state .locals) (r₁ .ctx .state .locals) (p .worked .moreLocals) (l + 1) qs (p .worked .locals) (typed .2)) (small .1)

@@ -30,9 +30,7 @@ use Rattle.meaning.specs.Running.{Env, Scene, value, here}
 use Rattle.meaning.specs.Matching.{matches}
 use Rattle.meaning.specs.Binding.{binds}
 use Rattle.meaning.specs.Fits.{fits}
-use Rattle.meaning.specs.Differences.{asTheReference}
 use Rattle.correctness.specs.Demand2.{Handed, Fitting}
-use Rattle.correctness.proofs.Reading.{reads-the-same}
 use Rattle.correctness.proofs.Walking.{rest, rest-same, Shares, shares-seq, Walked, Lands, walked-later}
 use Rattle.correctness.proofs.Landing.{led-on}
 use Rattle.correctness.proofs.Sharing.{shares-same}
@@ -90,17 +88,16 @@ param-shares image bindings p l ctx current r s e =
 -- a pattern that is lowered, on a value that matches
 pub lowered-walks : (image bindings : List ℕ) (q : Param) (l : ℕ) (v : Value) (ctx : Ctx) (current : BasicBlockId) (r : Out) (M : Mir) (env : Env) → valid image ≡ true →
     ((i : ℕ) → getD image i 0 < 256) → NamedParam image q → Starts ctx current OptBlock.None → l < length (ctx .state .locals) → getD (ctx .state .locals) l 0 ≡ q .ty →
-    fits image bindings l (ctx .discr) (q .ty) (tree image (q .pattern)) ≡ true → asTheReference (tree image (q .pattern)) ≡ true → valueFits image v (q .ty) ≡ true →
+    fits image bindings l (q .ty) (tree image (q .pattern)) ≡ true → valueFits image v (q .ty) ≡ true →
     matches image (tree image (q .pattern)) v ≡ true → patternMatch image bindings (tree image (q .pattern)) ctx current OptBlock.None (localPlace (record { 0 = l })) ≡ ok r →
     GoesOn (mirOf (shutOut r .ctx .state)) M →
     Walked (sceneAt image l v) bindings M ctx (current .0) env (binds image (tree image (q .pattern)) (whole l) v) (shutOut r .ctx) (r .then .0) (rest (shutOut r .ctx .state) M)
 unfolding localPlace projectionOf
-lowered-walks image bindings q l v ctx current r M env valid bytes named starts there typed fit unlisted valued m e onward =
+lowered-walks image bindings q l v ctx current r M env valid bytes named starts there typed fit valued m e onward =
     let pat = tree image (q .pattern) in
     let place = localPlace (record { 0 = l }) in
     let left = match-leaves image bindings pat ctx current OptBlock.None place r starts e in
     let stays = shut-stays (r .ctx) (r .then) (r .else) left in
-    let same = reads-the-same pat unlisted in
     let handed : Handed image bindings ctx current OptBlock.None place (q .ty) = record {
       starts = starts;
       elements = refl;
@@ -112,7 +109,6 @@ lowered-walks image bindings q l v ctx current r M env valid bytes named starts 
     let fitting : Fitting image bindings ctx place (q .ty) pat v = record { image-valid = valid; image-bytes = bytes; pattern = fit; value = valued } in
     let landed = lands image bindings pat ctx current OptBlock.None place (q .ty) v handed (tree-drawn image valid bytes (q .pattern) (named .pattern)) fitting r e M
     (goes-on-trans (stays .goes) onward) env in
-    let at = subst (λ (x : Pat). Lands (sceneAt image l v) bindings M ctx (current .0) env (binds image x (whole l) v) r (matches image x v)) same landed in
-    let w = led-on (subst (λ (b : Bool). Lands (sceneAt image l v) bindings M ctx (current .0) env (binds image pat (whole l) v) r b) m at) in
+    let w = led-on (subst (λ (b : Bool). Lands (sceneAt image l v) bindings M ctx (current .0) env (binds image pat (whole l) v) r b) m landed) in
     subst (λ (left : List Line). Walked (sceneAt image l v) bindings M ctx (current .0) env (binds image pat (whole l) v) (shutOut r .ctx) (r .then .0) left)
     (sym (rest-same (r .ctx .state) (shutOut r .ctx .state) M (stays .statements))) (walked-later w (stays .goes) (stays .blocks))

@@ -8,7 +8,6 @@ use Rattle.row_tables.specs.Rows.{zeros}
 use Rattle.image.specs.Tables.{patternCount, bindingCount}
 use Rattle.image.specs.Lists.{upFrom}
 use Rattle.mir.specs.declared.BasicBlockId.{BasicBlockId}
-use Rattle.lower.specs.declared.temps.DiscrTemp.{DiscrTemp}
 use Rattle.views.specs.Views.{Mir, mirOf}
 use Rattle.pattern_matching.specs.Walking.{Ctx, Walk, ok, refused}
 use Rattle.lowered_params.specs.declared.SelfParam.{SelfParam}
@@ -20,7 +19,7 @@ use Rattle.param_runs.specs.Through.{allFit, bindingsDiffer}
 -- the start
 unfoldable pub start : List ℕ → Ctx
 start image =
-    record { state = record { blocks = zeros 12 ∷ []; statements = []; locals = []; scopes = 0 ∷ []; entries = [] }; discr = DiscrTemp.None; visits = zeros (patternCount image) }
+    record { state = record { blocks = zeros 12 ∷ []; statements = []; locals = []; scopes = 0 ∷ []; entries = [] }; visits = zeros (patternCount image) }
 
 -- no binding has a local
 unfoldable pub unbound : List ℕ → List ℕ
@@ -58,4 +57,4 @@ boundAfter (refusal numbers) = []
 -- the parameters of a corner fit its values, and no binding stands in two of them
 unfoldable pub cornerFits : Row → Bool
 cornerFits row =
-    allFit (row .image) (boundAfter (row .wanted)) DiscrTemp.None (row .self) (row .params) 0 (row .values) && bindingsDiffer (row .image) (row .self) (row .params)
+    allFit (row .image) (boundAfter (row .wanted)) (row .self) (row .params) 0 (row .values) && bindingsDiffer (row .image) (row .self) (row .params)

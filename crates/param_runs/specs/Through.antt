@@ -13,7 +13,6 @@ use Rattle.image.specs.Valid.{valid}
 use Rattle.image.specs.Tree.{Pat, PatOpt, no, sub, tree}
 use Rattle.mir.specs.declared.BasicBlockId.{BasicBlockId}
 use Rattle.state.specs.State.{countsOf}
-use Rattle.lower.specs.declared.temps.DiscrTemp.{DiscrTemp}
 use Rattle.lower.specs.declared.merging.OptBlock.{OptBlock}
 use Rattle.views.specs.Views.{Path, Line, Mir}
 use Rattle.pattern_matching.specs.Walking.{Ctx}
@@ -28,8 +27,7 @@ use Rattle.meaning.specs.Matching.{matches, Bound}
 use Rattle.meaning.specs.Binding.{binds}
 use Rattle.meaning.specs.Fit.{boundIn}
 use Rattle.meaning.specs.Fits.{fits}
-use Rattle.meaning.specs.Differences.{asTheReference}
-use Rattle.correctness.specs.Demand2.{IsNotDiscr, after, Distinct}
+use Rattle.correctness.specs.Demand2.{after, Distinct}
 use Rattle.param_runs.specs.Returned.{ownLocal}
 
 -- a local as a place
@@ -65,26 +63,26 @@ plain (Pat.Box h) = false
 plain (Pat.Deref h) = false
 
 module _ (image : List ℕ) where
-  -- a parameter fits, whose local is l: one that needs nothing is a plain `x`, and any other one is a pattern that fits, outside the listed differences
-  unfoldable pub patternFits : List ℕ → DiscrTemp → Pat → ℕ → ℕ → Bool
-  patternFits bindings discr pat l t = cond (ownLocal bindings pat l) (plain pat) (fits image bindings l discr t pat && asTheReference pat)
+  -- a parameter fits, whose local is l: one that needs nothing is a plain `x`, and any other one is a pattern that fits
+  unfoldable pub patternFits : List ℕ → Pat → ℕ → ℕ → Bool
+  patternFits bindings pat l t = cond (ownLocal bindings pat l) (plain pat) (fits image bindings l t pat)
 
   -- and its value is of its type, and matches
-  unfoldable pub paramFits : List ℕ → DiscrTemp → Param → ℕ → Value → Bool
-  paramFits bindings discr q l v = patternFits bindings discr (tree image (q .pattern)) l (q .ty) && valueFits image v (q .ty) && matches image (tree image (q .pattern)) v
+  unfoldable pub paramFits : List ℕ → Param → ℕ → Value → Bool
+  paramFits bindings q l v = patternFits bindings (tree image (q .pattern)) l (q .ty) && valueFits image v (q .ty) && matches image (tree image (q .pattern)) v
 
   -- each parameter has its value; the local of the first is l, and the others follow
-  unfoldable pub paramsFit : List ℕ → DiscrTemp → List Param → ℕ → List Value → Bool
-  paramsFit bindings discr [] l [] = true
-  paramsFit bindings discr [] l (v ∷ vs) = false
-  paramsFit bindings discr (q ∷ qs) l [] = false
-  paramsFit bindings discr (q ∷ qs) l (v ∷ vs) = paramFits bindings discr q l v && paramsFit bindings discr qs (l + 1) vs
+  unfoldable pub paramsFit : List ℕ → List Param → ℕ → List Value → Bool
+  paramsFit bindings [] l [] = true
+  paramsFit bindings [] l (v ∷ vs) = false
+  paramsFit bindings (q ∷ qs) l [] = false
+  paramsFit bindings (q ∷ qs) l (v ∷ vs) = paramFits bindings q l v && paramsFit bindings qs (l + 1) vs
 
   -- with self's value before the others, if there is one
-  unfoldable pub allFit : List ℕ → DiscrTemp → SelfParam → List Param → ℕ → List Value → Bool
-  allFit bindings discr SelfParam.None params l vs = paramsFit bindings discr params l vs
-  allFit bindings discr (SelfParam.Some b ty) params l [] = false
-  allFit bindings discr (SelfParam.Some b ty) params l (v ∷ vs) = paramsFit bindings discr params (l + 1) vs
+  unfoldable pub allFit : List ℕ → SelfParam → List Param → ℕ → List Value → Bool
+  allFit bindings SelfParam.None params l vs = paramsFit bindings params l vs
+  allFit bindings (SelfParam.Some b ty) params l [] = false
+  allFit bindings (SelfParam.Some b ty) params l (v ∷ vs) = paramsFit bindings params (l + 1) vs
 
   -- what the parameters bind, by the Reference, each of its own value
   unfoldable pub paramsBind : List Param → ℕ → List Value → List Bound
@@ -141,7 +139,7 @@ pub record Handed (image : List ℕ) (self : SelfParam) (params : List Param) (b
   pub starts : Starts ctx current OptBlock.None
 
 -- The run through the values in the body M, from the block current behind the lines that there were, comes to the end of the block returned and enters no block
--- twice. Then every local that there was before the first parameter was lowered, but the discriminant's, holds what all parameters bind, or what it held.
+-- twice. Then every local that there was before the first parameter was lowered holds what all parameters bind, or what it held.
 pub record ComesThrough (image : List ℕ) (self : SelfParam) (params : List Param) (bindings : List ℕ) (ctx : Ctx) (current : BasicBlockId) (r : ParamsOut) (M : Mir) (vs : List Value) (env : Env) : Type 0 where
   -- what the locals hold then
   pub env′ : Env
@@ -149,5 +147,5 @@ pub record ComesThrough (image : List ℕ) (self : SelfParam) (params : List Par
   pub through : Through image M (length (ctx .state .locals)) vs (current .0) (drop (length (ctx .state .statements)) (M .lines)) env
       (r .then .0) (drop (length (r .ctx .state .statements)) (M .lines)) env′ entered
   pub once : Distinct (current .0 ∷ entered)
-  pub locals : (l : ℕ) → l < madeCount (declare image self params (record { state = ctx .state; bindings = bindings })) → IsNotDiscr (ctx .discr) l →
+  pub locals : (l : ℕ) → l < madeCount (declare image self params (record { state = ctx .state; bindings = bindings })) →
       env′ l ≡ after (r .bindings) (boundBy image self params (length (ctx .state .locals)) vs) l (env l)

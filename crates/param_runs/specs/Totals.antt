@@ -6,13 +6,12 @@ use mathlib.Core.List.{List, [], _∷_, _++_}
 use lib.ListN.{length, getD}
 use Rattle.image.specs.Tree.{tree}
 use Rattle.place.specs.declared.place_ty.PlaceTy.{PlaceTy}
-use Rattle.lower.specs.declared.temps.DiscrTemp.{DiscrTemp}
 use Rattle.lower.specs.declared.merging.OptBlock.{OptBlock}
 use Rattle.pattern_matching.specs.Walking.{Ctx}
 use Rattle.lowered_params.specs.declared.SelfParam.{SelfParam}
 use Rattle.lowered_params.specs.Params.{Param, ParamsOut, selfCount}
 use Rattle.counting.specs.Reaching.{Reached}
-use Rattle.counting.specs.Counting.{total, reachedFrom, visitsOf, newBlocks, statementsOf, someEnum, discrMade}
+use Rattle.counting.specs.Counting.{total, reachedFrom, visitsOf, newBlocks, statementsOf}
 use Rattle.param_runs.specs.Returned.{ownLocal}
 
 module _ (image bindings : List ℕ) where
@@ -28,9 +27,9 @@ module _ (image bindings : List ℕ) where
   paramsBlocks (q ∷ qs) l =
       cond (ownLocal bindings (tree image (q .pattern)) l) 0 (newBlocks image (tree image (q .pattern)) (PlaceTy.Ty (q .ty)) OptBlock.None) + paramsBlocks qs (l + 1)
 
-  -- the total of their new statements: the discriminant local is made once, at the first test of an enum, where none was handed in
-  unfoldable pub paramsStatements : List Param → ℕ → DiscrTemp → ℕ
-  paramsStatements qs l discr = total statementsOf (paramsReached qs l) + discrMade (someEnum (paramsReached qs l)) discr
+  -- the total of their new statements
+  unfoldable pub paramsStatements : List Param → ℕ → ℕ
+  paramsStatements qs l = total statementsOf (paramsReached qs l)
 
 -- the local of the first parameter: behind self's, if there is one, which is the next one when the call comes
 abbrev pub firstLocal : SelfParam → Ctx → ℕ
@@ -40,6 +39,6 @@ firstLocal self ctx = length (ctx .state .locals) + selfCount self
 pub record ParamsCounted (image : List ℕ) (self : SelfParam) (params : List Param) (ctx : Ctx) (r : ParamsOut) : Type 0 where
   -- the new blocks and statements are the totals of the lowered parameters' counts
   pub blocks : length (r .ctx .state .blocks) ≡ length (ctx .state .blocks) + paramsBlocks image (r .bindings) params (firstLocal self ctx)
-  pub statements : length (r .ctx .state .statements) ≡ length (ctx .state .statements) + paramsStatements image (r .bindings) params (firstLocal self ctx) (ctx .discr)
+  pub statements : length (r .ctx .state .statements) ≡ length (ctx .state .statements) + paramsStatements image (r .bindings) params (firstLocal self ctx)
   -- and so are the visits to each pattern
   pub visits : (n : ℕ) → n < length (ctx .visits) → getD (r .ctx .visits) n 0 ≡ getD (ctx .visits) n 0 + visitsOf n (paramsReached image (r .bindings) params (firstLocal self ctx))

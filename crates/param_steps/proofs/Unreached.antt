@@ -18,7 +18,6 @@ use Rattle.state.specs.Steps.{setTerminator}
 use Rattle.state.specs.Contracts.{Ready, Own, Answers}
 use Rattle.state.proofs.Answering.{kept-trans}
 use Rattle.state.proofs.Calls.{set-answers}
-use Rattle.lower.specs.declared.temps.DiscrTemp.{DiscrTemp}
 use Rattle.lower.specs.declared.merging.OptBlock.{OptBlock}
 use Rattle.pattern_matching.specs.Walking.{Ctx, Out, Walk, out}
 use Rattle.walks.specs.declared.Lowered.{Lowered}
@@ -38,33 +37,33 @@ new-else c current b (inl e) = absurd (let z : _≡_ {A = ℕ} 0 1 = cc in omega
 new-else c current b (inr new) = inr new
 
 -- the else b of an answer is shut: bl is the blocks' table before, and bl₁ after
-module _ (c : Counts) (d : DiscrTemp) (then b : BasicBlockId) (bl s l e : List ℕ) {bl₁ : List ℕ} (after : bl₁ ≡ stored bl (12 * b .0) (termRow Terminator.Unreachable)) (there : b .0 < c .blocks) where
+module _ (c : Counts) (then b : BasicBlockId) (bl s l e : List ℕ) {bl₁ : List ℕ} (after : bl₁ ≡ stored bl (12 * b .0) (termRow Terminator.Unreachable)) (there : b .0 < c .blocks) where
   else-shut : (scopes visits : List ℕ) → Ready (body bl s l scopes e) c →
-      Answers (body bl s l scopes e) c (b .0) (body bl₁ s l scopes e) (some c) (walkOf (Lowered.Done c d then OptBlock.None) (body bl₁ s l scopes e) visits)
-      (shutting (record { ctx = ctxOf (body bl s l scopes e) c d visits; then = then; else = OptBlock.Some b }))
+      Answers (body bl s l scopes e) c (b .0) (body bl₁ s l scopes e) (some c) (walkOf (Lowered.Done c then OptBlock.None) (body bl₁ s l scopes e) visits)
+      (shutting (record { ctx = ctxOf (body bl s l scopes e) c visits; then = then; else = OptBlock.Some b }))
   unfolding shutElse
   else-shut scopes visits R =
       let E = set-answers bl s l scopes e c b Terminator.Unreachable after there R in
       let same : decode (body bl₁ s l scopes e) c ≡ setTerminator (decode (body bl s l scopes e) c) b Terminator.Unreachable = cc (E .says) in
-      record { says = ap (λ (st : State). out (record { state = st; discr = d; visits = visits }) then OptBlock.None) same; goes = E .goes; kept = E .kept }
+      record { says = ap (λ (st : State). out (record { state = st; visits = visits }) then OptBlock.None) same; goes = E .goes; kept = E .kept }
 
-module _ {defined : Ctx → Walk Out} {c : Counts} {discr : DiscrTemp} {current : BasicBlockId} {t₀ : Lent} {v₀ v : List ℕ} (P : Primed t₀ c) where
+module _ {defined : Ctx → Walk Out} {c : Counts} {current : BasicBlockId} {t₀ : Lent} {v₀ v : List ℕ} (P : Primed t₀ c) where
   -- the walk is refused
-  shut-refused : {e : MirLowerError} {p : PatId} {t : Lent} → Walks defined c discr current OptBlock.None t₀ v₀ (Lowered.Refused e p) t v →
-      Walks (λ ctx. shut (defined ctx)) c discr current OptBlock.None t₀ v₀ (Lowered.Refused e p) t v
+  shut-refused : {e : MirLowerError} {p : PatId} {t : Lent} → Walks defined c current OptBlock.None t₀ v₀ (Lowered.Refused e p) t v →
+      Walks (λ ctx. shut (defined ctx)) c current OptBlock.None t₀ v₀ (Lowered.Refused e p) t v
   unfolding shut
   shut-refused W = walks-stops shutting W
 
   -- it has no else
-  shut-none : {c₁ : Counts} {d : DiscrTemp} {then : BasicBlockId} {t : Lent} → Walks defined c discr current OptBlock.None t₀ v₀ (Lowered.Done c₁ d then OptBlock.None) t v →
-      Walks (λ ctx. shut (defined ctx)) c discr current OptBlock.None t₀ v₀ (Lowered.Done c₁ d then OptBlock.None) t v
+  shut-none : {c₁ : Counts} {then : BasicBlockId} {t : Lent} → Walks defined c current OptBlock.None t₀ v₀ (Lowered.Done c₁ then OptBlock.None) t v →
+      Walks (λ ctx. shut (defined ctx)) c current OptBlock.None t₀ v₀ (Lowered.Done c₁ then OptBlock.None) t v
   unfolding shut shutElse
   shut-none W = walks-then W P shutting (lowers-walks v (lowers-skips (λ ctx. refl) (W .onward .begins)))
 
   -- it has one
-  shut-some : {c₁ : Counts} {d : DiscrTemp} {then b : BasicBlockId} {bl s l e bl₁ : List ℕ} →
-      Walks defined c discr current OptBlock.None t₀ v₀ (Lowered.Done c₁ d then (OptBlock.Some b)) (lent bl s l e) v → bl₁ ≡ stored bl (12 * b .0) (termRow Terminator.Unreachable) →
-      Walks (λ ctx. shut (defined ctx)) c discr current OptBlock.None t₀ v₀ (Lowered.Done c₁ d then OptBlock.None) (lent bl₁ s l e) v
+  shut-some : {c₁ : Counts} {then b : BasicBlockId} {bl s l e bl₁ : List ℕ} →
+      Walks defined c current OptBlock.None t₀ v₀ (Lowered.Done c₁ then (OptBlock.Some b)) (lent bl s l e) v → bl₁ ≡ stored bl (12 * b .0) (termRow Terminator.Unreachable) →
+      Walks (λ ctx. shut (defined ctx)) c current OptBlock.None t₀ v₀ (Lowered.Done c₁ then OptBlock.None) (lent bl₁ s l e) v
   unfolding shut
   shut-some {c₁ = c₁} {d = d} {then = then} {b = b} {bl = bl} {s = s} {l = l} {e = e} {bl₁ = bl₁} W after =
       let there = W .onward .begins .else in
@@ -85,14 +84,14 @@ module _ {defined : Ctx → Walk Out} {c : Counts} {discr : DiscrTemp} {current 
       }
 
   -- any answer x: r is the one that is handed on, and bl₁ lies in the blocks' table then
-  pub shut-walks : (x : Lowered) {r : Lowered} {bl s l e bl₁ : List ℕ} → Walks defined c discr current OptBlock.None t₀ v₀ x (lent bl s l e) v → r ≡ shutAnswer x → bl₁ ≡ shutBlocks x bl →
-      Walks (λ ctx. shut (defined ctx)) c discr current OptBlock.None t₀ v₀ r (lent bl₁ s l e) v
+  pub shut-walks : (x : Lowered) {r : Lowered} {bl s l e bl₁ : List ℕ} → Walks defined c current OptBlock.None t₀ v₀ x (lent bl s l e) v → r ≡ shutAnswer x → bl₁ ≡ shutBlocks x bl →
+      Walks (λ ctx. shut (defined ctx)) c current OptBlock.None t₀ v₀ r (lent bl₁ s l e) v
   shut-walks (Lowered.Refused err p) W is after = rw (is, after) (shut-refused W)
-  shut-walks (Lowered.Done c₁ d then OptBlock.None) W is after = rw (is, after) (shut-none W)
-  shut-walks (Lowered.Done c₁ d then (OptBlock.Some b)) W is after = rw is (shut-some W after)
+  shut-walks (Lowered.Done c₁ then OptBlock.None) W is after = rw (is, after) (shut-none W)
+  shut-walks (Lowered.Done c₁ then (OptBlock.Some b)) W is after = rw is (shut-some W after)
 
   -- the else of an answer has a row
-  pub shuttable-of : (x : Lowered) {els : OptBlock} {t : Lent} → Walks defined c discr current els t₀ v₀ x t v → Shuttable x
+  pub shuttable-of : (x : Lowered) {els : OptBlock} {t : Lent} → Walks defined c current els t₀ v₀ x t v → Shuttable x
   shuttable-of (Lowered.Refused err p) W = tt
-  shuttable-of (Lowered.Done c₁ d then OptBlock.None) W = tt
-  shuttable-of (Lowered.Done c₁ d then (OptBlock.Some b)) W = le-trans (W .onward .begins .else) (W .leaves P .0 .0 .block-count)
+  shuttable-of (Lowered.Done c₁ then OptBlock.None) W = tt
+  shuttable-of (Lowered.Done c₁ then (OptBlock.Some b)) W = le-trans (W .onward .begins .else) (W .leaves P .0 .0 .block-count)

@@ -9,7 +9,7 @@ use Rattle.walks.specs.declared.Lowered.{Lowered}
 
 -- the answer after its else was shut: it has none
 abbrev pub shutAnswer : Lowered → Lowered
-shutAnswer (Lowered.Done c discr then els) = Lowered.Done c discr then OptBlock.None
+shutAnswer (Lowered.Done c then els) = Lowered.Done c then OptBlock.None
 shutAnswer (Lowered.Refused e p) = Lowered.Refused e p
 
 -- the blocks' table: the else, if there is one, is Unreachable
@@ -18,7 +18,7 @@ shutBy OptBlock.None blocks = blocks
 shutBy (OptBlock.Some b) blocks = stored blocks (12 * b .0) (termRow Terminator.Unreachable)
 
 abbrev pub shutBlocks : Lowered → List ℕ → List ℕ
-shutBlocks (Lowered.Done c discr then els) blocks = shutBy els blocks
+shutBlocks (Lowered.Done c then els) blocks = shutBy els blocks
 shutBlocks (Lowered.Refused e p) blocks = blocks
 
 -- the else has a row
@@ -27,5 +27,5 @@ HasRow OptBlock.None = Unit
 HasRow (OptBlock.Some b) = b .0 < 512
 
 abbrev pub Shuttable : Lowered → Type 0
-Shuttable (Lowered.Done c discr then els) = HasRow els
+Shuttable (Lowered.Done c then els) = HasRow els
 Shuttable (Lowered.Refused e p) = Unit

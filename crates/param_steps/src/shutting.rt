@@ -16,11 +16,11 @@ pub fn shut(blocks: &mut [u16], lowered: Lowered) -> Lowered
 {
     match lowered {
         Lowered::Refused(e, p) => Lowered::Refused(e, p),
-        Lowered::Done(c, d, then, other) => match other {
-            OptBlock::None => Lowered::Done(c, d, then, OptBlock::None),
+        Lowered::Done(c, then, other) => match other {
+            OptBlock::None => Lowered::Done(c, then, OptBlock::None),
             OptBlock::Some(b) => {
                 set_terminator(blocks, b, Terminator::Unreachable);
-                Lowered::Done(c, d, then, OptBlock::None)
+                Lowered::Done(c, then, OptBlock::None)
             }
         },
     }

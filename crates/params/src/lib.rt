@@ -3,7 +3,6 @@
 pub mod lowering; // lowering.rt: the parameters, on values that were looked at
 
 use image::Tables;
-use lower::temps::DiscrTemp;
 use lower_calls::opening::Opened;
 use lower_calls::opening::block_row;
 use lower_calls::opening::clear_above;
@@ -38,13 +37,12 @@ fn params_step(
     entries: &mut [u16],
     visits: &mut [u16],
     counts: Counts,
-    discr: DiscrTemp,
     words: &[u16],
     receiver: SelfParam,
     current: BasicBlockId,
 ) -> ParamsCall
-    requires { ⌜ ParamsTaken (now image) tables (now words) receiver (now bindings) (body (now blocks) (now statements) (now locals) (now scopes) (now entries)) (now visits) counts discr current ⌝ }
-    ensures { λ r. ⌜ GivesParams (now (bindings .entry)) (body (now (blocks .entry)) (now (statements .entry)) (now (locals .entry)) (now (scopes .entry)) (now (entries .entry))) (now (visits .entry)) counts (walked (lowerParamsAndBindings (now (image .entry)) receiver (paramsOf (now (words .entry))) (now (bindings .entry)) (ctxOf (body (now (blocks .entry)) (now (statements .entry)) (now (locals .entry)) (now (scopes .entry)) (now (entries .entry))) counts discr (zeros 512)) current)) r (now (bindings .exit)) (body (now (blocks .exit)) (now (statements .exit)) (now (locals .exit)) (now (scopes .exit)) (now (entries .exit))) (now (visits .exit)) ⌝ }
+    requires { ⌜ ParamsTaken (now image) tables (now words) receiver (now bindings) (body (now blocks) (now statements) (now locals) (now scopes) (now entries)) (now visits) counts current ⌝ }
+    ensures { λ r. ⌜ GivesParams (now (bindings .entry)) (body (now (blocks .entry)) (now (statements .entry)) (now (locals .entry)) (now (scopes .entry)) (now (entries .entry))) (now (visits .entry)) counts (walked (lowerParamsAndBindings (now (image .entry)) receiver (paramsOf (now (words .entry))) (now (bindings .entry)) (ctxOf (body (now (blocks .entry)) (now (statements .entry)) (now (locals .entry)) (now (scopes .entry)) (now (entries .entry))) counts (zeros 512)) current)) r (now (bindings .exit)) (body (now (blocks .exit)) (now (statements .exit)) (now (locals .exit)) (now (scopes .exit)) (now (entries .exit))) (now (visits .exit)) ⌝ }
 {
     let row = block_row(blocks, current);
     let saved = saved_words(bindings);
@@ -60,12 +58,11 @@ fn params_step(
         entries,
         visits,
         counts,
-        discr,
         words,
         receiver,
         current,
     ) {
-        Lowered::Done(c, d, then, other) => ParamsCall::Lowered(c, d, then, LocalId(counts.locals)),
+        Lowered::Done(c, then, other) => ParamsCall::Lowered(c, then, LocalId(counts.locals)),
         Lowered::Refused(e, q) => {
             put_back(blocks, current, row);
             clear_above(blocks, statements, locals, scopes, entries, counts);
@@ -88,12 +85,11 @@ pub fn lower_params_and_bindings(
     entries: &mut [u16],
     visits: &mut [u16],
     counts: Counts,
-    discr: DiscrTemp,
     params: &[u16],
     self_param: SelfParam,
     current: BasicBlockId,
 ) -> ParamsCall
-    ensures { λ r. ⌜ GivesParams (now (bindings .entry)) (body (now (blocks .entry)) (now (statements .entry)) (now (locals .entry)) (now (scopes .entry)) (now (entries .entry))) (now (visits .entry)) counts (paramsCall (now (image .entry)) (now (params .entry)) «self_param» (now (bindings .entry)) (body (now (blocks .entry)) (now (statements .entry)) (now (locals .entry)) (now (scopes .entry)) (now (entries .entry))) (now (visits .entry)) counts discr current) r (now (bindings .exit)) (body (now (blocks .exit)) (now (statements .exit)) (now (locals .exit)) (now (scopes .exit)) (now (entries .exit))) (now (visits .exit)) ⌝ }
+    ensures { λ r. ⌜ GivesParams (now (bindings .entry)) (body (now (blocks .entry)) (now (statements .entry)) (now (locals .entry)) (now (scopes .entry)) (now (entries .entry))) (now (visits .entry)) counts (paramsCall (now (image .entry)) (now (params .entry)) «self_param» (now (bindings .entry)) (body (now (blocks .entry)) (now (statements .entry)) (now (locals .entry)) (now (scopes .entry)) (now (entries .entry))) (now (visits .entry)) counts current) r (now (bindings .exit)) (body (now (blocks .exit)) (now (statements .exit)) (now (locals .exit)) (now (scopes .exit)) (now (entries .exit))) (now (visits .exit)) ⌝ }
 {
     match open_params(
         image,
@@ -107,7 +103,6 @@ pub fn lower_params_and_bindings(
         entries,
         visits,
         counts,
-        discr,
         current,
     ) {
         Opened::BadImage => ParamsCall::BadImage,
@@ -123,7 +118,6 @@ pub fn lower_params_and_bindings(
             entries,
             visits,
             counts,
-            discr,
             params,
             self_param,
             current,

@@ -2,7 +2,6 @@
 use image::PatId;
 use image::Tables;
 use lower::merging::OptBlock;
-use lower::temps::DiscrTemp;
 use lowered_params::SelfParam;
 use mir::BasicBlockId;
 use mir::Counts;
@@ -37,17 +36,16 @@ fn lower_param(
     entries: &mut [u16],
     visits: &mut [u16],
     counts: Counts,
-    discr: DiscrTemp,
     p: PatId,
     l: LocalId,
     current: BasicBlockId,
 ) -> Lowered
     requires { ⌜ Walkable (now image) tables (now bindings) (lent (now blocks) (now statements) (now locals) (now entries)) (now visits) counts current OptBlock.None (localPlace l) × (p .0 < patternCount (now image)) ⌝ }
-    ensures { λ r. ⌜ Walks (λ ctx. lowerParam (now (image .entry)) (now (bindings .entry)) (p .0) (l .0) ctx current) counts discr current OptBlock.None (lent (now (blocks .entry)) (now (statements .entry)) (now (locals .entry)) (now (entries .entry))) (now (visits .entry)) r (lent (now (blocks .exit)) (now (statements .exit)) (now (locals .exit)) (now (entries .exit))) (now (visits .exit)) ⌝ }
+    ensures { λ r. ⌜ Walks (λ ctx. lowerParam (now (image .entry)) (now (bindings .entry)) (p .0) (l .0) ctx current) counts current OptBlock.None (lent (now (blocks .entry)) (now (statements .entry)) (now (locals .entry)) (now (entries .entry))) (now (visits .entry)) r (lent (now (blocks .exit)) (now (statements .exit)) (now (locals .exit)) (now (entries .exit))) (now (visits .exit)) ⌝ }
 {
     match param_owned(image, tables, bindings, p, l) {
         Owned::Refused(e) => Lowered::Refused(e, p),
-        Owned::Own => Lowered::Done(counts, discr, current, OptBlock::None),
+        Owned::Own => Lowered::Done(counts, current, OptBlock::None),
         Owned::Other => {
             let whole = Place {
                 local: l,
@@ -64,7 +62,6 @@ fn lower_param(
                 entries,
                 visits,
                 counts,
-                discr,
                 p,
                 current,
                 OptBlock::None,
@@ -86,16 +83,14 @@ fn lower_params(
     entries: &mut [u16],
     visits: &mut [u16],
     counts: Counts,
-    discr: DiscrTemp,
     words: &[u16],
     first: u16,
     current: BasicBlockId,
 ) -> Lowered
     requires { ⌜ ParamsWalkable (now image) tables (now words) (now bindings) (lent (now blocks) (now statements) (now locals) (now entries)) (now visits) counts current first ⌝ }
-    ensures { λ r. ⌜ Walks (λ ctx. lowerParams (now (image .entry)) (now (bindings .entry)) (paramsOf (now (words .entry))) first ctx current) counts discr current OptBlock.None (lent (now (blocks .entry)) (now (statements .entry)) (now (locals .entry)) (now (entries .entry))) (now (visits .entry)) r (lent (now (blocks .exit)) (now (statements .exit)) (now (locals .exit)) (now (entries .exit))) (now (visits .exit)) ⌝ }
+    ensures { λ r. ⌜ Walks (λ ctx. lowerParams (now (image .entry)) (now (bindings .entry)) (paramsOf (now (words .entry))) first ctx current) counts current OptBlock.None (lent (now (blocks .entry)) (now (statements .entry)) (now (locals .entry)) (now (entries .entry))) (now (visits .entry)) r (lent (now (blocks .exit)) (now (statements .exit)) (now (locals .exit)) (now (entries .exit))) (now (visits .exit)) ⌝ }
 {
     let mut c = counts;
-    let mut d = discr;
     let mut here = current;
     let mut l = first;
     let mut k = 0;
@@ -111,7 +106,6 @@ fn lower_params(
             entries,
             visits,
             c,
-            d,
             PatId(words[k]),
             LocalId(l),
             here,
@@ -119,9 +113,8 @@ fn lower_params(
             Lowered::Refused(e, q) => {
                 return Lowered::Refused(e, q);
             }
-            Lowered::Done(c1, d1, then, other) => {
+            Lowered::Done(c1, then, other) => {
                 c = c1;
-                d = d1;
                 here = then;
             }
         }
@@ -129,7 +122,7 @@ fn lower_params(
         k += 2;
         left -= 1;
     }
-    Lowered::Done(c, d, here, OptBlock::None)
+    Lowered::Done(c, here, OptBlock::None)
 }
 
 // The locals are made, and then the parameters are lowered: self's binding has self's own local.
@@ -143,13 +136,12 @@ pub fn walk_params(
     entries: &mut [u16],
     visits: &mut [u16],
     counts: Counts,
-    discr: DiscrTemp,
     words: &[u16],
     receiver: SelfParam,
     current: BasicBlockId,
 ) -> Lowered
     requires { ⌜ Startable (now image) tables (now words) receiver (now bindings) (lent (now blocks) (now statements) (now locals) (now entries)) (now visits) counts current ⌝ }
-    ensures { λ r. ⌜ WalksParams (λ ctx. lowerParamsAndBindings (now (image .entry)) receiver (paramsOf (now (words .entry))) (now (bindings .entry)) ctx current) counts discr current (lent (now (blocks .entry)) (now (statements .entry)) (now (locals .entry)) (now (entries .entry))) (now (visits .entry)) r (lent (now (blocks .exit)) (now (statements .exit)) (now (locals .exit)) (now (entries .exit))) (now (visits .exit)) (now (bindings .exit)) ⌝ }
+    ensures { λ r. ⌜ WalksParams (λ ctx. lowerParamsAndBindings (now (image .entry)) receiver (paramsOf (now (words .entry))) (now (bindings .entry)) ctx current) counts current (lent (now (blocks .entry)) (now (statements .entry)) (now (locals .entry)) (now (entries .entry))) (now (visits .entry)) r (lent (now (blocks .exit)) (now (statements .exit)) (now (locals .exit)) (now (entries .exit))) (now (visits .exit)) (now (bindings .exit)) ⌝ }
 {
     match declare(
         image,
@@ -172,7 +164,6 @@ pub fn walk_params(
             entries,
             visits,
             c1,
-            discr,
             words,
             counts.locals + self_count(receiver),
             current,

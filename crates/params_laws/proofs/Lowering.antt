@@ -15,7 +15,6 @@ use Rattle.image.specs.Valid.{valid}
 use Rattle.place.specs.declared.LocalId.{LocalId}
 use Rattle.mir.specs.declared.BasicBlockId.{BasicBlockId}
 use Rattle.mir.specs.declared.Counts.{Counts}
-use Rattle.lower.specs.declared.temps.DiscrTemp.{DiscrTemp}
 use Rattle.lower.specs.declared.merging.OptBlock.{OptBlock}
 use Rattle.pattern_matching.specs.Walking.{Ctx, Out, Walk, next, out, localPlace}
 use Rattle.pattern_matching.specs.Patterns.{patternMatch}
@@ -33,17 +32,17 @@ use Rattle.param_steps.proofs.Unreached.{shut-walks}
 use Rattle.params_laws.specs.Walking.{LocalsPlaced, ParamsWalkable}
 
 -- `lower_param`: the parameter p, whose local is l
-module _ (image bindings : List ℕ) (p : PatId) (l : LocalId) {c : Counts} {discr : DiscrTemp} {current : BasicBlockId} {t₀ : Lent} {v₀ : List ℕ} where
+module _ (image bindings : List ℕ) (p : PatId) (l : LocalId) {c : Counts} {current : BasicBlockId} {t₀ : Lent} {v₀ : List ℕ} where
   -- its binding has no local
   pub param-refused : {e : MirLowerError} → TellsParam image bindings (p .0) (l .0) (Owned.Refused e) →
-      Walks (λ ctx. lowerParam image bindings (p .0) (l .0) ctx current) c discr current OptBlock.None t₀ v₀ (Lowered.Refused e p) t₀ v₀
+      Walks (λ ctx. lowerParam image bindings (p .0) (l .0) ctx current) c current OptBlock.None t₀ v₀ (Lowered.Refused e p) t₀ v₀
   unfolding lowerParam
   param-refused T =
       lowers-walks v₀ (lowers-refuses (λ ctx. T .tells (out ctx current OptBlock.None) (shut (patternMatch image bindings (tree image (p .0)) ctx current OptBlock.None (localPlace l)))))
 
   -- its binding's local is its own
   pub param-own : current .0 < c .blocks → TellsParam image bindings (p .0) (l .0) Owned.Own →
-      Walks (λ ctx. lowerParam image bindings (p .0) (l .0) ctx current) c discr current OptBlock.None t₀ v₀ (Lowered.Done c discr current OptBlock.None) t₀ v₀
+      Walks (λ ctx. lowerParam image bindings (p .0) (l .0) ctx current) c current OptBlock.None t₀ v₀ (Lowered.Done c current OptBlock.None) t₀ v₀
   unfolding lowerParam
   param-own h T =
       lowers-walks v₀
@@ -51,8 +50,8 @@ module _ (image bindings : List ℕ) (p : PatId) (l : LocalId) {c : Counts} {dis
 
   -- its pattern is walked, and the else of the answer x is shut
   pub param-walked : Primed t₀ c → TellsParam image bindings (p .0) (l .0) Owned.Other → (x : Lowered) {r : Lowered} {bl s lo e bl₁ v : List ℕ} →
-      Walks (λ ctx. patternMatch image bindings (tree image (p .0)) ctx current OptBlock.None (localPlace l)) c discr current OptBlock.None t₀ v₀ x (lent bl s lo e) v →
-      r ≡ shutAnswer x → bl₁ ≡ shutBlocks x bl → Walks (λ ctx. lowerParam image bindings (p .0) (l .0) ctx current) c discr current OptBlock.None t₀ v₀ r (lent bl₁ s lo e) v
+      Walks (λ ctx. patternMatch image bindings (tree image (p .0)) ctx current OptBlock.None (localPlace l)) c current OptBlock.None t₀ v₀ x (lent bl s lo e) v →
+      r ≡ shutAnswer x → bl₁ ≡ shutBlocks x bl → Walks (λ ctx. lowerParam image bindings (p .0) (l .0) ctx current) c current OptBlock.None t₀ v₀ r (lent bl₁ s lo e) v
   unfolding lowerParam
   param-walked P T x W is after =
       walks-by
@@ -66,34 +65,34 @@ any-own c els (OptBlock.Some b) (inl e) = absurd (let z : _≡_ {A = ℕ} 0 1 = 
 any-own c els (OptBlock.Some b) (inr new) = inr new
 
 any-onward : (c : Counts) (current : BasicBlockId) (els : OptBlock) (r : Lowered) → OnwardBy c current OptBlock.None r → OnwardBy c current els r
-any-onward c current els (Lowered.Done c₁ d then els₁) O = record { own = O .own; own-else = any-own c els els₁ (O .own-else); begins = O .begins }
+any-onward c current els (Lowered.Done c₁ then els₁) O = record { own = O .own; own-else = any-own c els els₁ (O .own-else); begins = O .begins }
 any-onward c current els (Lowered.Refused e p) O = tt
 
-any-else : {defined : Ctx → Walk Out} {c : Counts} {discr : DiscrTemp} {current : BasicBlockId} {els : OptBlock} {t₀ : Lent} {v₀ : List ℕ} {r : Lowered} {t : Lent} {v : List ℕ} →
-    Walks defined c discr current OptBlock.None t₀ v₀ r t v → Walks defined c discr current els t₀ v₀ r t v
+any-else : {defined : Ctx → Walk Out} {c : Counts} {current : BasicBlockId} {els : OptBlock} {t₀ : Lent} {v₀ : List ℕ} {r : Lowered} {t : Lent} {v : List ℕ} →
+    Walks defined c current OptBlock.None t₀ v₀ r t v → Walks defined c current els t₀ v₀ r t v
 any-else {c = c} {current = current} {els = els} {r = r} W = record { answers = W .answers; leaves = W .leaves; onward = any-onward c current els r (W .onward) }
 
 -- The invariant of the loop: the walk may go on from where it is now with the parameters from the word k on, of which the first has the local l; and what they come to
 -- from there is what all come to from where it began, with the local `first`.
-pub record ParamsGoing (image words bindings : List ℕ) (first : ℕ) (c₀ : Counts) (d₀ : DiscrTemp) (b₀ : BasicBlockId) (t₀ : Lent) (v₀ : List ℕ) (c : Counts) (d : DiscrTemp) (here : BasicBlockId) (t : Lent) (v : List ℕ) (l k left : ℕ) : Type 0 where
+pub record ParamsGoing (image words bindings : List ℕ) (first : ℕ) (c₀ : Counts) (b₀ : BasicBlockId) (t₀ : Lent) (v₀ : List ℕ) (c : Counts) (here : BasicBlockId) (t : Lent) (v : List ℕ) (l k left : ℕ) : Type 0 where
   pub visits-sized : length v ≡ 512
   pub primed : Primed t c
   pub start : here .0 < c .blocks
   pub listed : Listed image words k left
   pub placed : LocalsPlaced image t c l left
-  pub rest : {r : Lowered} {t₁ : Lent} {v₁ : List ℕ} → Walks (λ ctx. lowerParams image bindings (paramsFrom words k left) l ctx here) c d here OptBlock.None t v r t₁ v₁ →
-      Walks (λ ctx. lowerParams image bindings (paramsOf words) first ctx b₀) c₀ d₀ b₀ OptBlock.None t₀ v₀ r t₁ v₁
+  pub rest : {r : Lowered} {t₁ : Lent} {v₁ : List ℕ} → Walks (λ ctx. lowerParams image bindings (paramsFrom words k left) l ctx here) c here OptBlock.None t v r t₁ v₁ →
+      Walks (λ ctx. lowerParams image bindings (paramsOf words) first ctx b₀) c₀ b₀ OptBlock.None t₀ v₀ r t₁ v₁
 
 -- it holds at the start
-pub params-begin : {image : List ℕ} {tables : Tables} {words bindings : List ℕ} {t : Lent} {v : List ℕ} {c : Counts} {d : DiscrTemp} {current : BasicBlockId} {l : ℕ} →
-    ParamsWalkable image tables words bindings t v c current l → ParamsGoing image words bindings l c d current t v c d current t v l 0 (paramCount words)
+pub params-begin : {image : List ℕ} {tables : Tables} {words bindings : List ℕ} {t : Lent} {v : List ℕ} {c : Counts} {current : BasicBlockId} {l : ℕ} →
+    ParamsWalkable image tables words bindings t v c current l → ParamsGoing image words bindings l c current t v c current t v l 0 (paramCount words)
 params-begin {image = image} {words = words} A =
     record { visits-sized = A .visits-sized; primed = A .primed; start = A .start; listed = list-taken image words (A .list); placed = A .placed; rest = λ W. W }
 
-module _ {image words bindings : List ℕ} {first : ℕ} {c₀ : Counts} {d₀ : DiscrTemp} {b₀ : BasicBlockId} {t₀ : Lent} {v₀ : List ℕ} {c : Counts} {d : DiscrTemp} {here : BasicBlockId} {t : Lent} {v : List ℕ} {l k left : ℕ}
-    (G : ParamsGoing image words bindings first c₀ d₀ b₀ t₀ v₀ c d here t v l k left) where
+module _ {image words bindings : List ℕ} {first : ℕ} {c₀ : Counts} {b₀ : BasicBlockId} {t₀ : Lent} {v₀ : List ℕ} {c : Counts} {here : BasicBlockId} {t : Lent} {v : List ℕ} {l k left : ℕ}
+    (G : ParamsGoing image words bindings first c₀ b₀ t₀ v₀ c here t v l k left) where
   -- after the loop
-  pub params-end : left ≡ 0 → Walks (λ ctx. lowerParams image bindings (paramsOf words) first ctx b₀) c₀ d₀ b₀ OptBlock.None t₀ v₀ (Lowered.Done c d here OptBlock.None) t v
+  pub params-end : left ≡ 0 → Walks (λ ctx. lowerParams image bindings (paramsOf words) first ctx b₀) c₀ b₀ OptBlock.None t₀ v₀ (Lowered.Done c here OptBlock.None) t v
   unfolding lowerParams
   params-end none = G .rest (rw (params-none words k left none) (lowers-walks v (lowers-skips (λ ctx. refl) (record { start = G .start; else = tt }))))
 
@@ -122,21 +121,21 @@ module _ {image words bindings : List ℕ} {first : ℕ} {c₀ : Counts} {d₀ :
     abbrev behind : Out → Walk Out
     behind r = lowerParams image bindings (paramsFrom words (k + 2) (left - 1)) (l + 1) (r .ctx) (r .then)
 
-    from-first : {r : Lowered} {t₁ : Lent} {v₁ : List ℕ} → Walks (λ ctx. next (lowerParam image bindings (getD words k 0) l ctx here) behind) c d here OptBlock.None t v r t₁ v₁ →
-        Walks (λ ctx. lowerParams image bindings (paramsFrom words k left) l ctx here) c d here OptBlock.None t v r t₁ v₁
+    from-first : {r : Lowered} {t₁ : Lent} {v₁ : List ℕ} → Walks (λ ctx. next (lowerParam image bindings (getD words k 0) l ctx here) behind) c here OptBlock.None t v r t₁ v₁ →
+        Walks (λ ctx. lowerParams image bindings (paramsFrom words k left) l ctx here) c here OptBlock.None t v r t₁ v₁
     unfolding lowerParams
     from-first W = rw (params-more words k left (G .listed .fits) some) W
 
     -- the parameter is refused
     pub param-stops : {e : MirLowerError} {q : PatId} {t₁ : Lent} {v₁ : List ℕ} →
-        Walks (λ ctx. lowerParam image bindings (getD words k 0) l ctx here) c d here OptBlock.None t v (Lowered.Refused e q) t₁ v₁ →
-        Walks (λ ctx. lowerParams image bindings (paramsOf words) first ctx b₀) c₀ d₀ b₀ OptBlock.None t₀ v₀ (Lowered.Refused e q) t₁ v₁
+        Walks (λ ctx. lowerParam image bindings (getD words k 0) l ctx here) c here OptBlock.None t v (Lowered.Refused e q) t₁ v₁ →
+        Walks (λ ctx. lowerParams image bindings (paramsOf words) first ctx b₀) c₀ b₀ OptBlock.None t₀ v₀ (Lowered.Refused e q) t₁ v₁
     param-stops W = G .rest (from-first (walks-stops behind W))
 
     -- one parameter less
-    pub params-again : {c₁ : Counts} {d₁ : DiscrTemp} {then : BasicBlockId} {other : OptBlock} {t₁ : Lent} {v₁ : List ℕ} → length v₁ ≡ length v →
-        Walks (λ ctx. lowerParam image bindings (getD words k 0) l ctx here) c d here OptBlock.None t v (Lowered.Done c₁ d₁ then other) t₁ v₁ →
-        ParamsGoing image words bindings first c₀ d₀ b₀ t₀ v₀ c₁ d₁ then t₁ v₁ (l + 1) (k + 2) (left - 1)
+    pub params-again : {c₁ : Counts} {then : BasicBlockId} {other : OptBlock} {t₁ : Lent} {v₁ : List ℕ} → length v₁ ≡ length v →
+        Walks (λ ctx. lowerParam image bindings (getD words k 0) l ctx here) c here OptBlock.None t v (Lowered.Done c₁ then other) t₁ v₁ →
+        ParamsGoing image words bindings first c₀ b₀ t₀ v₀ c₁ then t₁ v₁ (l + 1) (k + 2) (left - 1)
     params-again same W =
         record {
           visits-sized = same ∙ G .visits-sized;

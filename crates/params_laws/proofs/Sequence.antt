@@ -16,7 +16,6 @@ use Rattle.state.specs.declared.Stepped.{Stepped}
 use Rattle.state.specs.State.{body, decode}
 use Rattle.state.specs.Contracts.{Ready}
 use Rattle.state.proofs.Answering.{local-count}
-use Rattle.lower.specs.declared.temps.DiscrTemp.{DiscrTemp}
 use Rattle.lower.specs.declared.merging.OptBlock.{OptBlock}
 use Rattle.pattern_matching.specs.Walking.{Ctx, Out, Walk, ok, withState}
 use Rattle.walks.specs.declared.Lowered.{Lowered}
@@ -77,11 +76,11 @@ module _ (image : List ℕ) {tables : Tables} (words : List ℕ) (self : SelfPar
   together r = ok (record { ctx = r .ctx; then = r .then; bindings = m₁ })
 
   -- after them
-  all-walked : {discr : DiscrTemp} {t : Lent} {v : List ℕ} (r : Lowered) → Walks lowering c₁ discr current OptBlock.None (lent b₀ s₀ l₁ e₁) v₀ r t v → (scopes visits : List ℕ) →
+  all-walked : {t : Lent} {v : List ℕ} (r : Lowered) → Walks lowering c₁ current OptBlock.None (lent b₀ s₀ l₁ e₁) v₀ r t v → (scopes visits : List ℕ) →
       Ready (body b₀ s₀ l₁ scopes e₁) c₁ → Holds v₀ visits →
-      ParamsWalked (λ ctx. lowerAll image m₁ self (paramsOf words) (c .locals) ctx current) c₁ discr current (body b₀ s₀ l₁ scopes e₁) visits r (bodyOf t scopes) v m₁
+      ParamsWalked (λ ctx. lowerAll image m₁ self (paramsOf words) (c .locals) ctx current) c₁ current (body b₀ s₀ l₁ scopes e₁) visits r (bodyOf t scopes) v m₁
   unfolding lowerAll
-  all-walked (Lowered.Done c₂ d₂ then els) W scopes visits R H =
+  all-walked (Lowered.Done c₂ then els) W scopes visits R H =
       let F = W .answers scopes visits R H in
       record { visits′ = F .visits′; holds = F .holds; answers = next-then together (F .answers) (inl refl) (stays _ (F .answers .goes .0)) }
   all-walked (Lowered.Refused err p) W scopes visits R H =
@@ -89,8 +88,8 @@ module _ (image : List ℕ) {tables : Tables} (words : List ℕ) (self : SelfPar
       record { visits′ = F .visits′; holds = F .holds; answers = next-stops together (F .answers) }
 
   -- the locals were made, and the parameters follow
-  pub params-follow : {discr : DiscrTemp} {t : Lent} {v : List ℕ} {r : Lowered} → Walks lowering c₁ discr current OptBlock.None (lent b₀ s₀ l₁ e₁) v₀ r t v →
-      WalksParams (λ ctx. lowerParamsAndBindings image self (paramsOf words) m₀ ctx current) c discr current (lent b₀ s₀ l₀ e₀) v₀ r t v m₁
+  pub params-follow : {t : Lent} {v : List ℕ} {r : Lowered} → Walks lowering c₁ current OptBlock.None (lent b₀ s₀ l₁ e₁) v₀ r t v →
+      WalksParams (λ ctx. lowerParamsAndBindings image self (paramsOf words) m₀ ctx current) c current (lent b₀ s₀ l₀ e₀) v₀ r t v m₁
   unfolding lowerParamsAndBindings
   params-follow {discr = discr} {r = r} W =
       record {
@@ -98,22 +97,22 @@ module _ (image : List ℕ) {tables : Tables} (words : List ℕ) (self : SelfPar
             let F = D .answers (current .0) b₀ s₀ scopes R in
             let G = all-walked r W scopes visits (F .goes .0) H in
             let here = body b₀ s₀ l₀ scopes e₀ in
-            let ctx = ctxOf here c discr visits in
+            let ctx = ctxOf here c visits in
             record {
               visits′ = G .visits′;
               holds = G .holds;
               answers = step-then noPattern
                   (λ d. lowerAll image (d .bindings) self (paramsOf words) (length (decode here c .locals)) (withState ctx (d .state)) current) F (inl refl)
                   (answers-by
-                  (ap (λ (n : ℕ). lowerAll image m₁ self (paramsOf words) n (ctxOf (body b₀ s₀ l₁ scopes e₁) c₁ discr visits) current) (sym (local-count here c R)))
+                  (ap (λ (n : ℕ). lowerAll image m₁ self (paramsOf words) n (ctxOf (body b₀ s₀ l₁ scopes e₁) c₁ visits) current) (sym (local-count here c R)))
                   (G .answers));
             };
       }
 
 -- a local is refused
-pub declare-stops : (image words : List ℕ) (self : SelfParam) {m₀ b₀ s₀ l₀ e₀ : List ℕ} (v₀ : List ℕ) {c : Counts} {discr : DiscrTemp} {current : BasicBlockId} {err : MirLowerError} {m₁ l₁ e₁ : List ℕ} →
+pub declare-stops : (image words : List ℕ) (self : SelfParam) {m₀ b₀ s₀ l₀ e₀ : List ℕ} (v₀ : List ℕ) {c : Counts} {current : BasicBlockId} {err : MirLowerError} {m₁ l₁ e₁ : List ℕ} →
     Declares (declare image self (paramsOf words)) c m₀ l₀ e₀ (Stepped.Refused err) m₁ l₁ e₁ →
-    WalksParams (λ ctx. lowerParamsAndBindings image self (paramsOf words) m₀ ctx current) c discr current (lent b₀ s₀ l₀ e₀) v₀ (Lowered.Refused err (record { 0 = 65535 })) (lent b₀ s₀ l₁ e₁) v₀ m₁
+    WalksParams (λ ctx. lowerParamsAndBindings image self (paramsOf words) m₀ ctx current) c current (lent b₀ s₀ l₀ e₀) v₀ (Lowered.Refused err (record { 0 = 65535 })) (lent b₀ s₀ l₁ e₁) v₀ m₁
 unfolding lowerParamsAndBindings
 declare-stops image words self {b₀ = b₀} {s₀ = s₀} {l₀ = l₀} {e₀ = e₀} v₀ {c = c} {discr = discr} {current = current} D =
     record {
@@ -123,7 +122,7 @@ declare-stops image words self {b₀ = b₀} {s₀ = s₀} {l₀ = l₀} {e₀ =
             visits′ = visits;
             holds = H;
             answers = step-stops noPattern
-                (λ d. lowerAll image (d .bindings) self (paramsOf words) (length (decode here c .locals)) (withState (ctxOf here c discr visits) (d .state)) current)
+                (λ d. lowerAll image (d .bindings) self (paramsOf words) (length (decode here c .locals)) (withState (ctxOf here c visits) (d .state)) current)
                 (D .answers (current .0) b₀ s₀ scopes R);
           };
     }

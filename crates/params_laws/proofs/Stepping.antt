@@ -23,7 +23,6 @@ use Rattle.mir.specs.Blocks.{isOpen}
 use Rattle.state.specs.State.{Body, State, body, decode, encode}
 use Rattle.state.specs.Contracts.{Ready}
 use Rattle.check_body.specs.Bodies.{isBlock}
-use Rattle.lower.specs.declared.temps.DiscrTemp.{DiscrTemp}
 use Rattle.lower.specs.declared.merging.OptBlock.{OptBlock}
 use Rattle.lower_calls.specs.Sizes.{Sized}
 use Rattle.lower_calls.proofs.Clearing.{Cleared, clears, sized-again, held, counted}
@@ -58,10 +57,10 @@ bindings-few image v =
     leb-true (bindingCount image) 256 (and-right front d (and-left (front && d) l (and-left (front && d && l) m e)))
 
 -- the call's own values name something
-module _ (image : List ℕ) (self : SelfParam) (bindings blocks visits : List ℕ) (c : Counts) (discr : DiscrTemp) (current : BasicBlockId) (h : paramsHold image self bindings blocks visits c discr current ≡ true) where
+module _ (image : List ℕ) (self : SelfParam) (bindings blocks visits : List ℕ) (c : Counts) (current : BasicBlockId) (h : paramsHold image self bindings blocks visits c current ≡ true) where
   -- the tests
   abbrev tests : List Bool
-  tests = selfNamed image self ∷ bindingsHold (bindingCount image) c bindings ∷ discrHolds c discr ∷ startHolds blocks c current ∷ eqb (length visits) 512 ∷ []
+  tests = selfNamed image self ∷ bindingsHold (bindingCount image) c bindings ∷ discrHolds c ∷ startHolds blocks c current ∷ eqb (length visits) 512 ∷ []
 
   -- each is passed
   passed : (k : ℕ) → getD tests k true ≡ true
@@ -82,15 +81,15 @@ module _ (image : List ℕ) (self : SelfParam) (bindings blocks visits : List �
   visits-held : length visits ≡ 512
   visits-held = eqb-true _ _ (passed 4)
 
-module _ {image : List ℕ} {tables : Tables} {words : List ℕ} {self : SelfParam} {bindings : List ℕ} {b : Body} {visits : List ℕ} {c : Counts} {discr : DiscrTemp} {current : BasicBlockId}
-    (T : ParamsTaken image tables words self bindings b visits c discr current) where
+module _ {image : List ℕ} {tables : Tables} {words : List ℕ} {self : SelfParam} {bindings : List ℕ} {b : Body} {visits : List ℕ} {c : Counts} {current : BasicBlockId}
+    (T : ParamsTaken image tables words self bindings b visits c current) where
   -- the body has its sizes
   pub step-sized : Sized b c
   step-sized = taken-sized image b c (T .both)
 
   -- the block where the walk starts is there
   step-start : current .0 < c .blocks
-  step-start = start-held image self bindings (b .blocks) visits c discr current (T .call)
+  step-start = start-held image self bindings (b .blocks) visits c current (T .call)
 
   -- its row may be read
   pub row-asked : (length (b .blocks) ≡ 6144) × (current .0 < 512)
@@ -98,7 +97,7 @@ module _ {image : List ℕ} {tables : Tables} {words : List ℕ} {self : SelfPar
 
   -- there is room for the bindings' locals
   pub save-asked : length bindings ≤ 256
-  save-asked = omega (arith, bindings-held image self bindings (b .blocks) visits c discr current (T .call), bindings-few image (T .both .valid-image))
+  save-asked = omega (arith, bindings-held image self bindings (b .blocks) visits c current (T .call), bindings-few image (T .both .valid-image))
 
   -- bl, s, l, sc and e are the tables after zeros were written above the counts, and v₁ the visits'
   module _ {bl s l sc e v₁ : List ℕ} (is : body bl s l sc e ≡ encode (decode b c)) (blank : v₁ ≡ cleared visits 0) where
@@ -107,7 +106,7 @@ module _ {image : List ℕ} {tables : Tables} {words : List ℕ} {self : SelfPar
     step-cleared = clears step-sized is
 
     no-visit : v₁ ≡ zeros 512
-    no-visit = visits-cleared visits (visits-held image self bindings (b .blocks) visits c discr current (T .call)) blank
+    no-visit = visits-cleared visits (visits-held image self bindings (b .blocks) visits c current (T .call)) blank
 
     -- the walk may start
     pub walk-asked : Startable image tables words self bindings (lent bl s l e) v₁ c current
@@ -116,8 +115,8 @@ module _ {image : List ℕ} {tables : Tables} {words : List ℕ} {self : SelfPar
           image-valid = T .both .valid-image;
           whole = T .both .whole;
           list = taken-formed image words self (T .list);
-          receiver = self-held image self bindings (b .blocks) visits c discr current (T .call);
-          locals-of-bindings = bindings-held image self bindings (b .blocks) visits c discr current (T .call);
+          receiver = self-held image self bindings (b .blocks) visits c current (T .call);
+          locals-of-bindings = bindings-held image self bindings (b .blocks) visits c current (T .call);
           visits-sized = ap length no-visit ∙ length-zeros 512;
           primed = primed-of (lent bl s l e) sc c (step-cleared .ready);
           start = step-start;
@@ -131,16 +130,16 @@ module _ {image : List ℕ} {tables : Tables} {words : List ℕ} {self : SelfPar
     clear-asked bls ss ls es = sized-again (step-cleared .ready) bls ss ls refl es
 
     -- the walk is accepted
-    pub lowered : {c′ : Counts} {d : DiscrTemp} {then : BasicBlockId} {els : OptBlock} {t : Lent} {v′ m : List ℕ} →
-        WalksParams (λ ctx. lowerParamsAndBindings image self (paramsOf words) bindings ctx current) c discr current (lent bl s l e) v₁ (Lowered.Done c′ d then els) t v′ m →
-        GivesParams bindings b visits c (walked (lowerParamsAndBindings image self (paramsOf words) bindings (ctxOf b c discr (zeros 512)) current))
+    pub lowered : {c′ : Counts} {then : BasicBlockId} {els : OptBlock} {t : Lent} {v′ m : List ℕ} →
+        WalksParams (λ ctx. lowerParamsAndBindings image self (paramsOf words) bindings ctx current) c current (lent bl s l e) v₁ (Lowered.Done c′ then els) t v′ m →
+        GivesParams bindings b visits c (walked (lowerParamsAndBindings image self (paramsOf words) bindings (ctxOf b c (zeros 512)) current))
         (ParamsCall.Lowered c′ d then (record { 0 = c .locals })) m (bodyOf t sc) v′
     lowered {c′ = c′} {d = d} {then = then} {t = t} W =
         let A = W .answers sc (zeros 512) (step-cleared .ready) (no-visit ∙ no-visits) in
         let ready = A .answers .goes .0 in
         let after = bodyOf t sc in
         params-by
-        (ap walked (A .answers .says ∙ ap (λ (st : State). lowerParamsAndBindings image self (paramsOf words) bindings (record { state = st; discr = discr; visits = zeros 512 }) current) (step-cleared .same)))
+        (ap walked (A .answers .says ∙ ap (λ (st : State). lowerParamsAndBindings image self (paramsOf words) bindings (record { state = st; visits = zeros 512 }) current) (step-cleared .same)))
         (record {
           reply = ap (λ (n : Counts). ParamsCall.Lowered n d then (record { 0 = c .locals })) (sym (counted after c′ ready));
           refusal = refl;
@@ -153,10 +152,10 @@ module _ {image : List ℕ} {tables : Tables} {words : List ℕ} {self : SelfPar
 
     -- it is refused: the row of the block where it started is put back, zeros are written again, and the bindings' locals are put back
     pub not-lowered : {err : MirLowerError} {q : PatId} {t : Lent} {v′ m v₃ m₃ row bl₃ : List ℕ} {b₃ : Body} (saved : List ℕ) →
-        WalksParams (λ ctx. lowerParamsAndBindings image self (paramsOf words) bindings ctx current) c discr current (lent bl s l e) v₁ (Lowered.Refused err q) t v′ m →
+        WalksParams (λ ctx. lowerParamsAndBindings image self (paramsOf words) bindings ctx current) c current (lent bl s l e) v₁ (Lowered.Refused err q) t v′ m →
         length (t .blocks) ≡ length bl → length v′ ≡ length v₁ → length m ≡ length bindings → row ≡ rowAt 12 (b .blocks) (current .0) → take (length bindings) saved ≡ bindings →
         bl₃ ≡ stored (t .blocks) (12 * current .0) row → b₃ ≡ encode (decode (body bl₃ (t .statements) (t .locals) sc (t .entries)) c) → v₃ ≡ cleared v′ 0 → m₃ ≡ take (length m) saved →
-        GivesParams bindings b visits c (walked (lowerParamsAndBindings image self (paramsOf words) bindings (ctxOf b c discr (zeros 512)) current)) (ParamsCall.Refused err q) m₃ b₃ v₃
+        GivesParams bindings b visits c (walked (lowerParamsAndBindings image self (paramsOf words) bindings (ctxOf b c (zeros 512)) current)) (ParamsCall.Refused err q) m₃ b₃ v₃
     not-lowered {t = t} {v′ = v′} {row = row} saved W long seen many is-row kept back again blank₃ put =
         let C = step-cleared in
         let R = C .ready in
@@ -166,7 +165,7 @@ module _ {image : List ℕ} {tables : Tables} {words : List ℕ} {self : SelfPar
         let rest = put-back c (current .0) (body bl s l sc e) (bodyOf t sc) step-start (R .block-count) (R .blocks) (long ∙ R .blocks) (A .answers .kept) in
         let same = ap (λ (x : List ℕ). decode (body x (t .statements) (t .locals) sc (t .entries)) c) stored-row ∙ rest ∙ C .same in
         params-by
-        (ap walked (A .answers .says ∙ ap (λ (st : State). lowerParamsAndBindings image self (paramsOf words) bindings (record { state = st; discr = discr; visits = zeros 512 }) current) (C .same)))
+        (ap walked (A .answers .says ∙ ap (λ (st : State). lowerParamsAndBindings image self (paramsOf words) bindings (record { state = st; visits = zeros 512 }) current) (C .same)))
         (record {
           reply = refl;
           refusal = refl;

@@ -11,7 +11,6 @@ use Rattle.mir.specs.declared.BasicBlockId.{BasicBlockId}
 use Rattle.mir.specs.declared.Counts.{Counts}
 use Rattle.state.specs.State.{Body}
 use Rattle.state.specs.Contracts.{Ready, Answers}
-use Rattle.lower.specs.declared.temps.DiscrTemp.{DiscrTemp}
 use Rattle.pattern_matching.specs.Walking.{Ctx, Walk, ok, refused, localPlace}
 use Rattle.walks.specs.declared.Lowered.{Lowered}
 use Rattle.walks.specs.Answers.{Lent, bodyOf, Primed, Placed, ctxOf, loweredCounts, Holds}
@@ -48,15 +47,15 @@ pub record ParamsWalkable (image : List ℕ) (tables : Tables) (words bindings :
 
 -- an answer, with the tables and the bindings' locals at exit, as the definitions have it
 abbrev pub paramsWalk : Lowered → Body → List ℕ → List ℕ → Walk ParamsOut
-paramsWalk (Lowered.Done c discr then els) b visits bindings = ok (record { ctx = ctxOf b c discr visits; then = then; bindings = bindings })
+paramsWalk (Lowered.Done c then els) b visits bindings = ok (record { ctx = ctxOf b c visits; then = then; bindings = bindings })
 paramsWalk (Lowered.Refused e p) b visits bindings = refused e (p .0)
 
 -- an answer that began with some counts of visits; the visits' table is v after, and the bindings' locals are m
-pub record ParamsWalked (defined : Ctx → Walk ParamsOut) (c : Counts) (discr : DiscrTemp) (current : BasicBlockId) (b : Body) (visits : List ℕ) (r : Lowered) (b′ : Body) (v m : List ℕ) : Type 0 where
+pub record ParamsWalked (defined : Ctx → Walk ParamsOut) (c : Counts) (current : BasicBlockId) (b : Body) (visits : List ℕ) (r : Lowered) (b′ : Body) (v m : List ℕ) : Type 0 where
   pub visits′ : List ℕ
   pub holds : Holds v visits′
-  pub answers : Answers b c (current .0) b′ (loweredCounts r) (paramsWalk r b′ visits′ m) (defined (ctxOf b c discr visits))
+  pub answers : Answers b c (current .0) b′ (loweredCounts r) (paramsWalk r b′ visits′ m) (defined (ctxOf b c visits))
 
 -- What the lowering of self and the parameters promises: t₀ lies in the tables before and t after, v₀ and v in the visits', and m in the bindings' after.
-pub record WalksParams (defined : Ctx → Walk ParamsOut) (c : Counts) (discr : DiscrTemp) (current : BasicBlockId) (t₀ : Lent) (v₀ : List ℕ) (r : Lowered) (t : Lent) (v m : List ℕ) : Type 0 where
-  pub answers : (scopes visits : List ℕ) → Ready (bodyOf t₀ scopes) c → Holds v₀ visits → ParamsWalked defined c discr current (bodyOf t₀ scopes) visits r (bodyOf t scopes) v m
+pub record WalksParams (defined : Ctx → Walk ParamsOut) (c : Counts) (current : BasicBlockId) (t₀ : Lent) (v₀ : List ℕ) (r : Lowered) (t : Lent) (v m : List ℕ) : Type 0 where
+  pub answers : (scopes visits : List ℕ) → Ready (bodyOf t₀ scopes) c → Holds v₀ visits → ParamsWalked defined c current (bodyOf t₀ scopes) visits r (bodyOf t scopes) v m

@@ -10,7 +10,6 @@ use Rattle.refusals.specs.Refusals.{breaksARule, namesNothing}
 use Rattle.image.specs.Valid.{valid}
 use Rattle.mir.specs.declared.Counts.{Counts}
 use Rattle.state.specs.State.{Body}
-use Rattle.lower.specs.declared.temps.DiscrTemp.{DiscrTemp}
 use Rattle.read_image.specs.declared.Read.{Read}
 use Rattle.read_image.specs.Read.{Reads}
 use Rattle.lower_calls.proofs.Prologue.{read-refused}

@@ -2,7 +2,6 @@
 use image::Tables;
 use listing_text::pen::Pen;
 use listing_text::put_refusal;
-use lower::temps::DiscrTemp;
 use lowered_params::SelfParam;
 use mir::BasicBlockId;
 use mir::Counts;
@@ -58,7 +57,6 @@ fn put_called(
         entries,
         visits,
         counts,
-        DiscrTemp::None,
         list,
         receiver,
         BasicBlockId(0),

@@ -16,7 +16,6 @@ use Rattle.image.specs.Tables.{Whole}
 use Rattle.image.specs.Valid.{valid}
 use Rattle.mir.specs.declared.Counts.{Counts}
 use Rattle.state.specs.State.{Body, body, encode, padded, countsOf}
-use Rattle.lower.specs.declared.temps.DiscrTemp.{DiscrTemp}
 use Rattle.match_calls.proofs.Starting.{visits-cleared}
 use Rattle.listing_start.specs.Sizes.{TablesSized}
 use Rattle.listing_start.proofs.Limits.{limits}

@@ -12,7 +12,6 @@ use Rattle.mir.specs.declared.BasicBlockId.{BasicBlockId}
 use Rattle.mir.specs.declared.Counts.{Counts}
 use Rattle.state.specs.State.{Body, State, body, decode, countsOf}
 use Rattle.state.specs.Contracts.{Ready}
-use Rattle.lower.specs.declared.temps.DiscrTemp.{DiscrTemp}
 use Rattle.lower.specs.declared.merging.OptBlock.{OptBlock}
 use Rattle.views.specs.Views.{mirOf}
 use Rattle.listing_text.specs.Listing.{listing, refusalText}
@@ -33,7 +32,7 @@ unfolding mirOf decode stateText
 state-same b c then first many bindings = refl
 
 -- an accepted call
-accepted-text : (c : Counts) (many : ℕ) (defined : ParamsCalled) (b : Body) (bindings : List ℕ) {m : List ℕ} {c′ : Counts} {d : DiscrTemp} {then : BasicBlockId} {first : LocalId} →
+accepted-text : (c : Counts) (many : ℕ) (defined : ParamsCalled) (b : Body) (bindings : List ℕ) {m : List ℕ} {c′ : Counts} {then : BasicBlockId} {first : LocalId} →
     ParamsCall.Lowered c′ d then first ≡ answer c defined → Reads defined b → m ≡ bindingsAfter bindings defined →
     stateText then (first .0) many m (decode b c′) ≡ callText (c .locals) many defined
 unfolding callText walkText stateText
@@ -47,7 +46,7 @@ accepted-text c many (walked (ok r)) b bindings {m} {c′} {d} {then} {first} is
     let state : decode b c′ ≡ r .ctx .state = ap (decode b) count ∙ reads in
     λ i. stateText (goes-on i) (begins i .0) many (bound i) (state i)
 
-accepted-ready : (c : Counts) (defined : ParamsCalled) (b : Body) {c′ : Counts} {d : DiscrTemp} {then : BasicBlockId} {first : LocalId} →
+accepted-ready : (c : Counts) (defined : ParamsCalled) (b : Body) {c′ : Counts} {then : BasicBlockId} {first : LocalId} →
     ParamsCall.Lowered c′ d then first ≡ answer c defined → ReadyAfter defined b → Ready b c′ × (first .0 ≡ c .locals)
 accepted-ready c badImage b is ready = absurd (let z : _≡_ {A = ℕ} 0 1 = cc in omega arith)
 accepted-ready c badCall b is ready = absurd (let z : _≡_ {A = ℕ} 0 1 = cc in omega arith)
@@ -105,11 +104,11 @@ module _ {bindings : List ℕ} {b : Body} {v : List ℕ} {c : Counts} {defined :
 
 -- the ways through `put_params_answer`
 module _ (blocks statements locals entries bindings : List ℕ) (many : ℕ) {answer : ParamsCall} where
-  pub listing-asked : {c : Counts} {d : DiscrTemp} {then : BasicBlockId} {first : LocalId} → answer ≡ ParamsCall.Lowered c d then first →
+  pub listing-asked : {c : Counts} {then : BasicBlockId} {first : LocalId} → answer ≡ ParamsCall.Lowered c d then first →
       Listable blocks statements locals entries many answer → Listable blocks statements locals entries many (ParamsCall.Lowered c d then first)
   listing-asked is L = subst (Listable blocks statements locals entries many) is L
 
-  pub lists : {c : Counts} {d : DiscrTemp} {then : BasicBlockId} {first : LocalId} → answer ≡ ParamsCall.Lowered c d then first →
+  pub lists : {c : Counts} {then : BasicBlockId} {first : LocalId} → answer ≡ ParamsCall.Lowered c d then first →
       listing then OptBlock.None (mirOf (decode (body blocks statements locals [] []) c)) ++ linesText (first .0) many bindings (take (c .entries) entries)
       ≡ answerText blocks statements locals entries bindings many answer
   unfolding answerText

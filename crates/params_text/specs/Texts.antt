@@ -60,7 +60,7 @@ callText first many (walked w) = walkText first many w
 
 -- the text of an answer, where these are the tables and the bindings' locals
 unfoldable pub answerText : List ℕ → List ℕ → List ℕ → List ℕ → List ℕ → ℕ → ParamsCall → List ℕ
-answerText blocks statements locals entries bindings many (ParamsCall.Lowered c discr then first) =
+answerText blocks statements locals entries bindings many (ParamsCall.Lowered c then first) =
     listing then OptBlock.None (mirOf (decode (body blocks statements locals [] []) c)) ++ linesText (first .0) many bindings (take (c .entries) entries)
 answerText blocks statements locals entries bindings many (ParamsCall.Refused e p) = refusalText (refusalAt e (p .0))
 answerText blocks statements locals entries bindings many ParamsCall.BadCall = refusalText namesNothing
@@ -68,7 +68,7 @@ answerText blocks statements locals entries bindings many ParamsCall.BadImage = 
 
 -- the tables of an accepted call can be listed: they have their sizes, the counts are within the limits, and so are the parameters' locals
 abbrev pub Listable : List ℕ → List ℕ → List ℕ → List ℕ → ℕ → ParamsCall → Type 0
-Listable blocks statements locals entries many (ParamsCall.Lowered c discr then first) =
+Listable blocks statements locals entries many (ParamsCall.Lowered c then first) =
     ((length blocks ≡ 6144) × (length statements ≡ 50176) × (length locals ≡ 512) × (c .blocks ≤ 512) × (c .statements ≤ 1024) × (c .locals ≤ 512))
     × (length entries ≡ 1024) × (c .entries ≤ 1024) × (first .0 + many ≤ 65535)
 Listable blocks statements locals entries many (ParamsCall.Refused e p) = Unit

@@ -5,4 +5,4 @@ use Rattle.walks.specs.declared.Lowered.{Lowered}
 -- the answer of a walk, with the else of another
 unfoldable pub withElse : Lowered → OptBlock → Lowered
 withElse (Lowered.Refused e at) other = Lowered.Refused e at
-withElse (Lowered.Done c d then els) other = Lowered.Done c d then other
+withElse (Lowered.Done c then els) other = Lowered.Done c then other

@@ -10,6 +10,6 @@ pub fn with_else(answer: Lowered, other: OptBlock) -> Lowered
 {
     match answer {
         Lowered::Refused(e, at) => Lowered::Refused(e, at),
-        Lowered::Done(c, d, then, _) => Lowered::Done(c, d, then, other),
+        Lowered::Done(c, then, _) => Lowered::Done(c, then, other),
     }
 }

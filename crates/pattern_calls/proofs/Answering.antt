@@ -15,7 +15,6 @@ use Rattle.place.specs.declared.Place.{Place}
 use Rattle.mir.specs.declared.BasicBlockId.{BasicBlockId}
 use Rattle.mir.specs.declared.Counts.{Counts}
 use Rattle.state.specs.State.{Body, body, decode, encode}
-use Rattle.lower.specs.declared.temps.DiscrTemp.{DiscrTemp}
 use Rattle.lower.specs.declared.merging.OptBlock.{OptBlock}
 use Rattle.lower_calls.specs.Sizes.{Taken}
 use Rattle.lower_calls.proofs.Clearing.{Cleared}
@@ -34,14 +33,14 @@ use Rattle.match_calls.proofs.Stepping.{accepted, refused-back, filled, not-fil
 use Rattle.pattern_calls.proofs.Asking.{start-asked, blank-visits}
 
 -- `pattern_match` and `pattern_match_assignment`, whose walk gives `defined`: bl, s, l, sc and e are the tables after zeros were written above the counts
-module _ (defined : Ctx → Walk Out) {image : List ℕ} {tables : Tables} {b : Body} {c : Counts} (bindings visits : List ℕ) (discr : DiscrTemp) (p : ℕ) (current : BasicBlockId) (els : OptBlock) (place : Place) (T : Taken image tables b c) (H : Handed (namedIn image) bindings (b .blocks) visits c discr p current els place) {bl s l sc e v₁ : List ℕ} (C : Cleared b c (body bl s l sc e)) (blank : v₁ ≡ cleared visits 0) where
-  pub matched : {c′ : Counts} {d : DiscrTemp} {then : BasicBlockId} {els′ : OptBlock} {t : Lent} {v′ : List ℕ} →
-      Walks defined c discr current els (lent bl s l e) v₁ (Lowered.Done c′ d then els′) t v′ →
+module _ (defined : Ctx → Walk Out) {image : List ℕ} {tables : Tables} {b : Body} {c : Counts} (bindings visits : List ℕ) (p : ℕ) (current : BasicBlockId) (els : OptBlock) (place : Place) (T : Taken image tables b c) (H : Handed (namedIn image) bindings (b .blocks) visits c p current els place) {bl s l sc e v₁ : List ℕ} (C : Cleared b c (body bl s l sc e)) (blank : v₁ ≡ cleared visits 0) where
+  pub matched : {c′ : Counts} {then : BasicBlockId} {els′ : OptBlock} {t : Lent} {v′ : List ℕ} →
+      Walks defined c current els (lent bl s l e) v₁ (Lowered.Done c′ then els′) t v′ →
       Visits b visits c (walked (defined (startCtx b c discr))) (MatchCall.Matched c′ d then els′) (bodyOf t sc) v′
   matched W = accepted defined C (blank-visits bindings visits discr p current els place T H blank) W
 
   pub not-matched : {err : MirLowerError} {q : PatId} {t : Lent} {v′ v₃ row bl₃ : List ℕ} {b₃ : Body} →
-      Walks defined c discr current els (lent bl s l e) v₁ (Lowered.Refused err q) t v′ → length (t .blocks) ≡ length bl → length v′ ≡ length v₁ → row ≡ rowAt 12 (b .blocks) (current .0) →
+      Walks defined c current els (lent bl s l e) v₁ (Lowered.Refused err q) t v′ → length (t .blocks) ≡ length bl → length v′ ≡ length v₁ → row ≡ rowAt 12 (b .blocks) (current .0) →
       bl₃ ≡ stored (t .blocks) (12 * current .0) row → b₃ ≡ encode (decode (body bl₃ (t .statements) (t .locals) sc (t .entries)) c) → v₃ ≡ cleared v′ 0 →
       Visits b visits c (walked (defined (startCtx b c discr))) (MatchCall.Refused err q) b₃ v₃
   not-matched {v′ = v′} W long seen is-row back is blank₃ =
@@ -55,8 +54,8 @@ module _ (image bindings : List ℕ) (binding : ℕ) (current : BasicBlockId) (l
   abbrev self : Ctx → Walk Out
   self ctx = patternMatchBinding bindings noPattern noPattern binding BindingMode.Value ctx current OptBlock.None (localPlace l)
 
-  pub self-matched : {c′ : Counts} {d : DiscrTemp} {then : BasicBlockId} {els′ : OptBlock} {s₂ e₂ : List ℕ} →
-      Fills self c DiscrTemp.None current OptBlock.None s e (Lowered.Done c′ d then els′) s₂ e₂ →
+  pub self-matched : {c′ : Counts} {then : BasicBlockId} {els′ : OptBlock} {s₂ e₂ : List ℕ} →
+      Fills self c DiscrTemp.None current OptBlock.None s e (Lowered.Done c′ then els′) s₂ e₂ →
       GivesSelf b c (walked (matchSelfParam image bindings binding (startCtx b c DiscrTemp.None) current l)) (SelfCall.Matched c′ then els′) (body bl s₂ lo sc e₂)
   unfolding matchSelfParam
   self-matched F = filled self C (F bl lo (primed-of (lent bl s lo e) sc c (C .ready)))

@@ -12,7 +12,6 @@ use Rattle.place.specs.declared.Place.{Place}
 use Rattle.mir.specs.declared.BasicBlockId.{BasicBlockId}
 use Rattle.mir.specs.declared.Counts.{Counts}
 use Rattle.state.specs.State.{Body, body, decode, encode}
-use Rattle.lower.specs.declared.temps.DiscrTemp.{DiscrTemp}
 use Rattle.lower.specs.declared.merging.OptBlock.{OptBlock}
 use Rattle.lower_calls.specs.Sizes.{Sized, Taken}
 use Rattle.lower_calls.proofs.Clearing.{Cleared, clears, sized-again}
@@ -32,10 +31,10 @@ pub clear-asked : {b : Body} {c : Counts} {bl s l sc e bl₂ s₂ l₂ e₂ : Li
     length e₂ ≡ length e → Sized (body bl₂ s₂ l₂ sc e₂) c
 clear-asked C bls ss ls es = sized-again (C .ready) bls ss ls refl es
 
-module _ {image : List ℕ} {tables : Tables} {b : Body} {c : Counts} (bindings visits : List ℕ) (discr : DiscrTemp) (p : ℕ) (current : BasicBlockId) (els : OptBlock) (place : Place) (T : Taken image tables b c) (H : Handed (namedIn image) bindings (b .blocks) visits c discr p current els place) where
+module _ {image : List ℕ} {tables : Tables} {b : Body} {c : Counts} (bindings visits : List ℕ) (p : ℕ) (current : BasicBlockId) (els : OptBlock) (place : Place) (T : Taken image tables b c) (H : Handed (namedIn image) bindings (b .blocks) visits c p current els place) where
   -- the block where the walk starts is there
   pub start-asked : current .0 < c .blocks
-  start-asked = start-there (namedIn image) bindings (b .blocks) visits c discr p current els place H
+  start-asked = start-there (namedIn image) bindings (b .blocks) visits c p current els place H
 
   -- its row may be read
   pub row-asked : (length (b .blocks) ≡ 6144) × (current .0 < 512)
@@ -43,7 +42,7 @@ module _ {image : List ℕ} {tables : Tables} {b : Body} {c : Counts} (bindings 
 
   -- no pattern is visited yet
   pub blank-visits : {v₁ : List ℕ} → v₁ ≡ cleared visits 0 → v₁ ≡ zeros 512
-  blank-visits blank = visits-cleared visits (visits-sized (namedIn image) bindings (b .blocks) visits c discr p current els place H) blank
+  blank-visits blank = visits-cleared visits (visits-sized (namedIn image) bindings (b .blocks) visits c p current els place H) blank
 
   -- the pattern is there, and a walk may start
   pub walk-asked : {bl s l sc e v₁ : List ℕ} → Cleared b c (body bl s l sc e) → v₁ ≡ cleared visits 0 →
@@ -52,13 +51,13 @@ module _ {image : List ℕ} {tables : Tables} {b : Body} {c : Counts} (bindings 
     record {
       image-valid = T .valid-image;
       whole = T .whole;
-      locals-of-bindings = bindings-sized (namedIn image) bindings (b .blocks) visits c discr p current els place H;
+      locals-of-bindings = bindings-sized (namedIn image) bindings (b .blocks) visits c p current els place H;
       visits-sized = ap length (blank-visits blank) ∙ length-zeros 512;
       primed = start-primed (lent bl s l e) sc bindings visits discr p current els place T C H;
       begins = start-begins (lent bl s l e) sc bindings visits discr p current els place T C H;
       placed = start-placed (lent bl s l e) sc bindings visits discr p current els place T C H;
     },
-    pattern-there (namedIn image) bindings (b .blocks) visits c discr p current els place H,
+    pattern-there (namedIn image) bindings (b .blocks) visits c p current els place H,
   )
 
 -- `match_self_param`: the binding has a word, and the block is there

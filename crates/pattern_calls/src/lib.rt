@@ -7,7 +7,6 @@ use handed::self_holds;
 use image::BindingId;
 use image::PatId;
 use lower::merging::OptBlock;
-use lower::temps::DiscrTemp;
 use lower_calls::opening::Opened;
 use lower_calls::opening::open;
 use match_calls::MatchCall;
@@ -33,13 +32,12 @@ pub fn pattern_match(
     entries: &mut [u16],
     visits: &mut [u16],
     counts: Counts,
-    discr: DiscrTemp,
     p: PatId,
     current: BasicBlockId,
     els: OptBlock,
     place: Place,
 ) -> MatchCall
-    ensures { λ r. ⌜ Visits (body (now (blocks .entry)) (now (statements .entry)) (now (locals .entry)) (now (scopes .entry)) (now (entries .entry))) (now (visits .entry)) counts (patternMatchCall (now (image .entry)) (now (bindings .entry)) (body (now (blocks .entry)) (now (statements .entry)) (now (locals .entry)) (now (scopes .entry)) (now (entries .entry))) (now (visits .entry)) counts discr (p .0) current els place) r (body (now (blocks .exit)) (now (statements .exit)) (now (locals .exit)) (now (scopes .exit)) (now (entries .exit))) (now (visits .exit)) ⌝ }
+    ensures { λ r. ⌜ Visits (body (now (blocks .entry)) (now (statements .entry)) (now (locals .entry)) (now (scopes .entry)) (now (entries .entry))) (now (visits .entry)) counts (patternMatchCall (now (image .entry)) (now (bindings .entry)) (body (now (blocks .entry)) (now (statements .entry)) (now (locals .entry)) (now (scopes .entry)) (now (entries .entry))) (now (visits .entry)) counts (p .0) current els place) r (body (now (blocks .exit)) (now (statements .exit)) (now (locals .exit)) (now (scopes .exit)) (now (entries .exit))) (now (visits .exit)) ⌝ }
 {
     match open(image, blocks, statements, locals, scopes, entries, counts) {
         Opened::BadImage => MatchCall::BadImage,
@@ -51,7 +49,6 @@ pub fn pattern_match(
                 blocks,
                 visits,
                 counts,
-                discr,
                 p,
                 current,
                 els,
@@ -70,7 +67,6 @@ pub fn pattern_match(
                 entries,
                 visits,
                 counts,
-                discr,
                 p,
                 current,
                 els,
@@ -91,12 +87,11 @@ pub fn pattern_match_assignment(
     entries: &mut [u16],
     visits: &mut [u16],
     counts: Counts,
-    discr: DiscrTemp,
     p: PatId,
     current: BasicBlockId,
     place: Place,
 ) -> MatchCall
-    ensures { λ r. ⌜ Visits (body (now (blocks .entry)) (now (statements .entry)) (now (locals .entry)) (now (scopes .entry)) (now (entries .entry))) (now (visits .entry)) counts (patternMatchAssignmentCall (now (image .entry)) (now (bindings .entry)) (body (now (blocks .entry)) (now (statements .entry)) (now (locals .entry)) (now (scopes .entry)) (now (entries .entry))) (now (visits .entry)) counts discr (p .0) current place) r (body (now (blocks .exit)) (now (statements .exit)) (now (locals .exit)) (now (scopes .exit)) (now (entries .exit))) (now (visits .exit)) ⌝ }
+    ensures { λ r. ⌜ Visits (body (now (blocks .entry)) (now (statements .entry)) (now (locals .entry)) (now (scopes .entry)) (now (entries .entry))) (now (visits .entry)) counts (patternMatchAssignmentCall (now (image .entry)) (now (bindings .entry)) (body (now (blocks .entry)) (now (statements .entry)) (now (locals .entry)) (now (scopes .entry)) (now (entries .entry))) (now (visits .entry)) counts (p .0) current place) r (body (now (blocks .exit)) (now (statements .exit)) (now (locals .exit)) (now (scopes .exit)) (now (entries .exit))) (now (visits .exit)) ⌝ }
 {
     match open(image, blocks, statements, locals, scopes, entries, counts) {
         Opened::BadImage => MatchCall::BadImage,
@@ -108,7 +103,6 @@ pub fn pattern_match_assignment(
                 blocks,
                 visits,
                 counts,
-                discr,
                 p,
                 current,
                 OptBlock::None,
@@ -127,7 +121,6 @@ pub fn pattern_match_assignment(
                 entries,
                 visits,
                 counts,
-                discr,
                 p,
                 current,
                 place,

@@ -4,7 +4,6 @@ use image::PatId;
 use image::Tables;
 use image::kinds::BindingMode;
 use lower::merging::OptBlock;
-use lower::temps::DiscrTemp;
 use lower_calls::opening::block_row;
 use lower_calls::opening::clear_above;
 use lower_calls::opening::put_back;
@@ -25,7 +24,6 @@ ghost use Prim.Native.Nat.{_<_};
 ghost use Rattle.image.specs.Tables.{patternCount};
 ghost use Rattle.image.specs.Tree.{tree};
 ghost use Rattle.state.specs.State.{body};
-ghost use Rattle.lower.specs.declared.temps.DiscrTemp.{DiscrTemp};
 ghost use Rattle.lower.specs.declared.merging.OptBlock.{OptBlock};
 ghost use Rattle.lower_calls.specs.Sizes.{Taken};
 ghost use Rattle.pattern_matching.specs.Patterns.{patternMatch, patternMatchAssignment, matchSelfParam};
@@ -45,14 +43,13 @@ pub fn check_and_bind(
     entries: &mut [u16],
     visits: &mut [u16],
     counts: Counts,
-    discr: DiscrTemp,
     p: PatId,
     current: BasicBlockId,
     els: OptBlock,
     place: Place,
 ) -> Lowered
     requires { ⌜ Walkable (now image) tables (now bindings) (lent (now blocks) (now statements) (now locals) (now entries)) (now visits) counts current els place × (p .0 < patternCount (now image)) ⌝ }
-    ensures { λ r. ⌜ Walks (λ ctx. patternMatch (now (image .entry)) (now (bindings .entry)) (tree (now (image .entry)) (p .0)) ctx current els place) counts discr current els (lent (now (blocks .entry)) (now (statements .entry)) (now (locals .entry)) (now (entries .entry))) (now (visits .entry)) r (lent (now (blocks .exit)) (now (statements .exit)) (now (locals .exit)) (now (entries .exit))) (now (visits .exit)) ⌝ }
+    ensures { λ r. ⌜ Walks (λ ctx. patternMatch (now (image .entry)) (now (bindings .entry)) (tree (now (image .entry)) (p .0)) ctx current els place) counts current els (lent (now (blocks .entry)) (now (statements .entry)) (now (locals .entry)) (now (entries .entry))) (now (visits .entry)) r (lent (now (blocks .exit)) (now (statements .exit)) (now (locals .exit)) (now (entries .exit))) (now (visits .exit)) ⌝ }
 {
     match pattern_match_inner(
         image,
@@ -64,7 +61,6 @@ pub fn check_and_bind(
         entries,
         visits,
         counts,
-        discr,
         MatchingMode::Check,
         p,
         current,
@@ -72,7 +68,7 @@ pub fn check_and_bind(
         place,
     ) {
         Lowered::Refused(e, q) => Lowered::Refused(e, q),
-        Lowered::Done(c1, d1, then, other) => pattern_match_inner(
+        Lowered::Done(c1, then, other) => pattern_match_inner(
             image,
             tables,
             bindings,
@@ -82,7 +78,6 @@ pub fn check_and_bind(
             entries,
             visits,
             c1,
-            d1,
             MatchingMode::Bind,
             p,
             then,
@@ -104,13 +99,12 @@ pub fn match_step(
     entries: &mut [u16],
     visits: &mut [u16],
     counts: Counts,
-    discr: DiscrTemp,
     p: PatId,
     current: BasicBlockId,
     els: OptBlock,
     place: Place,
 ) -> MatchCall
-    requires { ⌜ Taken (now image) tables (body (now blocks) (now statements) (now locals) (now scopes) (now entries)) counts × (matchHolds (namedIn (now image)) (now bindings) (now blocks) (now visits) counts discr (p .0) current els place ≡ true) ⌝ }
+    requires { ⌜ Taken (now image) tables (body (now blocks) (now statements) (now locals) (now scopes) (now entries)) counts × (matchHolds (namedIn (now image)) (now bindings) (now blocks) (now visits) counts (p .0) current els place ≡ true) ⌝ }
     ensures { λ r. ⌜ Visits (body (now (blocks .entry)) (now (statements .entry)) (now (locals .entry)) (now (scopes .entry)) (now (entries .entry))) (now (visits .entry)) counts (walked (patternMatch (now (image .entry)) (now (bindings .entry)) (tree (now (image .entry)) (p .0)) (startCtx (body (now (blocks .entry)) (now (statements .entry)) (now (locals .entry)) (now (scopes .entry)) (now (entries .entry))) counts discr) current els place)) r (body (now (blocks .exit)) (now (statements .exit)) (now (locals .exit)) (now (scopes .exit)) (now (entries .exit))) (now (visits .exit)) ⌝ }
 {
     let row = block_row(blocks, current);
@@ -126,13 +120,12 @@ pub fn match_step(
         entries,
         visits,
         counts,
-        discr,
         p,
         current,
         els,
         place,
     ) {
-        Lowered::Done(c, d, then, other) => MatchCall::Matched(c, d, then, other),
+        Lowered::Done(c, then, other) => MatchCall::Matched(c, then, other),
         Lowered::Refused(e, q) => {
             put_back(blocks, current, row);
             clear_above(blocks, statements, locals, scopes, entries, counts);
@@ -154,12 +147,11 @@ pub fn assignment_step(
     entries: &mut [u16],
     visits: &mut [u16],
     counts: Counts,
-    discr: DiscrTemp,
     p: PatId,
     current: BasicBlockId,
     place: Place,
 ) -> MatchCall
-    requires { ⌜ Taken (now image) tables (body (now blocks) (now statements) (now locals) (now scopes) (now entries)) counts × (matchHolds (namedIn (now image)) (now bindings) (now blocks) (now visits) counts discr (p .0) current OptBlock.None place ≡ true) ⌝ }
+    requires { ⌜ Taken (now image) tables (body (now blocks) (now statements) (now locals) (now scopes) (now entries)) counts × (matchHolds (namedIn (now image)) (now bindings) (now blocks) (now visits) counts (p .0) current OptBlock.None place ≡ true) ⌝ }
     ensures { λ r. ⌜ Visits (body (now (blocks .entry)) (now (statements .entry)) (now (locals .entry)) (now (scopes .entry)) (now (entries .entry))) (now (visits .entry)) counts (walked (patternMatchAssignment (now (image .entry)) (now (bindings .entry)) (tree (now (image .entry)) (p .0)) (startCtx (body (now (blocks .entry)) (now (statements .entry)) (now (locals .entry)) (now (scopes .entry)) (now (entries .entry))) counts discr) current place)) r (body (now (blocks .exit)) (now (statements .exit)) (now (locals .exit)) (now (scopes .exit)) (now (entries .exit))) (now (visits .exit)) ⌝ }
 {
     let row = block_row(blocks, current);
@@ -175,14 +167,13 @@ pub fn assignment_step(
         entries,
         visits,
         counts,
-        discr,
         MatchingMode::Assign,
         p,
         current,
         OptBlock::None,
         place,
     ) {
-        Lowered::Done(c, d, then, other) => MatchCall::Matched(c, d, then, other),
+        Lowered::Done(c, then, other) => MatchCall::Matched(c, then, other),
         Lowered::Refused(e, q) => {
             put_back(blocks, current, row);
             clear_above(blocks, statements, locals, scopes, entries, counts);
@@ -221,7 +212,6 @@ pub fn self_step(
         statements,
         entries,
         counts,
-        DiscrTemp::None,
         PatId(65535),
         PatId(65535),
         b,
@@ -230,7 +220,7 @@ pub fn self_step(
         OptBlock::None,
         whole,
     ) {
-        Lowered::Done(c, d, then, other) => SelfCall::Matched(c, then, other),
+        Lowered::Done(c, then, other) => SelfCall::Matched(c, then, other),
         Lowered::Refused(e, q) => {
             clear_above(blocks, statements, locals, scopes, entries, counts);
             SelfCall::Refused(e, q)

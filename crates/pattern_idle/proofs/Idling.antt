@@ -20,7 +20,6 @@ use Rattle.image.proofs.Bools.{and-left, and-right}
 use Rattle.place.specs.declared.Place.{Place}
 use Rattle.mir.specs.declared.BasicBlockId.{BasicBlockId}
 use Rattle.mir.specs.declared.Counts.{Counts}
-use Rattle.lower.specs.declared.temps.DiscrTemp.{DiscrTemp}
 use Rattle.lower.specs.declared.merging.OptBlock.{OptBlock}
 use Rattle.pattern_matching.specs.declared.MatchingMode.{MatchingMode}
 use Rattle.pattern_matching.specs.Modes.{isCheck}
@@ -144,14 +143,14 @@ idle-kind image bindings p row mode e = go mode (isCheck mode) refl (and-right (
     go m false z i = idle-beyond image bindings p row m z (patKind (row .kind)) i
 
 -- The theorem: a pattern at which there is nothing to do is lowered by its visit alone.
-pub idle-walks : (image bindings : List ℕ) (q : PatId) (mode : MatchingMode) (c : Counts) (discr : DiscrTemp) (current : BasicBlockId) (els : OptBlock) (t : Lent) (v : List ℕ) {v₁ : List ℕ} →
+pub idle-walks : (image bindings : List ℕ) (q : PatId) (mode : MatchingMode) (c : Counts) (current : BasicBlockId) (els : OptBlock) (t : Lent) (v : List ℕ) {v₁ : List ℕ} →
     valid image ≡ true → q .0 < patternCount image → Begins c current els → v₁ ≡ visitedIn v q → nothingToDo image mode (patAt image (q .0)) ≡ true →
-    (place : Place) → Inner image bindings q mode c discr current els place t v (Lowered.Done c discr current els) t v₁
+    (place : Place) → Inner image bindings q mode c current els place t v (Lowered.Done c current els) t v₁
 unfolding nothingToDo
-idle-walks image bindings q mode c discr current els t v good h B seen e place =
+idle-walks image bindings q mode c current els t v good h B seen e place =
     let row = patAt image (q .0) in
     let none = eqb-true (row .derefs) 0 (and-left (eqb (row .derefs) 0) (cond (isCheck mode) (idleInCheck (patKind (row .kind)) (row .b)) (idleBeyondCheck (patKind (row .kind)) image row)) e) in
-    inner-goes image bindings q row mode c discr current els place t v (record { ok = true; place = place }) good h refl seen (behind-none place (row .derefs) none refl) refl
+    inner-goes image bindings q row mode c current els place t v (record { ok = true; place = place }) good h refl seen (behind-none place (row .derefs) none refl) refl
     (walks-skips (λ ctx. idle-kind image bindings (q .0) row mode e ctx current els place) B)
 
 -- `nothing_to_do`

@@ -9,7 +9,6 @@ use Rattle.refusals.specs.declared.MirLowerError.{MirLowerError}
 use Rattle.place.specs.declared.Place.{Place}
 use Rattle.mir.specs.declared.BasicBlockId.{BasicBlockId}
 use Rattle.mir.specs.declared.Counts.{Counts}
-use Rattle.lower.specs.declared.temps.DiscrTemp.{DiscrTemp}
 use Rattle.lower.specs.declared.merging.OptBlock.{OptBlock}
 use Rattle.pattern_matching.specs.declared.MatchingMode.{MatchingMode}
 use Rattle.pattern_matching.specs.Modes.{isCheck}
@@ -24,14 +23,14 @@ use Rattle.walks.proofs.Sequences.{lowers-skips, lowers-refuses, lowers-by}
 use Rattle.pattern_leaves.specs.Modes.{otherPath}
 
 -- `other_path`, as the code answers it
-module _ (c : Counts) (discr : DiscrTemp) (p : PatId) (current : BasicBlockId) (els : OptBlock) where
-  pub other-refused : (mode : MatchingMode) → isCheck mode ≡ true → Lowered.Refused MirLowerError.NotSupported p ≡ otherPath c discr mode p current els
+module _ (c : Counts) (p : PatId) (current : BasicBlockId) (els : OptBlock) where
+  pub other-refused : (mode : MatchingMode) → isCheck mode ≡ true → Lowered.Refused MirLowerError.NotSupported p ≡ otherPath c mode p current els
   unfolding isCheck otherPath
   other-refused MatchingMode.Check e = refl
   other-refused MatchingMode.Bind e = absurd (false≢true e)
   other-refused MatchingMode.Assign e = absurd (false≢true e)
 
-  pub other-done : (mode : MatchingMode) → isCheck mode ≡ false → Lowered.Done c discr current els ≡ otherPath c discr mode p current els
+  pub other-done : (mode : MatchingMode) → isCheck mode ≡ false → Lowered.Done c current els ≡ otherPath c mode p current els
   unfolding isCheck otherPath
   other-done MatchingMode.Check e = absurd (true≢false e)
   other-done MatchingMode.Bind e = refl
@@ -39,26 +38,26 @@ module _ (c : Counts) (discr : DiscrTemp) (p : PatId) (current : BasicBlockId) (
 
   -- and what it promises, where t lies in the tables
   pub other-lowers : (t : Lent) (mode : MatchingMode) → Begins c current els →
-      Lowers (λ ctx. inCheck mode (refused MirLowerError.NotSupported (p .0)) (out ctx current els)) c discr current els t (otherPath c discr mode p current els) t
+      Lowers (λ ctx. inCheck mode (refused MirLowerError.NotSupported (p .0)) (out ctx current els)) c current els t (otherPath c mode p current els) t
   unfolding otherPath
   other-lowers t MatchingMode.Check h = lowers-refuses (λ ctx. refl)
   other-lowers t MatchingMode.Bind h = lowers-skips (λ ctx. refl) h
   other-lowers t MatchingMode.Assign h = lowers-skips (λ ctx. refl) h
 
 -- `bind`; s₀ and e₀ are the tables at entry
-module _ (bindings s₀ e₀ : List ℕ) (c : Counts) (discr : DiscrTemp) (mode : MatchingMode) (p : PatId) (b : ℕ) (how : BindingMode) (current : BasicBlockId) (els : OptBlock) (place : Place) where
+module _ (bindings s₀ e₀ : List ℕ) (c : Counts) (mode : MatchingMode) (p : PatId) (b : ℕ) (how : BindingMode) (current : BasicBlockId) (els : OptBlock) (place : Place) where
   abbrev Bound : Lowered → List ℕ → List ℕ → Type 0
-  Bound = Fills (λ ctx. bound bindings (p .0) b how mode ctx current els place) c discr current els s₀ e₀
+  Bound = Fills (λ ctx. bound bindings (p .0) b how mode ctx current els place) c current els s₀ e₀
 
   abbrev filled : Ctx → Walk Out
   filled ctx = patternMatchBinding bindings (p .0) (p .0) b how ctx current els place
 
   -- nothing is bound in Check
-  pub bind-skips : isCheck mode ≡ true → Begins c current els → Bound (Lowered.Done c discr current els) s₀ e₀
+  pub bind-skips : isCheck mode ≡ true → Begins c current els → Bound (Lowered.Done c current els) s₀ e₀
   unfolding bound
   bind-skips check h bl lo P = lowers-skips (λ ctx. in-check mode (out ctx current els) (filled ctx) check) h
 
   -- the binding is filled beyond it
-  pub bind-fills : {r : Lowered} {s e : List ℕ} → isCheck mode ≡ false → Fills filled c discr current els s₀ e₀ r s e → Bound r s e
+  pub bind-fills : {r : Lowered} {s e : List ℕ} → isCheck mode ≡ false → Fills filled c current els s₀ e₀ r s e → Bound r s e
   unfolding bound
   bind-fills beyond F bl lo P = lowers-by (λ ctx. not-in-check mode (out ctx current els) (filled ctx) beyond) (F bl lo P)

@@ -16,7 +16,6 @@ use Rattle.mir.specs.Blocks.{termRow}
 use Rattle.state.specs.State.{State, decode}
 use Rattle.state.specs.Steps.{setTerminator}
 use Rattle.state.proofs.Calls.{set-answers}
-use Rattle.lower.specs.declared.temps.DiscrTemp.{DiscrTemp}
 use Rattle.lower.specs.declared.merging.OptBlock.{OptBlock}
 use Rattle.lower.specs.Merging.{setGoto}
 use Rattle.pattern_matching.specs.declared.MatchingMode.{MatchingMode}
@@ -33,9 +32,9 @@ use Rattle.walks.proofs.Following.{step-then, step-stops, stays, answers-by, on
 use Rattle.pattern_leaves.specs.Modes.{Ends}
 
 -- bl₀ is the table at entry
-module _ (bl₀ : List ℕ) (c : Counts) (discr : DiscrTemp) (mode : MatchingMode) (p : PatId) (left join : BasicBlockId) (els : OptBlock) where
+module _ (bl₀ : List ℕ) (c : Counts) (mode : MatchingMode) (p : PatId) (left join : BasicBlockId) (els : OptBlock) where
   abbrev Ended : Lowered → List ℕ → Type 0
-  Ended = Ends (λ ctx. alternativesLeft (p .0) mode ctx left join els) c discr left join els bl₀
+  Ended = Ends (λ ctx. alternativesLeft (p .0) mode ctx left join els) c left join els bl₀
 
   -- at the else, which is `other`
   abbrev atElse : Ctx → BasicBlockId → State → Walk Out
@@ -57,11 +56,11 @@ module _ (bl₀ : List ℕ) (c : Counts) (discr : DiscrTemp) (mode : MatchingMod
   unchecked ctx beyond = not-in-check mode (elsewhere ctx (elseBlock (ctx .state) els)) (nowhere ctx) beyond
 
   -- beyond Check the last mismatch cannot be reached
-  pub end-nowhere : {bl : List ℕ} → isCheck mode ≡ false → bl ≡ stored bl₀ (12 * left .0) (termRow Terminator.Unreachable) → Begins c left els → join .0 < c .blocks → Ended (Lowered.Done c discr join els) bl
+  pub end-nowhere : {bl : List ℕ} → isCheck mode ≡ false → bl ≡ stored bl₀ (12 * left .0) (termRow Terminator.Unreachable) → Begins c left els → join .0 < c .blocks → Ended (Lowered.Done c join els) bl
   end-nowhere beyond set h there =
       record {
         answers = λ s lo e sc visits R.
-            let ctx = ctxOf (bodyOf (lent bl₀ s lo e) sc) c discr visits in
+            let ctx = ctxOf (bodyOf (lent bl₀ s lo e) sc) c visits in
             let F = set-answers bl₀ s lo sc e c left Terminator.Unreachable set (h .start) R in
             answers-by (unchecked ctx beyond) (step-then (p .0) (λ st. out (withState ctx st) join els) F (inl refl) (stays _ (F .goes .0)));
         onward = record { at = refl; own-else = onward-refl h .own-else; begins = record { start = there; else = h .else } };
@@ -74,20 +73,20 @@ module _ (bl₀ : List ℕ) (c : Counts) (discr : DiscrTemp) (mode : MatchingMod
         record {
           answers = λ s lo e sc visits R.
               let b = bodyOf (lent bl₀ s lo e) sc in
-              let ctx = ctxOf b c discr visits in
+              let ctx = ctxOf b c visits in
               answers-by (checked ctx check) (step-stops (p .0) (atElse ctx (elseBlock (decode b c) els)) (else-answers (lent bl₀ s lo e) sc c (left .0) els full R));
           onward = tt;
         }
 
     -- the last mismatch goes on at the else
     pub end-elsewhere : {c₁ : Counts} {other : BasicBlockId} {bl : List ℕ} → NewBlock.Block c₁ other ≡ elseMade c els → bl ≡ stored bl₀ (12 * left .0) (termRow (Terminator.Goto other)) → Begins c left els →
-        join .0 < c .blocks → Ended (Lowered.Done c₁ discr join (OptBlock.Some other)) bl
+        join .0 < c .blocks → Ended (Lowered.Done c₁ join (OptBlock.Some other)) bl
     end-elsewhere {c₁ = c₁} {other = other} made set h there =
         let new = else-onward c els made h in
         record {
           answers = λ s lo e sc visits R.
               let b = bodyOf (lent bl₀ s lo e) sc in
-              let ctx = ctxOf b c discr visits in
+              let ctx = ctxOf b c visits in
               let F = else-answers (lent bl₀ s lo e) sc c (left .0) els made R in
               let S = set-answers bl₀ s lo sc e c₁ left (Terminator.Goto other) set (new .1 .begins .start) (F .goes .0) in
               answers-by (ap (elsewhere ctx) (else-number c els made b) ∙ checked ctx check)

@@ -15,7 +15,6 @@ use Rattle.image.specs.Types.{shapeBy, tyOf}
 use Rattle.place.specs.declared.Place.{Place}
 use Rattle.mir.specs.declared.BasicBlockId.{BasicBlockId}
 use Rattle.mir.specs.declared.Counts.{Counts}
-use Rattle.lower.specs.declared.temps.DiscrTemp.{DiscrTemp}
 use Rattle.lower.specs.declared.merging.OptBlock.{OptBlock}
 use Rattle.pattern_matching.specs.declared.MatchingMode.{MatchingMode}
 use Rattle.pattern_matching.specs.Modes.{isCheck}
@@ -34,20 +33,20 @@ use Rattle.pattern_rows.specs.declared.Sequence.{Sequence}
 use Rattle.pattern_rows.specs.Rows.{sequenceBy}
 
 -- `enum_test`; t lies in the tables at entry
-module _ (image : List ℕ) (t : Lent) (c : Counts) (discr : DiscrTemp) (mode : MatchingMode) (p : PatId) (v : ℕ) (current : BasicBlockId) (els : OptBlock) (place : Place) where
+module _ (image : List ℕ) (t : Lent) (c : Counts) (mode : MatchingMode) (p : PatId) (v : ℕ) (current : BasicBlockId) (els : OptBlock) (place : Place) where
   abbrev Tested : Lowered → Lent → Type 0
-  Tested = Lowers (λ ctx. enumTest image (p .0) v mode ctx current els place) c discr current els t
+  Tested = Lowers (λ ctx. enumTest image (p .0) v mode ctx current els place) c current els t
 
   abbrev tests : Ctx → Walk Out
   tests ctx = discriminantTest image (p .0) v ctx current els place
 
   -- nothing is tested beyond Check
-  pub enum-skips : isCheck mode ≡ false → Begins c current els → Tested (Lowered.Done c discr current els) t
+  pub enum-skips : isCheck mode ≡ false → Begins c current els → Tested (Lowered.Done c current els) t
   unfolding enumTest
   enum-skips beyond h = lowers-skips (λ ctx. not-in-check mode (tests ctx) (out ctx current els) beyond) h
 
   -- the variant is
-  pub enum-tests : {r : Lowered} {t′ : Lent} → isCheck mode ≡ true → Lowers tests c discr current els t r t′ → Tested r t′
+  pub enum-tests : {r : Lowered} {t′ : Lent} → isCheck mode ≡ true → Lowers tests c current els t r t′ → Tested r t′
   unfolding enumTest
   enum-tests check L = lowers-by (λ ctx. in-check mode (tests ctx) (out ctx current els) check) L
 
@@ -103,13 +102,13 @@ has-rest image rest = by-word (eqb rest 65535)
     by-word false = sym (rest-by (tree image rest))
 
 -- `slice_test`, by the type that is read; t lies in the tables at entry
-module _ (image : List ℕ) (t : Lent) (c : Counts) (discr : DiscrTemp) (mode : MatchingMode) (p : PatId) (ty n rest : ℕ) (current : BasicBlockId) (els : OptBlock) (place : Place)
+module _ (image : List ℕ) (t : Lent) (c : Counts) (mode : MatchingMode) (p : PatId) (ty n rest : ℕ) (current : BasicBlockId) (els : OptBlock) (place : Place)
     {row : TypeRow} {kind : TypeKind} (at : row ≡ typeAt image ty) (read : kind ≡ typeKind (row .kind)) where
   abbrev restIs : RestOf
   restIs = restOf (tree? (tree image) rest)
 
   abbrev Sliced : Lowered → Lent → Type 0
-  Sliced = Lowers (λ ctx. sliceTest (tyOf image ty .shape) image (p .0) n restIs mode ctx current els place) c discr current els t
+  Sliced = Lowers (λ ctx. sliceTest (tyOf image ty .shape) image (p .0) n restIs mode ctx current els place) c current els t
 
   abbrev measured : Ctx → Walk Out
   measured ctx = lengthTest restIs image (p .0) n ctx current els place
@@ -127,16 +126,16 @@ module _ (image : List ℕ) (t : Lent) (c : Counts) (discr : DiscrTemp) (mode : 
   slice-refused is = lowers-refuses (λ ctx. by-sequence is ctx)
 
   -- an array
-  pub slice-array : Sequence.Array ≡ sequenceBy kind → Begins c current els → Sliced (Lowered.Done c discr current els) t
+  pub slice-array : Sequence.Array ≡ sequenceBy kind → Begins c current els → Sliced (Lowered.Done c current els) t
   slice-array is h = lowers-skips (λ ctx. by-sequence is ctx) h
 
   -- a slice, beyond Check
-  pub slice-skips : Sequence.Slice ≡ sequenceBy kind → isCheck mode ≡ false → Begins c current els → Sliced (Lowered.Done c discr current els) t
+  pub slice-skips : Sequence.Slice ≡ sequenceBy kind → isCheck mode ≡ false → Begins c current els → Sliced (Lowered.Done c current els) t
   slice-skips is beyond h = lowers-skips (λ ctx. not-in-check mode (measured ctx) (out ctx current els) beyond ∙ by-sequence is ctx) h
 
   -- and in Check
   pub slice-tests : {b : Bool} {r : Lowered} {t′ : Lent} → Sequence.Slice ≡ sequenceBy kind → isCheck mode ≡ true → b ≡ hasRest restIs →
-      Lowers (λ ctx. lengthTestBy b image (p .0) n ctx current els place) c discr current els t r t′ → Sliced r t′
+      Lowers (λ ctx. lengthTestBy b image (p .0) n ctx current els place) c current els t r t′ → Sliced r t′
   slice-tests is check has L =
       lowers-by (λ ctx.
       ap (λ (x : Bool). lengthTestBy x image (p .0) n ctx current els place) has

@@ -8,7 +8,6 @@ use image::kinds::pat_kind;
 use image::kinds::path_kind;
 use image::rows::PatRow;
 use lower::merging::OptBlock;
-use lower::temps::DiscrTemp;
 use mir::BasicBlockId;
 use mir::Counts;
 use pattern_matching::MatchingMode;
@@ -75,7 +74,6 @@ fn path_leaf(
     locals: &mut [u16],
     entries: &mut [u16],
     counts: Counts,
-    discr: DiscrTemp,
     mode: MatchingMode,
     p: PatId,
     ty: u16,
@@ -87,7 +85,7 @@ fn path_leaf(
 ) -> Lowered
     requires { ⌜ Whole (now image) tables × (pathHolds kind (now image) b ≡ true) × (length (now bindings) ≡ bindingCount (now image)) ⌝ }
     requires { ⌜ Primed (lent (now blocks) (now statements) (now locals) (now entries)) counts × Begins counts current els ⌝ }
-    ensures { λ r. ⌜ Lowers (λ ctx. pathLeaf kind (now (image .entry)) (now (bindings .entry)) (p .0) ty b mode ctx current els place) counts discr current els (lent (now (blocks .entry)) (now (statements .entry)) (now (locals .entry)) (now (entries .entry))) r (lent (now (blocks .exit)) (now (statements .exit)) (now (locals .exit)) (now (entries .exit))) ⌝ }
+    ensures { λ r. ⌜ Lowers (λ ctx. pathLeaf kind (now (image .entry)) (now (bindings .entry)) (p .0) ty b mode ctx current els place) counts current els (lent (now (blocks .entry)) (now (statements .entry)) (now (locals .entry)) (now (entries .entry))) r (lent (now (blocks .exit)) (now (statements .exit)) (now (locals .exit)) (now (entries .exit))) ⌝ }
 {
     match kind {
         PathKind::Unresolved => Lowered::Refused(MirLowerError::UnresolvedName, p),
@@ -96,7 +94,6 @@ fn path_leaf(
             bindings,
             statements,
             counts,
-            discr,
             mode,
             p,
             BindingId(b),
@@ -112,7 +109,6 @@ fn path_leaf(
             locals,
             entries,
             counts,
-            discr,
             mode,
             p,
             ty,
@@ -121,26 +117,25 @@ fn path_leaf(
             els,
             place,
         ),
-        PathKind::Other => other_path(counts, discr, mode, p, current, els),
-        PathKind::Unknown => other_path(counts, discr, mode, p, current, els),
+        PathKind::Other => other_path(counts, mode, p, current, els),
+        PathKind::Unknown => other_path(counts, mode, p, current, els),
     }
 }
 
 // A path that names something else is refused in Check.
 fn other_path(
     counts: Counts,
-    discr: DiscrTemp,
     mode: MatchingMode,
     p: PatId,
     current: BasicBlockId,
     els: OptBlock,
 ) -> Lowered
-    ensures { λ r. ⌜ r ≡ otherPath counts discr mode p current els ⌝ }
+    ensures { λ r. ⌜ r ≡ otherPath counts mode p current els ⌝ }
 {
     if is_check(mode) {
         return Lowered::Refused(MirLowerError::NotSupported, p);
     }
-    Lowered::Done(counts, discr, current, els)
+    Lowered::Done(counts, current, els)
 }
 
 // The pattern p, whose row is given, at a place behind its derefs.
@@ -153,7 +148,6 @@ pub fn pattern_match_leaf(
     locals: &mut [u16],
     entries: &mut [u16],
     counts: Counts,
-    discr: DiscrTemp,
     mode: MatchingMode,
     p: PatId,
     row: PatRow,
@@ -163,13 +157,13 @@ pub fn pattern_match_leaf(
 ) -> Lowered
     requires { ⌜ (valid (now image) ≡ true) × Whole (now image) tables × (row .ty < typeCount (now image)) × (patternShapeHolds (patKind (row .kind)) (now image) row ≡ true) × (length (now bindings) ≡ bindingCount (now image)) ⌝ }
     requires { ⌜ Primed (lent (now blocks) (now statements) (now locals) (now entries)) counts × Begins counts current els ⌝ }
-    ensures { λ r. ⌜ Lowers (λ ctx. leafPattern (patKind (row .kind)) (now (image .entry)) (now (bindings .entry)) (p .0) row mode ctx current els place) counts discr current els (lent (now (blocks .entry)) (now (statements .entry)) (now (locals .entry)) (now (entries .entry))) r (lent (now (blocks .exit)) (now (statements .exit)) (now (locals .exit)) (now (entries .exit))) ⌝ }
+    ensures { λ r. ⌜ Lowers (λ ctx. leafPattern (patKind (row .kind)) (now (image .entry)) (now (bindings .entry)) (p .0) row mode ctx current els place) counts current els (lent (now (blocks .entry)) (now (statements .entry)) (now (locals .entry)) (now (entries .entry))) r (lent (now (blocks .exit)) (now (statements .exit)) (now (locals .exit)) (now (entries .exit))) ⌝ }
 {
     match pat_kind(row.kind) {
         PatKind::Missing => Lowered::Refused(MirLowerError::IncompletePattern, p),
         PatKind::Rest => Lowered::Refused(MirLowerError::IncompletePattern, p),
         PatKind::NotNull => Lowered::Refused(MirLowerError::IncompletePattern, p),
-        PatKind::Wild => Lowered::Done(counts, discr, current, els),
+        PatKind::Wild => Lowered::Done(counts, current, els),
         PatKind::Tuple => Lowered::Refused(MirLowerError::IncompletePattern, p),
         PatKind::Or => Lowered::Refused(MirLowerError::IncompletePattern, p),
         PatKind::Record => Lowered::Refused(MirLowerError::IncompletePattern, p),
@@ -181,7 +175,6 @@ pub fn pattern_match_leaf(
             locals,
             entries,
             counts,
-            discr,
             mode,
             p,
             row.ty,
@@ -202,7 +195,6 @@ pub fn pattern_match_leaf(
             locals,
             entries,
             counts,
-            discr,
             mode,
             p,
             row.ty,
@@ -220,7 +212,6 @@ pub fn pattern_match_leaf(
             locals,
             entries,
             counts,
-            discr,
             mode,
             p,
             row.ty,

@@ -6,7 +6,6 @@ use image::kinds::BindingMode;
 use image::kinds::type_kind;
 use image::rows::type_at;
 use lower::merging::OptBlock;
-use lower::temps::DiscrTemp;
 use mir::BasicBlockId;
 use mir::Counts;
 use mir::blocks::NewBlock;
@@ -47,7 +46,6 @@ pub fn enum_test(
     locals: &mut [u16],
     entries: &mut [u16],
     counts: Counts,
-    discr: DiscrTemp,
     mode: MatchingMode,
     p: PatId,
     v: u16,
@@ -57,10 +55,10 @@ pub fn enum_test(
 ) -> Lowered
     requires { ⌜ (valid (now image) ≡ true) × Whole (now image) tables × (v < variantCount (now image)) ⌝ }
     requires { ⌜ Primed (lent (now blocks) (now statements) (now locals) (now entries)) counts × Begins counts current els ⌝ }
-    ensures { λ r. ⌜ Lowers (λ ctx. enumTest (now (image .entry)) (p .0) v mode ctx current els place) counts discr current els (lent (now (blocks .entry)) (now (statements .entry)) (now (locals .entry)) (now (entries .entry))) r (lent (now (blocks .exit)) (now (statements .exit)) (now (locals .exit)) (now (entries .exit))) ⌝ }
+    ensures { λ r. ⌜ Lowers (λ ctx. enumTest (now (image .entry)) (p .0) v mode ctx current els place) counts current els (lent (now (blocks .entry)) (now (statements .entry)) (now (locals .entry)) (now (entries .entry))) r (lent (now (blocks .exit)) (now (statements .exit)) (now (locals .exit)) (now (entries .exit))) ⌝ }
 {
     if !is_check(mode) {
-        return Lowered::Done(counts, discr, current, els);
+        return Lowered::Done(counts, current, els);
     }
     discriminant_test(
         image,
@@ -70,7 +68,6 @@ pub fn enum_test(
         locals,
         entries,
         counts,
-        discr,
         p,
         v,
         current,
@@ -88,7 +85,6 @@ pub fn slice_test(
     locals: &mut [u16],
     entries: &mut [u16],
     counts: Counts,
-    discr: DiscrTemp,
     mode: MatchingMode,
     p: PatId,
     ty: u16,
@@ -100,14 +96,14 @@ pub fn slice_test(
 ) -> Lowered
     requires { ⌜ Whole (now image) tables × (ty < typeCount (now image)) ⌝ }
     requires { ⌜ Primed (lent (now blocks) (now statements) (now locals) (now entries)) counts × Begins counts current els ⌝ }
-    ensures { λ r. ⌜ Lowers (λ ctx. sliceTest (tyOf (now (image .entry)) ty .shape) (now (image .entry)) (p .0) n (restOf (tree? (tree (now (image .entry))) rest)) mode ctx current els place) counts discr current els (lent (now (blocks .entry)) (now (statements .entry)) (now (locals .entry)) (now (entries .entry))) r (lent (now (blocks .exit)) (now (statements .exit)) (now (locals .exit)) (now (entries .exit))) ⌝ }
+    ensures { λ r. ⌜ Lowers (λ ctx. sliceTest (tyOf (now (image .entry)) ty .shape) (now (image .entry)) (p .0) n (restOf (tree? (tree (now (image .entry))) rest)) mode ctx current els place) counts current els (lent (now (blocks .entry)) (now (statements .entry)) (now (locals .entry)) (now (entries .entry))) r (lent (now (blocks .exit)) (now (statements .exit)) (now (locals .exit)) (now (entries .exit))) ⌝ }
 {
     match sequence_of(type_kind(type_at(image, tables, ty).kind)) {
         Sequence::Other => Lowered::Refused(MirLowerError::TypeError(2), p),
-        Sequence::Array => Lowered::Done(counts, discr, current, els),
+        Sequence::Array => Lowered::Done(counts, current, els),
         Sequence::Slice => {
             if !is_check(mode) {
-                return Lowered::Done(counts, discr, current, els);
+                return Lowered::Done(counts, current, els);
             }
             length_test(
                 image,
@@ -117,7 +113,6 @@ pub fn slice_test(
                 locals,
                 entries,
                 counts,
-                discr,
                 p,
                 n,
                 rest != 65535,
@@ -135,7 +130,6 @@ pub fn bind(
     statements: &mut [u16],
     entries: &mut [u16],
     counts: Counts,
-    discr: DiscrTemp,
     mode: MatchingMode,
     p: PatId,
     b: BindingId,
@@ -145,17 +139,16 @@ pub fn bind(
     place: Place,
 ) -> Lowered
     requires { ⌜ (b .0 < length (now bindings)) × (length (now statements) ≡ 50176) × (length (now entries) ≡ 1024) × Begins counts current els ⌝ }
-    ensures { λ r. ⌜ Fills (λ ctx. bound (now (bindings .entry)) (p .0) (b .0) how mode ctx current els place) counts discr current els (now (statements .entry)) (now (entries .entry)) r (now (statements .exit)) (now (entries .exit)) ⌝ }
+    ensures { λ r. ⌜ Fills (λ ctx. bound (now (bindings .entry)) (p .0) (b .0) how mode ctx current els place) counts current els (now (statements .entry)) (now (entries .entry)) r (now (statements .exit)) (now (entries .exit)) ⌝ }
 {
     if is_check(mode) {
-        return Lowered::Done(counts, discr, current, els);
+        return Lowered::Done(counts, current, els);
     }
     pattern_match_binding(
         bindings,
         statements,
         entries,
         counts,
-        discr,
         p,
         p,
         b,
@@ -171,7 +164,6 @@ pub fn bind(
 pub fn alternatives_end(
     blocks: &mut [u16],
     counts: Counts,
-    discr: DiscrTemp,
     mode: MatchingMode,
     p: PatId,
     left: BasicBlockId,
@@ -179,17 +171,17 @@ pub fn alternatives_end(
     els: OptBlock,
 ) -> Lowered
     requires { ⌜ (length (now blocks) ≡ 6144) × (counts .blocks ≤ 512) × Begins counts left els × (join .0 < counts .blocks) ⌝ }
-    ensures { λ r. ⌜ Ends (λ ctx. alternativesLeft (p .0) mode ctx left join els) counts discr left join els (now (blocks .entry)) r (now (blocks .exit)) ⌝ }
+    ensures { λ r. ⌜ Ends (λ ctx. alternativesLeft (p .0) mode ctx left join els) counts left join els (now (blocks .entry)) r (now (blocks .exit)) ⌝ }
 {
     if !is_check(mode) {
         set_terminator(blocks, left, Terminator::Unreachable);
-        return Lowered::Done(counts, discr, join, els);
+        return Lowered::Done(counts, join, els);
     }
     match else_block(counts, els) {
         NewBlock::Full => Lowered::Refused(MirLowerError::Limit, p),
         NewBlock::Block(c1, other) => {
             set_goto(blocks, left, other);
-            Lowered::Done(c1, discr, join, OptBlock::Some(other))
+            Lowered::Done(c1, join, OptBlock::Some(other))
         }
     }
 }

@@ -9,6 +9,7 @@ use Rattle.image.specs.declared.kinds.AdtKind.{AdtKind}
 use Rattle.image.specs.Lists.{member, upFrom}
 use Rattle.image.specs.Types.{Shape, integer, bool, char, str, tuple, adt, reference, array, slice, unknown, tyOf, variantOf}
 use Rattle.refusals.specs.declared.MirLowerError.{MirLowerError}
+use Rattle.place.specs.declared.LocalId.{LocalId}
 use Rattle.place.specs.declared.Place.{Place}
 use Rattle.place.specs.declared.elems.ProjectionElem.{ProjectionElem}
 use Rattle.place.specs.declared.place_ty.PlaceTy.{PlaceTy}
@@ -20,11 +21,10 @@ use Rattle.mir.specs.declared.rvalues.PlaceRvalue.{PlaceRvalue}
 use Rattle.mir.specs.Locals.{localTy}
 use Rattle.mir.specs.Rvalues.{placeRvalueRow}
 use Rattle.state.specs.State.{State}
-use Rattle.state.specs.Steps.{nextBlock, tryBlock, tryStatement, setTerminator}
-use Rattle.lower.specs.declared.temps.DiscrTemp.{DiscrTemp}
+use Rattle.state.specs.Steps.{nextBlock, nextLocal, tryBlock, tryStatement, setTerminator}
 use Rattle.lower.specs.declared.merging.OptBlock.{OptBlock}
-use Rattle.lower.specs.Temps.{discrTempPlace, discrLocal}
-use Rattle.pattern_matching.specs.Walking.{Ctx, Out, Walk, refused, Lowering, next, step, out, project, elseState, elseBlock, inCheck}
+use Rattle.lower.specs.Temps.{discrTempPlace}
+use Rattle.pattern_matching.specs.Walking.{Ctx, Out, Walk, refused, Lowering, next, step, out, withState, project, elseState, elseBlock, inCheck}
 
 -- the type of a place in a body
 unfoldable pub placeTy : List ℕ → State → Place → PlaceTy
@@ -135,19 +135,19 @@ variantFields (AdtPatternShape.Record fields args) p count mode ctx current else
     recordFields (resolved count fields) p args mode ctx current else place
 variantFields AdtPatternShape.Unit p count mode ctx current else place = out ctx current else
 
--- the test of an enum: the shared local is the discriminant of what lies at the place; the block that goes on is made before an else
+-- it goes on by whether the local is the variant's discriminant
+abbrev pub discriminantSwitch : List ℕ → ℕ → LocalId → BasicBlockId → BasicBlockId → Terminator
+discriminantSwitch image v l then else =
+    Terminator.Switch l (variantOf image v .discriminant % 18446744073709551616) (variantOf image v .discriminant / 18446744073709551616) then else
+
+-- the test of an enum: a new local is the discriminant of what lies at the place; the block that goes on is made before an else
 unfoldable pub discriminantTest : List ℕ → ℕ → ℕ → Ctx → BasicBlockId → OptBlock → Place → Walk Out
 discriminantTest image p v ctx current else place =
-    step p (discrTempPlace image (ctx .state) (ctx .discr) current) (λ st₁.
-    step p (tryStatement st₁ (placeRvalueRow current (discrLocal (ctx .state) (ctx .discr)) PlaceRvalue.Discr place)) (λ st₂.
+    step p (discrTempPlace image (ctx .state) current) (λ st₁.
+    step p (tryStatement st₁ (placeRvalueRow current (nextLocal (ctx .state)) PlaceRvalue.Discr place)) (λ st₂.
     step p (tryBlock st₂) (λ st₃.
     step p (elseState st₃ else) (λ st₄.
-    out (record {
-      state = setTerminator st₄ current
-          (Terminator.Switch (discrLocal (ctx .state) (ctx .discr)) (variantOf image v .discriminant % 18446744073709551616) (variantOf image v .discriminant / 18446744073709551616) (nextBlock st₂) (elseBlock st₃ else));
-      discr = DiscrTemp.Some (discrLocal (ctx .state) (ctx .discr));
-      visits = ctx .visits;
-    }) (nextBlock st₂) (OptBlock.Some (elseBlock st₃ else))))))
+    out (withState ctx (setTerminator st₄ current (discriminantSwitch image v (nextLocal (ctx .state)) (nextBlock st₂) (elseBlock st₃ else)))) (nextBlock st₂) (OptBlock.Some (elseBlock st₃ else))))))
 
 -- a variant of a struct, an enum or a union
 unfoldable pub variantOn : AdtKind → List ℕ → ℕ → ℕ → AdtPatternShape → Lowering

@@ -14,14 +14,12 @@ use Rattle.place.specs.Places.{onward}
 use Rattle.mir.specs.declared.BasicBlockId.{BasicBlockId}
 use Rattle.state.specs.State.{State}
 use Rattle.state.specs.Steps.{nextBlock, tryBlock}
-use Rattle.lower.specs.declared.temps.DiscrTemp.{DiscrTemp}
 use Rattle.lower.specs.declared.merging.OptBlock.{OptBlock}
 use Rattle.pattern_matching.specs.declared.MatchingMode.{MatchingMode}
 
--- what the walk carries along: the body and its scopes, the local that the tests of enums share, and how often each pattern was visited, by its number
+-- what the walk carries along: the body and its scopes, and how often each pattern was visited, by its number
 pub record Ctx : Type 0 where
   pub state : State
-  pub discr : DiscrTemp
   pub visits : List ℕ
 
 -- what the lowering of a pattern gives: the block where a match goes on, and the one where a mismatch does, if there is one
@@ -53,11 +51,11 @@ abbrev pub out : Ctx → BasicBlockId → OptBlock → Walk Out
 out ctx then else = ok (record { ctx = ctx; then = then; else = else })
 
 abbrev pub withState : Ctx → State → Ctx
-withState ctx st = record { state = st; discr = ctx .discr; visits = ctx .visits }
+withState ctx st = record { state = st; visits = ctx .visits }
 
 -- document 01's visit: "Every entry to `pattern_match_inner` raises its pattern's count in the state by one"
 unfoldable pub visited : Ctx → ℕ → Ctx
-visited ctx p = record { state = ctx .state; discr = ctx .discr; visits = set (ctx .visits) p (getD (ctx .visits) p 0 + 1) }
+visited ctx p = record { state = ctx .state; visits = set (ctx .visits) p (getD (ctx .visits) p 0 + 1) }
 
 -- the place one element on; a place has at most 16
 unfoldable pub project : Place → ProjectionElem → Result Place

@@ -29,7 +29,6 @@ use Rattle.state.specs.Contracts.{Ready, Grown, Answers}
 use Rattle.state.specs.declared.Stepped.{Stepped}
 use Rattle.state.proofs.Calls.{countedCounts, countedResult, push-statement-answers}
 use Rattle.state.proofs.RowLengths.{place-rvalue-length}
-use Rattle.lower.specs.declared.temps.DiscrTemp.{DiscrTemp}
 use Rattle.lower.specs.declared.merging.OptBlock.{OptBlock}
 use Rattle.lower.specs.Temps.{bindingLocal, pushStorageLiveForLocal}
 use Rattle.lower.specs.Promises.{Marks}
@@ -44,7 +43,7 @@ use Rattle.pattern_parts.specs.Parts.{restFilled, Assigns, Fills}
 
 -- the answer of a statement's push, as the code has it
 abbrev pushed : Counted → DiscrTemp → PatId → BasicBlockId → OptBlock → Lowered
-pushed (Counted.Now c) discr p current els = Lowered.Done c discr current els
+pushed (Counted.Now c) discr p current els = Lowered.Done c current els
 pushed Counted.Full discr p current els = Lowered.Refused MirLowerError.Limit p
 
 -- a statement takes nothing away
@@ -60,24 +59,24 @@ statement-grown c {c₁ = c₁} is = made (ltb (c .statements) statementLimit) i
     made false e = let z : _≡_ {A = ℕ} 0 1 = cc in absurd (omega arith)
 
 -- where the push of a statement goes on
-pushed-onward : (c : Counts) (r : Counted) (discr : DiscrTemp) (p : PatId) {current : BasicBlockId} {els : OptBlock} → r ≡ newStatement c → Begins c current els → OnwardBy c current els (pushed r discr p current els)
-pushed-onward c (Counted.Now c₁) discr p is h = onward-grown (statement-grown c is) h
-pushed-onward c Counted.Full discr p is h = tt
+pushed-onward : (c : Counts) (r : Counted) (p : PatId) {current : BasicBlockId} {els : OptBlock} → r ≡ newStatement c → Begins c current els → OnwardBy c current els (pushed r discr p current els)
+pushed-onward c (Counted.Now c₁) p is h = onward-grown (statement-grown c is) h
+pushed-onward c Counted.Full p is h = tt
 
 -- p is visited, and the walk goes on where it is
-module _ (discr : DiscrTemp) (p : PatId) (current : BasicBlockId) (els : OptBlock) (place : Place) where
+module _ (p : PatId) (current : BasicBlockId) (els : OptBlock) (place : Place) where
   -- the local l is assigned to
   abbrev assigned : LocalId → PlaceRvalue → Ctx → State → Walk Out
   assigned l rvalue ctx st = step (p .0) (tryStatement st (placeRvalueRow current l rvalue place)) (λ st₁. out (withState ctx st₁) current els)
 
   abbrev behind : List ℕ → State → Walk Out
-  behind visits st = out (record { state = st; discr = discr; visits = visits }) current els
+  behind visits st = out (record { state = st; visits = visits }) current els
 
   -- the assignment, or no room for it: the statements are s₀ before and s after, and st is any state
   assign-answers : (bl s₀ lo sc e visits : List ℕ) (c : Counts) (st : State) {s : List ℕ} (l : LocalId) (rvalue : PlaceRvalue) (r : Counted) → length (place .elems) ≡ 16 → r ≡ newStatement c →
       s ≡ statementsAfter c s₀ (placeRvalueRow current l rvalue place) → Ready (body bl s₀ lo sc e) c →
       Answers (body bl s₀ lo sc e) c (current .0) (body bl s lo sc e) (loweredCounts (pushed r discr p current els)) (walkOf (pushed r discr p current els) (body bl s lo sc e) visits)
-      (assigned l rvalue (record { state = st; discr = discr; visits = visits }) (decode (body bl s₀ lo sc e) c))
+      (assigned l rvalue (record { state = st; visits = visits }) (decode (body bl s₀ lo sc e) c))
   assign-answers bl s₀ lo sc e visits c st {s = s} l rvalue r long is after R = by r is
     where
       stored : (r : Counted) → r ≡ newStatement c →
@@ -86,14 +85,14 @@ module _ (discr : DiscrTemp) (p : PatId) (current : BasicBlockId) (els : OptBloc
 
       by : (r : Counted) → r ≡ newStatement c →
           Answers (body bl s₀ lo sc e) c (current .0) (body bl s lo sc e) (loweredCounts (pushed r discr p current els)) (walkOf (pushed r discr p current els) (body bl s lo sc e) visits)
-          (assigned l rvalue (record { state = st; discr = discr; visits = visits }) (decode (body bl s₀ lo sc e) c))
+          (assigned l rvalue (record { state = st; visits = visits }) (decode (body bl s₀ lo sc e) c))
       by (Counted.Now c₁) is = let F = stored (Counted.Now c₁) is in step-then (p .0) (behind visits) F (inl refl) (stays (behind visits (decode (body bl s lo sc e) c₁)) (F .goes .0))
       by Counted.Full is = step-stops (p .0) (behind visits) (stored Counted.Full is)
 
 -- `pattern_match_binding`: s₀ and e₀ are the tables at entry
-module _ (bindings s₀ e₀ : List ℕ) (c : Counts) (discr : DiscrTemp) (p q : PatId) (b : ℕ) (how : BindingMode) (current : BasicBlockId) (els : OptBlock) (place : Place) where
+module _ (bindings s₀ e₀ : List ℕ) (c : Counts) (p q : PatId) (b : ℕ) (how : BindingMode) (current : BasicBlockId) (els : OptBlock) (place : Place) where
   abbrev Bound : Lowered → List ℕ → List ℕ → Type 0
-  Bound = Fills (λ ctx. patternMatchBinding bindings (p .0) (q .0) b how ctx current els place) c discr current els s₀ e₀
+  Bound = Fills (λ ctx. patternMatchBinding bindings (p .0) (q .0) b how ctx current els place) c current els s₀ e₀
 
   -- the binding has no local
   pub binding-absent : {e : MirLowerError} → stopped e ≡ bindingLocal bindings b → Bound (Lowered.Refused e q) s₀ e₀
@@ -106,7 +105,7 @@ module _ (bindings s₀ e₀ : List ℕ) (c : Counts) (discr : DiscrTemp) (p q :
     unfolding patternMatchBinding
     binding-unmarked M bl lo P = record {
       answers = λ sc visits R.
-          rw (← bound) (step-stops (p .0) (assigned discr p current els place l (bindingRvalue how) (ctxOf (body bl s₀ lo sc e₀) c discr visits)) (M bl lo sc R));
+          rw (← bound) (step-stops (p .0) (assigned discr p current els place l (bindingRvalue how) (ctxOf (body bl s₀ lo sc e₀) c visits)) (M bl lo sc R));
       onward = tt;
     }
 
@@ -119,15 +118,15 @@ module _ (bindings s₀ e₀ : List ℕ) (c : Counts) (discr : DiscrTemp) (p q :
       answers = λ sc visits R.
           let F = M bl lo sc R in
           rw (← bound)
-          (step-then (p .0) (assigned discr p current els place l (bindingRvalue how) (ctxOf (body bl s₀ lo sc e₀) c discr visits)) F (inl refl)
-          (assign-answers discr p current els place bl s₁ lo sc e₁ visits c₁ (decode (body bl s₀ lo sc e₀) c) l (bindingRvalue how) r long is (after ∙ ap (λ (v : PlaceRvalue). statementsAfter c₁ s₁ (placeRvalueRow current l v place)) same) (F .goes .0)));
-      onward = let G = M bl lo (zeros 32) P .goes .1 in onward-by (pushed r discr p current els) G (onward-grown G start) (pushed-onward c₁ r discr p is (begins-grown G start));
+          (step-then (p .0) (assigned discr p current els place l (bindingRvalue how) (ctxOf (body bl s₀ lo sc e₀) c visits)) F (inl refl)
+          (assign-answers p current els place bl s₁ lo sc e₁ visits c₁ (decode (body bl s₀ lo sc e₀) c) l (bindingRvalue how) r long is (after ∙ ap (λ (v : PlaceRvalue). statementsAfter c₁ s₁ (placeRvalueRow current l v place)) same) (F .goes .0)));
+      onward = let G = M bl lo (zeros 32) P .goes .1 in onward-by (pushed r discr p current els) G (onward-grown G start) (pushed-onward c₁ r p is (begins-grown G start));
     }
 
 -- `local_path`: s₀ is the statements' table at entry
-module _ (bindings s₀ : List ℕ) (c : Counts) (discr : DiscrTemp) (p : PatId) (b : ℕ) (current : BasicBlockId) (els : OptBlock) (place : Place) where
+module _ (bindings s₀ : List ℕ) (c : Counts) (p : PatId) (b : ℕ) (current : BasicBlockId) (els : OptBlock) (place : Place) where
   abbrev Path : MatchingMode → Lowered → List ℕ → Type 0
-  Path mode = Assigns (λ ctx. localPath bindings (p .0) b mode ctx current els place) c discr current els s₀
+  Path mode = Assigns (λ ctx. localPath bindings (p .0) b mode ctx current els place) c current els s₀
 
   -- in Check it is refused
   pub path-check : Path MatchingMode.Check (Lowered.Refused MirLowerError.NotSupported p) s₀
@@ -135,7 +134,7 @@ module _ (bindings s₀ : List ℕ) (c : Counts) (discr : DiscrTemp) (p : PatId)
   path-check bl lo e = lowers-refuses (λ ctx. refl)
 
   -- in Bind there is nothing to do
-  pub path-bind : Begins c current els → Path MatchingMode.Bind (Lowered.Done c discr current els) s₀
+  pub path-bind : Begins c current els → Path MatchingMode.Bind (Lowered.Done c current els) s₀
   unfolding localPath
   path-bind start bl lo e = lowers-skips (λ ctx. refl) start
 
@@ -149,14 +148,14 @@ module _ (bindings s₀ : List ℕ) (c : Counts) (discr : DiscrTemp) (p : PatId)
       s ≡ statementsAfter c s₀ (placeRvalueRow current l PlaceRvalue.Copy place) → Path MatchingMode.Assign (pushed r discr p current els) s
   unfolding localPath
   path-assigned {l = l} r long start bound is after bl lo e = record {
-    answers = λ sc visits R. rw (← bound) (assign-answers discr p current els place bl s₀ lo sc e visits c (decode (body bl s₀ lo sc e) c) l PlaceRvalue.Copy r long is after R);
-    onward = pushed-onward c r discr p is start;
+    answers = λ sc visits R. rw (← bound) (assign-answers p current els place bl s₀ lo sc e visits c (decode (body bl s₀ lo sc e) c) l PlaceRvalue.Copy r long is after R);
+    onward = pushed-onward c r p is start;
   }
 
 -- `fill_rest`: s₀ and e₀ are the tables at entry
-module _ (bindings s₀ e₀ : List ℕ) (c : Counts) (discr : DiscrTemp) (p q : PatId) (b : ℕ) (how : BindingMode) (front end : ℕ) (current : BasicBlockId) (els : OptBlock) (place : Place) where
+module _ (bindings s₀ e₀ : List ℕ) (c : Counts) (p q : PatId) (b : ℕ) (how : BindingMode) (front end : ℕ) (current : BasicBlockId) (els : OptBlock) (place : Place) where
   abbrev Rest : Lowered → List ℕ → List ℕ → Type 0
-  Rest = Fills (λ ctx. restFilled bindings (p .0) (q .0) b how front end ctx current els place) c discr current els s₀ e₀
+  Rest = Fills (λ ctx. restFilled bindings (p .0) (q .0) b how front end ctx current els place) c current els s₀ e₀
 
   -- there is no room for the element
   pub rest-stops : stopped MirLowerError.Limit ≡ project place (ProjectionElem.Subslice front end) → Rest (Lowered.Refused MirLowerError.Limit p) s₀ e₀
@@ -165,6 +164,6 @@ module _ (bindings s₀ e₀ : List ℕ) (c : Counts) (discr : DiscrTemp) (p q :
 
   -- the binding is filled with the part
   pub rest-filled : {part : Place} {r : Lowered} {s e : List ℕ} → done part ≡ project place (ProjectionElem.Subslice front end) →
-      Fills (λ ctx. patternMatchBinding bindings (p .0) (q .0) b how ctx current els part) c discr current els s₀ e₀ r s e → Rest r s e
+      Fills (λ ctx. patternMatchBinding bindings (p .0) (q .0) b how ctx current els part) c current els s₀ e₀ r s e → Rest r s e
   unfolding restFilled
   rest-filled h F bl lo P = lowers-by (λ ctx. ap (λ (x : Result Place). step (p .0) x (λ on. patternMatchBinding bindings (p .0) (q .0) b how ctx current els on)) h) (F bl lo P)

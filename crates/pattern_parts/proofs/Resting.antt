@@ -22,7 +22,6 @@ use Rattle.image.proofs.Trees.{tree-node}
 use Rattle.place.specs.declared.Place.{Place}
 use Rattle.mir.specs.declared.BasicBlockId.{BasicBlockId}
 use Rattle.mir.specs.declared.Counts.{Counts}
-use Rattle.lower.specs.declared.temps.DiscrTemp.{DiscrTemp}
 use Rattle.lower.specs.declared.merging.OptBlock.{OptBlock}
 use Rattle.pattern_matching.specs.declared.MatchingMode.{MatchingMode}
 use Rattle.pattern_matching.specs.Modes.{isCheck}
@@ -99,20 +98,20 @@ module _ (image : List ℕ) (rest : ℕ) (v : valid image ≡ true) (there : res
   rest-is present = rw (ne-eqb rest 65535 present, tree-node image rest v there, at) (node-rest (patKind (patAt image rest .kind)) (tree image) image _ (patAt image rest))
 
 -- `rest_bound`: s₀ and e₀ are the tables at entry
-module _ (image bindings s₀ e₀ : List ℕ) (c : Counts) (discr : DiscrTemp) (mode : MatchingMode) (p : PatId) (rest front end : ℕ) (current : BasicBlockId) (els : OptBlock) (place : Place) where
+module _ (image bindings s₀ e₀ : List ℕ) (c : Counts) (mode : MatchingMode) (p : PatId) (rest front end : ℕ) (current : BasicBlockId) (els : OptBlock) (place : Place) where
   abbrev by : RestOf → Ctx → Walk Out
   by x ctx = restBound x bindings (p .0) front end mode ctx current els place
 
   abbrev Bound : Lowered → List ℕ → List ℕ → Type 0
-  Bound = Fills (by (restOf (tree? (tree image) rest))) c discr current els s₀ e₀
+  Bound = Fills (by (restOf (tree? (tree image) rest))) c current els s₀ e₀
 
   -- there is no rest
-  pub rest-none : Begins c current els → rest ≡ 65535 → Bound (Lowered.Done c discr current els) s₀ e₀
+  pub rest-none : Begins c current els → rest ≡ 65535 → Bound (Lowered.Done c current els) s₀ e₀
   unfolding restOf tree? restBound
   rest-none start e bl lo P = lowers-skips (λ ctx. rw (eq-eqb rest 65535 e) refl) start
 
   -- in Check
-  pub rest-in-check : Begins c current els → isCheck mode ≡ true → Bound (Lowered.Done c discr current els) s₀ e₀
+  pub rest-in-check : Begins c current els → isCheck mode ≡ true → Bound (Lowered.Done c current els) s₀ e₀
   rest-in-check start e bl lo P = lowers-skips (λ ctx. same mode e (restOf (tree? (tree image) rest)) ctx) start
     where
       same : (mode : MatchingMode) → isCheck mode ≡ true → (x : RestOf) (ctx : Ctx) → out ctx current els ≡ restBound x bindings (p .0) front end mode ctx current els place
@@ -124,13 +123,13 @@ module _ (image bindings s₀ e₀ : List ℕ) (c : Counts) (discr : DiscrTemp) 
 
   module _ (v : valid image ≡ true) (there : rest < patternCount image) (present : rest ≡ 65535 → ⊥) {row : PatRow} (at : row ≡ patAt image rest) where
     -- a rest that does not bind
-    pub rest-ignored : Begins c current els → isBind (patKind (row .kind)) ≡ false → Bound (Lowered.Done c discr current els) s₀ e₀
+    pub rest-ignored : Begins c current els → isBind (patKind (row .kind)) ≡ false → Bound (Lowered.Done c current els) s₀ e₀
     unfolding restBound
     rest-ignored start e bl lo P = lowers-skips (λ ctx. rw (rest-is image rest v there at present, e) refl) start
 
     -- beyond Check, a rest that binds
     pub rest-binds : {how : BindingMode} {r : Lowered} {s e : List ℕ} → isCheck mode ≡ false → isBind (patKind (row .kind)) ≡ true → how ≡ bindingMode (row .c) →
-        Fills (λ ctx. restFilled bindings (p .0) rest (row .a) how front end ctx current els place) c discr current els s₀ e₀ r s e → Bound r s e
+        Fills (λ ctx. restFilled bindings (p .0) rest (row .a) how front end ctx current els place) c current els s₀ e₀ r s e → Bound r s e
     rest-binds {how = how} beyond e same F bl lo P =
         lowers-by (λ ctx. filled mode beyond how ctx ∙ ap (λ (x : RestOf). by x ctx) (ap (RestOf.binds rest (row .a)) same ∙ sym is)) (F bl lo P)
       where

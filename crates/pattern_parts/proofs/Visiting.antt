@@ -19,7 +19,6 @@ use Rattle.place.specs.Places.{onward, Projects}
 use Rattle.mir.specs.declared.Counts.{Counts}
 use Rattle.mir.specs.declared.BasicBlockId.{BasicBlockId}
 use Rattle.state.proofs.Answering.{kept-refl}
-use Rattle.lower.specs.declared.temps.DiscrTemp.{DiscrTemp}
 use Rattle.lower.specs.declared.merging.OptBlock.{OptBlock}
 use Rattle.pattern_matching.specs.declared.MatchingMode.{MatchingMode}
 use Rattle.pattern_matching.specs.Walking.{Out, Walk, Lowering, step, visited, project, derefed, entered}
@@ -155,10 +154,10 @@ abbrev pub visitedIn : List ℕ → PatId → List ℕ
 visitedIn v p = set v (p .0) (oneMore (getD v (p .0) 0))
 
 -- a pattern is entered: v is the visits' table before, and p is visited first
-module _ (p : PatId) (derefs : ℕ) (lowering : Lowering) (mode : MatchingMode) (c : Counts) (discr : DiscrTemp) (current : BasicBlockId) (els : OptBlock) (place : Place) (t : Lent) (v : List ℕ) where
+module _ (p : PatId) (derefs : ℕ) (lowering : Lowering) (mode : MatchingMode) (c : Counts) (current : BasicBlockId) (els : OptBlock) (place : Place) (t : Lent) (v : List ℕ) where
   -- what lowering it promises
   abbrev pub Enters : Lowered → Lent → List ℕ → Type 0
-  Enters = Walks (λ ctx. entered (p .0) derefs lowering mode ctx current els place) c discr current els t v
+  Enters = Walks (λ ctx. entered (p .0) derefs lowering mode ctx current els place) c current els t v
 
   -- there is no room for its derefs
   pub enter-stops : refused MirLowerError.Limit ≡ derefsOf place derefs → Enters (Lowered.Refused MirLowerError.Limit p) t (visitedIn v p)
@@ -168,15 +167,15 @@ module _ (p : PatId) (derefs : ℕ) (lowering : Lowering) (mode : MatchingMode) 
       visits′ = set visits (p .0) (getD visits (p .0) 0 + 1);
       holds = visit-holds v visits (p .0) H;
       answers = refuses
-          (ap (λ (r : Result Place). step (p .0) r (lowering mode (visited (ctxOf (bodyOf t scopes) c discr visits) (p .0)) current els)) full
-          ∙ sym (derefed-by (p .0) place (lowering mode (visited (ctxOf (bodyOf t scopes) c discr visits) (p .0)) current els) derefs));
+          (ap (λ (r : Result Place). step (p .0) r (lowering mode (visited (ctxOf (bodyOf t scopes) c visits) (p .0)) current els)) full
+          ∙ sym (derefed-by (p .0) place (lowering mode (visited (ctxOf (bodyOf t scopes) c visits) (p .0)) current els) derefs));
     };
     leaves = λ P. (tt, kept-refl c (current .0) (bodyOf t (zeros 32)));
     onward = tt;
   }
 
   -- it is lowered at the place behind them
-  pub enter-goes : {to : Place} {r : Lowered} {t₁ : Lent} {v₁ : List ℕ} → ok to ≡ derefsOf place derefs → Walks (λ ctx. lowering mode ctx current els to) c discr current els t (visitedIn v p) r t₁ v₁ → Enters r t₁ v₁
+  pub enter-goes : {to : Place} {r : Lowered} {t₁ : Lent} {v₁ : List ℕ} → ok to ≡ derefsOf place derefs → Walks (λ ctx. lowering mode ctx current els to) c current els t (visitedIn v p) r t₁ v₁ → Enters r t₁ v₁
   unfolding entered visited
   enter-goes there W = record {
     answers = λ scopes visits R H.
@@ -185,8 +184,8 @@ module _ (p : PatId) (derefs : ℕ) (lowering : Lowering) (mode : MatchingMode) 
           visits′ = F .visits′;
           holds = F .holds;
           answers = answers-by
-              (ap (λ (r : Result Place). step (p .0) r (lowering mode (visited (ctxOf (bodyOf t scopes) c discr visits) (p .0)) current els)) there
-              ∙ sym (derefed-by (p .0) place (lowering mode (visited (ctxOf (bodyOf t scopes) c discr visits) (p .0)) current els) derefs))
+              (ap (λ (r : Result Place). step (p .0) r (lowering mode (visited (ctxOf (bodyOf t scopes) c visits) (p .0)) current els)) there
+              ∙ sym (derefed-by (p .0) place (lowering mode (visited (ctxOf (bodyOf t scopes) c visits) (p .0)) current els) derefs))
               (F .answers);
         };
     leaves = W .leaves;

@@ -19,7 +19,6 @@ use Rattle.place.specs.declared.elems.ProjectionElem.{ProjectionElem}
 use Rattle.place.specs.declared.place_ty.PlaceTy.{PlaceTy}
 use Rattle.mir.specs.declared.BasicBlockId.{BasicBlockId}
 use Rattle.mir.specs.declared.Counts.{Counts}
-use Rattle.lower.specs.declared.temps.DiscrTemp.{DiscrTemp}
 use Rattle.lower.specs.declared.merging.OptBlock.{OptBlock}
 use Rattle.pattern_matching.specs.Walking.{Ctx, Out, Walk, step, project}
 use Rattle.pattern_matching.specs.Tests.{patternMatchBinding}
@@ -150,12 +149,12 @@ restFilled bindings p q b how front end ctx current els place =
     step p (project place (ProjectionElem.Subslice front end)) (λ part. patternMatchBinding bindings p q b how ctx current els part)
 
 -- what a step of the walk that touches the statements alone promises, whatever lies in the other tables
-abbrev pub Assigns : (Ctx → Walk Out) → Counts → DiscrTemp → BasicBlockId → OptBlock → List ℕ → Lowered → List ℕ → Type 0
-Assigns defined c discr current els statements₀ r statements =
-    (blocks locals entries : List ℕ) → Lowers defined c discr current els (lent blocks statements₀ locals entries) r (lent blocks statements locals entries)
+abbrev pub Assigns : (Ctx → Walk Out) → Counts → BasicBlockId → OptBlock → List ℕ → Lowered → List ℕ → Type 0
+Assigns defined c current els statements₀ r statements =
+    (blocks locals entries : List ℕ) → Lowers defined c current els (lent blocks statements₀ locals entries) r (lent blocks statements locals entries)
 
 -- the same for one that touches the statements and the entries, where the tables are ready
-abbrev pub Fills : (Ctx → Walk Out) → Counts → DiscrTemp → BasicBlockId → OptBlock → List ℕ → List ℕ → Lowered → List ℕ → List ℕ → Type 0
-Fills defined c discr current els statements₀ entries₀ r statements entries =
+abbrev pub Fills : (Ctx → Walk Out) → Counts → BasicBlockId → OptBlock → List ℕ → List ℕ → Lowered → List ℕ → List ℕ → Type 0
+Fills defined c current els statements₀ entries₀ r statements entries =
     (blocks locals : List ℕ) → Primed (lent blocks statements₀ locals entries₀) c →
-    Lowers defined c discr current els (lent blocks statements₀ locals entries₀) r (lent blocks statements locals entries)
+    Lowers defined c current els (lent blocks statements₀ locals entries₀) r (lent blocks statements locals entries)

@@ -9,7 +9,6 @@ use image::kinds::pat_kind;
 use image::rows::pat_at;
 use lower::merging::OptBlock;
 use lower::temps::BoundLocal;
-use lower::temps::DiscrTemp;
 use lower::temps::binding_local;
 use lower::temps::push_storage_live_for_local;
 use mir::BasicBlockId;
@@ -56,7 +55,6 @@ pub fn pattern_match_binding(
     statements: &mut [u16],
     entries: &mut [u16],
     counts: Counts,
-    discr: DiscrTemp,
     p: PatId,
     q: PatId,
     b: BindingId,
@@ -66,7 +64,7 @@ pub fn pattern_match_binding(
     place: Place,
 ) -> Lowered
     requires { ⌜ (b .0 < length (now bindings)) × (length (now statements) ≡ 50176) × (length (now entries) ≡ 1024) × Begins counts current els ⌝ }
-    ensures { λ r. ⌜ Fills (λ ctx. patternMatchBinding (now (bindings .entry)) (p .0) (q .0) (b .0) how ctx current els place) counts discr current els (now (statements .entry)) (now (entries .entry)) r (now (statements .exit)) (now (entries .exit)) ⌝ }
+    ensures { λ r. ⌜ Fills (λ ctx. patternMatchBinding (now (bindings .entry)) (p .0) (q .0) (b .0) how ctx current els place) counts current els (now (statements .entry)) (now (entries .entry)) r (now (statements .exit)) (now (entries .exit)) ⌝ }
 {
     match binding_local(bindings, b) {
         BoundLocal::Refused(e) => Lowered::Refused(e, q),
@@ -87,7 +85,7 @@ pub fn pattern_match_binding(
                 place,
             ) {
                 Counted::Full => Lowered::Refused(MirLowerError::Limit, p),
-                Counted::Now(c2) => Lowered::Done(c2, discr, current, els),
+                Counted::Now(c2) => Lowered::Done(c2, current, els),
             },
         },
     }
@@ -98,7 +96,6 @@ pub fn local_path(
     bindings: &[u16],
     statements: &mut [u16],
     counts: Counts,
-    discr: DiscrTemp,
     mode: MatchingMode,
     p: PatId,
     b: BindingId,
@@ -107,11 +104,11 @@ pub fn local_path(
     place: Place,
 ) -> Lowered
     requires { ⌜ (b .0 < length (now bindings)) × (length (now statements) ≡ 50176) × Begins counts current els ⌝ }
-    ensures { λ r. ⌜ Assigns (λ ctx. localPath (now (bindings .entry)) (p .0) (b .0) mode ctx current els place) counts discr current els (now (statements .entry)) r (now (statements .exit)) ⌝ }
+    ensures { λ r. ⌜ Assigns (λ ctx. localPath (now (bindings .entry)) (p .0) (b .0) mode ctx current els place) counts current els (now (statements .entry)) r (now (statements .exit)) ⌝ }
 {
     match mode {
         MatchingMode::Check => Lowered::Refused(MirLowerError::NotSupported, p),
-        MatchingMode::Bind => Lowered::Done(counts, discr, current, els),
+        MatchingMode::Bind => Lowered::Done(counts, current, els),
         MatchingMode::Assign => match binding_local(bindings, b) {
             BoundLocal::Refused(e) => Lowered::Refused(e, p),
             BoundLocal::Local(l) => match push_assignment(
@@ -123,7 +120,7 @@ pub fn local_path(
                 place,
             ) {
                 Counted::Full => Lowered::Refused(MirLowerError::Limit, p),
-                Counted::Now(c1) => Lowered::Done(c1, discr, current, els),
+                Counted::Now(c1) => Lowered::Done(c1, current, els),
             },
         },
     }
@@ -160,7 +157,6 @@ fn fill_rest(
     statements: &mut [u16],
     entries: &mut [u16],
     counts: Counts,
-    discr: DiscrTemp,
     p: PatId,
     rest: PatId,
     b: BindingId,
@@ -172,7 +168,7 @@ fn fill_rest(
     place: Place,
 ) -> Lowered
     requires { ⌜ (b .0 < length (now bindings)) × (end < 8192) × (length (now statements) ≡ 50176) × (length (now entries) ≡ 1024) × Begins counts current els ⌝ }
-    ensures { λ r. ⌜ Fills (λ ctx. restFilled (now (bindings .entry)) (p .0) (rest .0) (b .0) how front end ctx current els place) counts discr current els (now (statements .entry)) (now (entries .entry)) r (now (statements .exit)) (now (entries .exit)) ⌝ }
+    ensures { λ r. ⌜ Fills (λ ctx. restFilled (now (bindings .entry)) (p .0) (rest .0) (b .0) how front end ctx current els place) counts current els (now (statements .entry)) (now (entries .entry)) r (now (statements .exit)) (now (entries .exit)) ⌝ }
 {
     let part = project(place, ProjectionElem::Subslice(front, end));
     if !part.ok {
@@ -183,7 +179,6 @@ fn fill_rest(
         statements,
         entries,
         counts,
-        discr,
         p,
         rest,
         b,
@@ -202,7 +197,6 @@ pub fn rest_bound(
     statements: &mut [u16],
     entries: &mut [u16],
     counts: Counts,
-    discr: DiscrTemp,
     mode: MatchingMode,
     p: PatId,
     rest: u16,
@@ -214,24 +208,23 @@ pub fn rest_bound(
 ) -> Lowered
     requires { ⌜ (valid (now image) ≡ true) × Whole (now image) tables × (eqb rest 65535 || ltb rest (patternCount (now image)) ≡ true) × (length (now bindings) ≡ bindingCount (now image)) × (end < 8192) ⌝ }
     requires { ⌜ (length (now statements) ≡ 50176) × (length (now entries) ≡ 1024) × Begins counts current els ⌝ }
-    ensures { λ r. ⌜ Fills (λ ctx. restBound (restOf (tree? (tree (now (image .entry))) rest)) (now (bindings .entry)) (p .0) front end mode ctx current els place) counts discr current els (now (statements .entry)) (now (entries .entry)) r (now (statements .exit)) (now (entries .exit)) ⌝ }
+    ensures { λ r. ⌜ Fills (λ ctx. restBound (restOf (tree? (tree (now (image .entry))) rest)) (now (bindings .entry)) (p .0) front end mode ctx current els place) counts current els (now (statements .entry)) (now (entries .entry)) r (now (statements .exit)) (now (entries .exit)) ⌝ }
 {
     if rest == 65535 {
-        return Lowered::Done(counts, discr, current, els);
+        return Lowered::Done(counts, current, els);
     }
     if is_check(mode) {
-        return Lowered::Done(counts, discr, current, els);
+        return Lowered::Done(counts, current, els);
     }
     let row = pat_at(image, tables, PatId(rest));
     if !is_bind(pat_kind(row.kind)) {
-        return Lowered::Done(counts, discr, current, els);
+        return Lowered::Done(counts, current, els);
     }
     fill_rest(
         bindings,
         statements,
         entries,
         counts,
-        discr,
         p,
         PatId(rest),
         BindingId(row.a),

@@ -23,7 +23,6 @@ use Rattle.mir.specs.Blocks.{newBlock}
 use Rattle.state.specs.State.{State}
 use Rattle.state.specs.declared.Stepped.{Stepped}
 use Rattle.literals.specs.Literals.{lowerLiteralOrConstToOperand}
-use Rattle.lower.specs.declared.temps.DiscrTemp.{DiscrTemp}
 use Rattle.lower.specs.declared.merging.OptBlock.{OptBlock}
 use Rattle.pattern_matching.specs.declared.MatchingMode.{MatchingMode}
 use Rattle.pattern_matching.specs.Modes.{isCheck}
@@ -46,40 +45,40 @@ module _ (image : List ℕ) (p : PatId) (constant : Constant) (place : Place) (c
   range-cut op = λ i. step (p .0) (elseState (ctx .state) els) (λ st₁. step (p .0) (tryBlock st₁) (λ st₂. compare-cut image (p .0) op (Left.Constant constant) place ctx st₂ current (nextBlock st₁) (elseBlock (ctx .state) els) i))
 
 -- `range_test`; t lies in the tables at entry
-module _ (image : List ℕ) (t : Lent) (c : Counts) (discr : DiscrTemp) (p : PatId) (op : BinOp) (constant : Constant) (current : BasicBlockId) (els : OptBlock) (place : Place) where
+module _ (image : List ℕ) (t : Lent) (c : Counts) (p : PatId) (op : BinOp) (constant : Constant) (current : BasicBlockId) (els : OptBlock) (place : Place) where
   abbrev Tests : Lowered → Lent → Type 0
-  Tests = Lowers (λ ctx. rangeTest image (p .0) op constant ctx current els place) c discr current els t
+  Tests = Lowers (λ ctx. rangeTest image (p .0) op constant ctx current els place) c current els t
 
   abbrev ends : State → BasicBlockId → BasicBlockId → Result State
   ends st on other = compareStep image op (Left.Constant constant) place st current on other
 
   -- there is no room for an else
   pub range-full : NewBlock.Full ≡ elseMade c els → Tests (Lowered.Refused MirLowerError.Limit p) t
-  range-full full = lowers-by (λ ctx. range-cut image p constant place current els ctx op) (else-full p ends els t c discr current full)
+  range-full full = lowers-by (λ ctx. range-cut image p constant place current els ctx op) (else-full p ends els t c current full)
 
   module _ {c₁ : Counts} {other : BasicBlockId} (made : NewBlock.Block c₁ other ≡ elseMade c els) where
     -- nor for the block that goes on
     pub range-then-full : NewBlock.Full ≡ newBlock c₁ → Tests (Lowered.Refused MirLowerError.Limit p) t
-    range-then-full full = lowers-by (λ ctx. range-cut image p constant place current els ctx op) (else-then-full p ends els t c discr current made full)
+    range-then-full full = lowers-by (λ ctx. range-cut image p constant place current els ctx op) (else-then-full p ends els t c current made full)
 
     -- both are made, and the place is compared
     pub range-ends : {c₂ : Counts} {on : BasicBlockId} {t′ : Lent} (r : Stepped) → NewBlock.Block c₂ on ≡ newBlock c₁ → Primed t c → Begins c current els → Steps (λ st. ends st on other) c₂ current t r t′ →
-        Tests (loweredBy discr p on other r) t′
+        Tests (loweredBy p on other r) t′
     range-ends {on = on} r is P h E =
         lowers-by (λ ctx. range-cut image p constant place current els ctx op)
-        (else-then-ends p ends els t c discr current made is r h (grown-to (λ st. ends st on other) r (else-then-made made is P h .0) E) E)
+        (else-then-ends p ends els t c current made is r h (grown-to (λ st. ends st on other) r (else-then-made made is P h .0) E) E)
 
 -- an operand that is there holds
 pub range-holds : (image : List ℕ) (o : ℕ) → (o ≡ 65535 → ⊥) → operandOrAbsent image o ≡ true → operandHolds image o ≡ true
 range-holds image o there h = rw (ne-eqb o 65535 there) at h
 
 -- `range_end`, of the operand that begins at the word o
-module _ (image : List ℕ) (t : Lent) (c : Counts) (discr : DiscrTemp) (p : PatId) (ty : ℕ) (op : BinOp) (o : ℕ) (current : BasicBlockId) (els : OptBlock) (place : Place) where
+module _ (image : List ℕ) (t : Lent) (c : Counts) (p : PatId) (ty : ℕ) (op : BinOp) (o : ℕ) (current : BasicBlockId) (els : OptBlock) (place : Place) where
   abbrev Ended : Lowered → Lent → Type 0
-  Ended = Lowers (λ ctx. rangeEnd? image (p .0) ty op (operand? image o) ctx current els place) c discr current els t
+  Ended = Lowers (λ ctx. rangeEnd? image (p .0) ty op (operand? image o) ctx current els place) c current els t
 
   -- it is absent
-  pub end-absent : o ≡ 65535 → Begins c current els → Ended (Lowered.Done c discr current els) t
+  pub end-absent : o ≡ 65535 → Begins c current els → Ended (Lowered.Done c current els) t
   unfolding operand? rangeEnd?
   end-absent absent h = lowers-skips (λ ctx. rw (eq-eqb o 65535 absent) refl) h
 
@@ -96,13 +95,13 @@ module _ (image : List ℕ) (t : Lent) (c : Counts) (discr : DiscrTemp) (p : Pat
 
     -- the operand's constant is compared
     pub end-tests : {constant : Constant} {r : Lowered} {t′ : Lent} → done constant ≡ lowerLiteralOrConstToOperand image ty (operandOf image o) →
-        Lowers (λ ctx. rangeTest image (p .0) op constant ctx current els place) c discr current els t r t′ → Ended r t′
+        Lowers (λ ctx. rangeTest image (p .0) op constant ctx current els place) c current els t r t′ → Ended r t′
     end-tests is L = lowers-by (tests is) L
 
 -- `pattern_match_range`, of the operands that begin at the words start and end
-module _ (image : List ℕ) (t : Lent) (c : Counts) (discr : DiscrTemp) (mode : MatchingMode) (p : PatId) (ty start end : ℕ) (halfOpen : Bool) (current : BasicBlockId) (els : OptBlock) (place : Place) where
+module _ (image : List ℕ) (t : Lent) (c : Counts) (mode : MatchingMode) (p : PatId) (ty start end : ℕ) (halfOpen : Bool) (current : BasicBlockId) (els : OptBlock) (place : Place) where
   abbrev Range : Lowered → Lent → Type 0
-  Range = Lowers (λ ctx. rangePattern image (p .0) ty (operand? image start) (operand? image end) halfOpen mode ctx current els place) c discr current els t
+  Range = Lowers (λ ctx. rangePattern image (p .0) ty (operand? image start) (operand? image end) halfOpen mode ctx current els place) c current els t
 
   abbrev first : Ctx → Walk Out
   first ctx = rangeEnd? image (p .0) ty BinOp.Le (operand? image start) ctx current els place
@@ -111,7 +110,7 @@ module _ (image : List ℕ) (t : Lent) (c : Counts) (discr : DiscrTemp) (mode : 
   second r = rangeEnd? image (p .0) ty (endOp halfOpen) (operand? image end) (r .ctx) (r .then) (r .else) place
 
   -- nothing is tested beyond Check
-  pub range-skips : isCheck mode ≡ false → Begins c current els → Range (Lowered.Done c discr current els) t
+  pub range-skips : isCheck mode ≡ false → Begins c current els → Range (Lowered.Done c current els) t
   unfolding rangePattern
   range-skips beyond h = lowers-skips (λ ctx. not-in-check mode (next (first ctx) second) (out ctx current els) beyond) h
 
@@ -121,10 +120,10 @@ module _ (image : List ℕ) (t : Lent) (c : Counts) (discr : DiscrTemp) (mode : 
     both ctx = in-check mode (next (first ctx) second) (out ctx current els) check
 
     -- the start is refused
-    pub range-stops : {err : MirLowerError} {q : PatId} {t′ : Lent} → Lowers first c discr current els t (Lowered.Refused err q) t′ → Range (Lowered.Refused err q) t′
+    pub range-stops : {err : MirLowerError} {q : PatId} {t′ : Lent} → Lowers first c current els t (Lowered.Refused err q) t′ → Range (Lowered.Refused err q) t′
     range-stops L = lowers-by both (lowers-stops second L)
 
     -- the start, and then the end
-    pub range-both : {c₁ : Counts} {d₁ : DiscrTemp} {on : BasicBlockId} {els₁ : OptBlock} {t₁ t₂ : Lent} {r : Lowered} → Primed t c → Lowers first c discr current els t (Lowered.Done c₁ d₁ on els₁) t₁ →
-        {op : BinOp} → op ≡ endOp halfOpen → Lowers (λ ctx. rangeEnd? image (p .0) ty op (operand? image end) ctx on els₁ place) c₁ d₁ on els₁ t₁ r t₂ → Range r t₂
+    pub range-both : {c₁ : Counts} {on : BasicBlockId} {els₁ : OptBlock} {t₁ t₂ : Lent} {r : Lowered} → Primed t c → Lowers first c current els t (Lowered.Done c₁ on els₁) t₁ →
+        {op : BinOp} → op ≡ endOp halfOpen → Lowers (λ ctx. rangeEnd? image (p .0) ty op (operand? image end) ctx on els₁ place) c₁ on els₁ t₁ r t₂ → Range r t₂
     range-both P L is S = lowers-by both (lowers-then second P L (rw is at S))

@@ -4,7 +4,6 @@ use image::Tables;
 use literals::LoweredOperand;
 use literals::lower_literal_or_const_to_operand;
 use lower::merging::OptBlock;
-use lower::temps::DiscrTemp;
 use mir::BasicBlockId;
 use mir::Counts;
 use mir::blocks::NewBlock;
@@ -42,7 +41,6 @@ fn range_test(
     locals: &mut [u16],
     entries: &mut [u16],
     counts: Counts,
-    discr: DiscrTemp,
     p: PatId,
     op: BinOp,
     constant: Constant,
@@ -51,7 +49,7 @@ fn range_test(
     place: Place,
 ) -> Lowered
     requires { ⌜ Whole (now image) tables × Primed (lent (now blocks) (now statements) (now locals) (now entries)) counts × Begins counts current els ⌝ }
-    ensures { λ r. ⌜ Lowers (λ ctx. rangeTest (now (image .entry)) (p .0) op constant ctx current els place) counts discr current els (lent (now (blocks .entry)) (now (statements .entry)) (now (locals .entry)) (now (entries .entry))) r (lent (now (blocks .exit)) (now (statements .exit)) (now (locals .exit)) (now (entries .exit))) ⌝ }
+    ensures { λ r. ⌜ Lowers (λ ctx. rangeTest (now (image .entry)) (p .0) op constant ctx current els place) counts current els (lent (now (blocks .entry)) (now (statements .entry)) (now (locals .entry)) (now (entries .entry))) r (lent (now (blocks .exit)) (now (statements .exit)) (now (locals .exit)) (now (entries .exit))) ⌝ }
 {
     match else_block(counts, els) {
         NewBlock::Full => Lowered::Refused(MirLowerError::Limit, p),
@@ -73,7 +71,7 @@ fn range_test(
                 other,
             ) {
                 Stepped::Refused(e) => Lowered::Refused(e, p),
-                Stepped::Now(c3) => Lowered::Done(c3, discr, then, OptBlock::Some(other)),
+                Stepped::Now(c3) => Lowered::Done(c3, then, OptBlock::Some(other)),
             },
         },
     }
@@ -88,7 +86,6 @@ fn range_end(
     locals: &mut [u16],
     entries: &mut [u16],
     counts: Counts,
-    discr: DiscrTemp,
     p: PatId,
     ty: u16,
     op: BinOp,
@@ -99,10 +96,10 @@ fn range_end(
 ) -> Lowered
     requires { ⌜ (valid (now image) ≡ true) × Whole (now image) tables × (ty < typeCount (now image)) × (operandOrAbsent (now image) o ≡ true) ⌝ }
     requires { ⌜ Primed (lent (now blocks) (now statements) (now locals) (now entries)) counts × Begins counts current els ⌝ }
-    ensures { λ r. ⌜ Lowers (λ ctx. rangeEnd? (now (image .entry)) (p .0) ty op (operand? (now (image .entry)) o) ctx current els place) counts discr current els (lent (now (blocks .entry)) (now (statements .entry)) (now (locals .entry)) (now (entries .entry))) r (lent (now (blocks .exit)) (now (statements .exit)) (now (locals .exit)) (now (entries .exit))) ⌝ }
+    ensures { λ r. ⌜ Lowers (λ ctx. rangeEnd? (now (image .entry)) (p .0) ty op (operand? (now (image .entry)) o) ctx current els place) counts current els (lent (now (blocks .entry)) (now (statements .entry)) (now (locals .entry)) (now (entries .entry))) r (lent (now (blocks .exit)) (now (statements .exit)) (now (locals .exit)) (now (entries .exit))) ⌝ }
 {
     if o == 65535 {
-        return Lowered::Done(counts, discr, current, els);
+        return Lowered::Done(counts, current, els);
     }
     match lower_literal_or_const_to_operand(image, tables, ty, o) {
         LoweredOperand::Refused(e) => Lowered::Refused(e, p),
@@ -114,7 +111,6 @@ fn range_end(
             locals,
             entries,
             counts,
-            discr,
             p,
             op,
             constant,
@@ -144,7 +140,6 @@ pub fn pattern_match_range(
     locals: &mut [u16],
     entries: &mut [u16],
     counts: Counts,
-    discr: DiscrTemp,
     mode: MatchingMode,
     p: PatId,
     ty: u16,
@@ -157,10 +152,10 @@ pub fn pattern_match_range(
 ) -> Lowered
     requires { ⌜ (valid (now image) ≡ true) × Whole (now image) tables × (ty < typeCount (now image)) × (operandOrAbsent (now image) start ≡ true) × (operandOrAbsent (now image) end ≡ true) ⌝ }
     requires { ⌜ Primed (lent (now blocks) (now statements) (now locals) (now entries)) counts × Begins counts current els ⌝ }
-    ensures { λ r. ⌜ Lowers (λ ctx. rangePattern (now (image .entry)) (p .0) ty (operand? (now (image .entry)) start) (operand? (now (image .entry)) end) (isSet half_open) mode ctx current els place) counts discr current els (lent (now (blocks .entry)) (now (statements .entry)) (now (locals .entry)) (now (entries .entry))) r (lent (now (blocks .exit)) (now (statements .exit)) (now (locals .exit)) (now (entries .exit))) ⌝ }
+    ensures { λ r. ⌜ Lowers (λ ctx. rangePattern (now (image .entry)) (p .0) ty (operand? (now (image .entry)) start) (operand? (now (image .entry)) end) (isSet half_open) mode ctx current els place) counts current els (lent (now (blocks .entry)) (now (statements .entry)) (now (locals .entry)) (now (entries .entry))) r (lent (now (blocks .exit)) (now (statements .exit)) (now (locals .exit)) (now (entries .exit))) ⌝ }
 {
     if !is_check(mode) {
-        return Lowered::Done(counts, discr, current, els);
+        return Lowered::Done(counts, current, els);
     }
     match range_end(
         image,
@@ -170,7 +165,6 @@ pub fn pattern_match_range(
         locals,
         entries,
         counts,
-        discr,
         p,
         ty,
         BinOp::Le,
@@ -180,7 +174,7 @@ pub fn pattern_match_range(
         place,
     ) {
         Lowered::Refused(e, q) => Lowered::Refused(e, q),
-        Lowered::Done(c1, d1, then, other) => range_end(
+        Lowered::Done(c1, then, other) => range_end(
             image,
             tables,
             blocks,
@@ -188,7 +182,6 @@ pub fn pattern_match_range(
             locals,
             entries,
             c1,
-            d1,
             p,
             ty,
             end_op(half_open),

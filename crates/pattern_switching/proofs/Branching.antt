@@ -18,7 +18,6 @@ use Rattle.state.specs.Contracts.{Ready, Grown, Answers, steppedResult, stepped
 use Rattle.state.specs.declared.Stepped.{Stepped}
 use Rattle.state.proofs.Answering.{grown-refl, grown-trans, next-block}
 use Rattle.state.proofs.Calls.{blockCounts, blockResult, block-number, new-block-answers}
-use Rattle.lower.specs.declared.temps.DiscrTemp.{DiscrTemp}
 use Rattle.lower.specs.declared.merging.OptBlock.{OptBlock}
 use Rattle.pattern_matching.specs.Walking.{Ctx, Out, Walk, step, out, withState, elseState, elseBlock}
 use Rattle.walks.specs.declared.Lowered.{Lowered}
@@ -70,9 +69,9 @@ else-then-made {t = t} {c = c} {c₁ = c₁} {current = current} {els = els} mad
     (S .goes .0, le-trans (h .start) (le-trans (F .goes .1 .blocks) (S .goes .1 .blocks)))
 
 -- an answer by how a step ended
-abbrev pub loweredBy : DiscrTemp → PatId → BasicBlockId → BasicBlockId → Stepped → Lowered
-loweredBy discr p then other (Stepped.Now c) = Lowered.Done c discr then (OptBlock.Some other)
-loweredBy discr p then other (Stepped.Refused e) = Lowered.Refused e p
+abbrev pub loweredBy : PatId → BasicBlockId → BasicBlockId → Stepped → Lowered
+loweredBy p then other (Stepped.Now c) = Lowered.Done c then (OptBlock.Some other)
+loweredBy p then other (Stepped.Refused e) = Lowered.Refused e p
 
 abbrev pub GrownTo : Counts → Stepped → Type 0
 GrownTo c (Stepped.Now c′) = Grown c c′
@@ -107,34 +106,34 @@ module _ (p : PatId) (end : State → BasicBlockId → BasicBlockId → Result S
   -- the end, and what is answered by it
   end-answers : {b : Body} {c : Counts} {current : ℕ} {defined : Result State} (b′ : Body) (ctx : Ctx) (then other : BasicBlockId) (r : Stepped) →
       Answers b c current b′ (steppedCounts r) (steppedResult r b′) defined →
-      Answers b c current b′ (loweredCounts (loweredBy (ctx .discr) p then other r)) (walkOf (loweredBy (ctx .discr) p then other r) b′ (ctx .visits)) (step (p .0) defined (last ctx then other))
+      Answers b c current b′ (loweredCounts (loweredBy p then other r)) (walkOf (loweredBy p then other r) b′ (ctx .visits)) (step (p .0) defined (last ctx then other))
   end-answers b′ ctx then other (Stepped.Now c′) T = step-then (p .0) (last ctx then other) T (inl refl) (stays _ (T .goes .0))
   end-answers b′ ctx then other (Stepped.Refused e) T = step-stops (p .0) (last ctx then other) T
 
   -- where it goes on
-  end-onward : (c c₂ : Counts) (discr : DiscrTemp) (current then other : BasicBlockId) (r : Stepped) → Grown c c₂ → Onward c current els c₂ then (OptBlock.Some other) → GrownTo c₂ r →
-      OnwardBy c current els (loweredBy discr p then other r)
-  end-onward c c₂ discr current then other (Stepped.Now c₃) G O grown = onward-trans G O (onward-grown grown (O .begins))
-  end-onward c c₂ discr current then other (Stepped.Refused e) G O grown = tt
+  end-onward : (c c₂ : Counts) (current then other : BasicBlockId) (r : Stepped) → Grown c c₂ → Onward c current els c₂ then (OptBlock.Some other) → GrownTo c₂ r →
+      OnwardBy c current els (loweredBy p then other r)
+  end-onward c c₂ current then other (Stepped.Now c₃) G O grown = onward-trans G O (onward-grown grown (O .begins))
+  end-onward c c₂ current then other (Stepped.Refused e) G O grown = tt
 
   -- t lies in the tables at entry
-  module _ (t : Lent) (c : Counts) (discr : DiscrTemp) (current : BasicBlockId) where
+  module _ (t : Lent) (c : Counts) (current : BasicBlockId) where
     -- there is no room for the block that goes on, or for the else
-    pub then-full : NewBlock.Full ≡ newBlock c → Lowers thenElse c discr current els t (Lowered.Refused MirLowerError.Limit p) t
+    pub then-full : NewBlock.Full ≡ newBlock c → Lowers thenElse c current els t (Lowered.Refused MirLowerError.Limit p) t
     then-full full =
         record {
           answers = λ scopes visits R.
               let b = bodyOf t scopes in
-              step-stops (p .0) (behindThen (ctxOf b c discr visits) (nextBlock (decode b c))) (block-answers t scopes c (current .0) full R);
+              step-stops (p .0) (behindThen (ctxOf b c visits) (nextBlock (decode b c))) (block-answers t scopes c (current .0) full R);
           onward = tt;
         }
 
-    pub else-full : NewBlock.Full ≡ elseMade c els → Lowers elseThen c discr current els t (Lowered.Refused MirLowerError.Limit p) t
+    pub else-full : NewBlock.Full ≡ elseMade c els → Lowers elseThen c current els t (Lowered.Refused MirLowerError.Limit p) t
     else-full full =
         record {
           answers = λ scopes visits R.
               let b = bodyOf t scopes in
-              step-stops (p .0) (behindElse (ctxOf b c discr visits) (elseBlock (decode b c) els)) (else-answers t scopes c (current .0) els full R);
+              step-stops (p .0) (behindElse (ctxOf b c visits) (elseBlock (decode b c) els)) (else-answers t scopes c (current .0) els full R);
           onward = tt;
         }
 
@@ -142,80 +141,80 @@ module _ (p : PatId) (end : State → BasicBlockId → BasicBlockId → Result S
     module _ {c₁ : Counts} {then : BasicBlockId} (is : NewBlock.Block c₁ then ≡ newBlock c) where
       -- what follows it
       then-answers : (r : Lowered) (t′ : Lent) (scopes visits : List ℕ) → Ready (bodyOf t scopes) c →
-          (Ready (bodyOf t scopes) c₁ → Answers (bodyOf t scopes) c₁ (current .0) (bodyOf t′ scopes) (loweredCounts r) (walkOf r (bodyOf t′ scopes) visits) (behindThen (ctxOf (bodyOf t scopes) c discr visits) then (decode (bodyOf t scopes) c₁))) →
-          Answers (bodyOf t scopes) c (current .0) (bodyOf t′ scopes) (loweredCounts r) (walkOf r (bodyOf t′ scopes) visits) (thenElse (ctxOf (bodyOf t scopes) c discr visits))
+          (Ready (bodyOf t scopes) c₁ → Answers (bodyOf t scopes) c₁ (current .0) (bodyOf t′ scopes) (loweredCounts r) (walkOf r (bodyOf t′ scopes) visits) (behindThen (ctxOf (bodyOf t scopes) c visits) then (decode (bodyOf t scopes) c₁))) →
+          Answers (bodyOf t scopes) c (current .0) (bodyOf t′ scopes) (loweredCounts r) (walkOf r (bodyOf t′ scopes) visits) (thenElse (ctxOf (bodyOf t scopes) c visits))
       then-answers r t′ scopes visits R follows =
           let b = bodyOf t scopes in
-          let ctx = ctxOf b c discr visits in
+          let ctx = ctxOf b c visits in
           let F = block-answers t scopes c (current .0) is R in
           answers-by (ap (λ (m : BasicBlockId). step (p .0) (tryBlock (decode b c)) (behindThen ctx m)) (block-number c is ∙ next-block b c))
           (step-then (p .0) (behindThen ctx then) F (inl refl) (follows (F .goes .0)))
 
       -- there is no room for an else
-      pub then-else-full : NewBlock.Full ≡ elseMade c₁ els → Lowers thenElse c discr current els t (Lowered.Refused MirLowerError.Limit p) t
+      pub then-else-full : NewBlock.Full ≡ elseMade c₁ els → Lowers thenElse c current els t (Lowered.Refused MirLowerError.Limit p) t
       then-else-full full =
           record {
             answers = λ scopes visits R.
                 let b = bodyOf t scopes in
-                then-answers (Lowered.Refused MirLowerError.Limit p) t scopes visits R (λ Q. step-stops (p .0) (ended (ctxOf b c discr visits) then (elseBlock (decode b c₁) els)) (else-answers t scopes c₁ (current .0) els full Q));
+                then-answers (Lowered.Refused MirLowerError.Limit p) t scopes visits R (λ Q. step-stops (p .0) (ended (ctxOf b c visits) then (elseBlock (decode b c₁) els)) (else-answers t scopes c₁ (current .0) els full Q));
             onward = tt;
           }
 
       module _ {c₂ : Counts} {other : BasicBlockId} (made : NewBlock.Block c₂ other ≡ elseMade c₁ els) where
         -- and the test ends
         pub then-else-ends : {t′ : Lent} (r : Stepped) → Begins c current els → GrownTo c₂ r → Steps (λ st. end st then other) c₂ current t r t′ →
-            Lowers thenElse c discr current els t (loweredBy discr p then other r) t′
+            Lowers thenElse c current els t (loweredBy p then other r) t′
         then-else-ends {t′ = t′} r h grown E =
             let new = block-onward c is h in
             let new₂ = else-onward c₁ els made (new .1 .begins) in
             record {
               answers = λ scopes visits R.
                   let b = bodyOf t scopes in
-                  let ctx = ctxOf b c discr visits in
-                  then-answers (loweredBy discr p then other r) t′ scopes visits R (λ Q.
+                  let ctx = ctxOf b c visits in
+                  then-answers (loweredBy p then other r) t′ scopes visits R (λ Q.
                   let S = else-answers t scopes c₁ (current .0) els made Q in
                   answers-by (ap (λ (m : BasicBlockId). step (p .0) (elseState (decode b c₁) els) (ended ctx then m)) (else-number c₁ els made b))
                   (step-then (p .0) (ended ctx then other) S (inl refl) (end-answers (bodyOf t′ scopes) ctx then other r (E scopes (S .goes .0)))));
-              onward = end-onward c c₂ discr current then other r (grown-trans (new .0) (new₂ .0)) (onward-trans (new .0) (new .1) (new₂ .1)) grown;
+              onward = end-onward c c₂ current then other r (grown-trans (new .0) (new₂ .0)) (onward-trans (new .0) (new .1) (new₂ .1)) grown;
             }
 
     -- the else is there
     module _ {c₁ : Counts} {other : BasicBlockId} (made : NewBlock.Block c₁ other ≡ elseMade c els) where
       -- what follows it
       elsewhere-answers : (r : Lowered) (t′ : Lent) (scopes visits : List ℕ) → Ready (bodyOf t scopes) c →
-          (Ready (bodyOf t scopes) c₁ → Answers (bodyOf t scopes) c₁ (current .0) (bodyOf t′ scopes) (loweredCounts r) (walkOf r (bodyOf t′ scopes) visits) (behindElse (ctxOf (bodyOf t scopes) c discr visits) other (decode (bodyOf t scopes) c₁))) →
-          Answers (bodyOf t scopes) c (current .0) (bodyOf t′ scopes) (loweredCounts r) (walkOf r (bodyOf t′ scopes) visits) (elseThen (ctxOf (bodyOf t scopes) c discr visits))
+          (Ready (bodyOf t scopes) c₁ → Answers (bodyOf t scopes) c₁ (current .0) (bodyOf t′ scopes) (loweredCounts r) (walkOf r (bodyOf t′ scopes) visits) (behindElse (ctxOf (bodyOf t scopes) c visits) other (decode (bodyOf t scopes) c₁))) →
+          Answers (bodyOf t scopes) c (current .0) (bodyOf t′ scopes) (loweredCounts r) (walkOf r (bodyOf t′ scopes) visits) (elseThen (ctxOf (bodyOf t scopes) c visits))
       elsewhere-answers r t′ scopes visits R follows =
           let b = bodyOf t scopes in
-          let ctx = ctxOf b c discr visits in
+          let ctx = ctxOf b c visits in
           let F = else-answers t scopes c (current .0) els made R in
           answers-by (ap (λ (m : BasicBlockId). step (p .0) (elseState (decode b c) els) (behindElse ctx m)) (else-number c els made b))
           (step-then (p .0) (behindElse ctx other) F (inl refl) (follows (F .goes .0)))
 
       -- there is no room for the block that goes on
-      pub else-then-full : NewBlock.Full ≡ newBlock c₁ → Lowers elseThen c discr current els t (Lowered.Refused MirLowerError.Limit p) t
+      pub else-then-full : NewBlock.Full ≡ newBlock c₁ → Lowers elseThen c current els t (Lowered.Refused MirLowerError.Limit p) t
       else-then-full full =
           record {
             answers = λ scopes visits R.
                 let b = bodyOf t scopes in
-                elsewhere-answers (Lowered.Refused MirLowerError.Limit p) t scopes visits R (λ Q. step-stops (p .0) (ended (ctxOf b c discr visits) (nextBlock (decode b c₁)) other) (block-answers t scopes c₁ (current .0) full Q));
+                elsewhere-answers (Lowered.Refused MirLowerError.Limit p) t scopes visits R (λ Q. step-stops (p .0) (ended (ctxOf b c visits) (nextBlock (decode b c₁)) other) (block-answers t scopes c₁ (current .0) full Q));
             onward = tt;
           }
 
       module _ {c₂ : Counts} {then : BasicBlockId} (is : NewBlock.Block c₂ then ≡ newBlock c₁) where
         -- and the test ends
         pub else-then-ends : {t′ : Lent} (r : Stepped) → Begins c current els → GrownTo c₂ r → Steps (λ st. end st then other) c₂ current t r t′ →
-            Lowers elseThen c discr current els t (loweredBy discr p then other r) t′
+            Lowers elseThen c current els t (loweredBy p then other r) t′
         else-then-ends {t′ = t′} r h grown E =
             let new = else-onward c els made h in
             let new₂ = block-onward c₁ is (new .1 .begins) in
             record {
               answers = λ scopes visits R.
                   let b = bodyOf t scopes in
-                  let ctx = ctxOf b c discr visits in
-                  elsewhere-answers (loweredBy discr p then other r) t′ scopes visits R (λ Q.
+                  let ctx = ctxOf b c visits in
+                  elsewhere-answers (loweredBy p then other r) t′ scopes visits R (λ Q.
                   let S = block-answers t scopes c₁ (current .0) is Q in
                   answers-by (ap (λ (m : BasicBlockId). step (p .0) (tryBlock (decode b c₁)) (ended ctx m other)) (block-number c₁ is ∙ next-block b c₁))
                   (step-then (p .0) (ended ctx then other) S (inl refl) (end-answers (bodyOf t′ scopes) ctx then other r (E scopes (S .goes .0)))));
-              onward = end-onward c c₂ discr current then other r (grown-trans (new .0) (new₂ .0)) (onward-trans (new .0) (new .1) (new₂ .1)) grown;
+              onward = end-onward c c₂ current then other r (grown-trans (new .0) (new₂ .0)) (onward-trans (new .0) (new .1) (new₂ .1)) grown;
             }

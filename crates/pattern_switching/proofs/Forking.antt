@@ -18,7 +18,6 @@ use Rattle.state.specs.Steps.{setTerminator}
 use Rattle.state.specs.declared.Stepped.{Stepped}
 use Rattle.state.proofs.Answering.{grown-refl}
 use Rattle.state.proofs.Calls.{set-answers}
-use Rattle.lower.specs.declared.temps.DiscrTemp.{DiscrTemp}
 use Rattle.lower.specs.declared.merging.OptBlock.{OptBlock}
 use Rattle.walks.specs.declared.Lowered.{Lowered}
 use Rattle.walks.specs.Answers.{lent, Begins}
@@ -27,9 +26,9 @@ use Rattle.pattern_switching.specs.Switching.{elseMade, thenSwitch, Swit
 use Rattle.pattern_switching.proofs.Branching.{then-full, then-else-full, then-else-ends, else-onward}
 
 -- bl₀ is the table at entry
-module _ (bl₀ : List ℕ) (c : Counts) (discr : DiscrTemp) (p : PatId) (l : LocalId) (low high : ℕ) (current : BasicBlockId) (els : OptBlock) where
+module _ (bl₀ : List ℕ) (c : Counts) (p : PatId) (l : LocalId) (low high : ℕ) (current : BasicBlockId) (els : OptBlock) where
   abbrev Switched : Lowered → List ℕ → Type 0
-  Switched = Switches (λ ctx. thenSwitch (p .0) l low high ctx current els) c discr current els bl₀
+  Switched = Switches (λ ctx. thenSwitch (p .0) l low high ctx current els) c current els bl₀
 
   abbrev ends : State → BasicBlockId → BasicBlockId → Result State
   ends st on other = ok (setTerminator st current (Terminator.Switch l low high on other))
@@ -37,20 +36,20 @@ module _ (bl₀ : List ℕ) (c : Counts) (discr : DiscrTemp) (p : PatId) (l : Lo
   -- there is no room for the block that goes on
   pub switch-full : NewBlock.Full ≡ newBlock c → Switched (Lowered.Refused MirLowerError.Limit p) bl₀
   unfolding thenSwitch
-  switch-full full s lo e = then-full p ends els (lent bl₀ s lo e) c discr current full
+  switch-full full s lo e = then-full p ends els (lent bl₀ s lo e) c current full
 
   module _ {c₁ : Counts} {on : BasicBlockId} (is : NewBlock.Block c₁ on ≡ newBlock c) where
     -- nor for an else
     pub switch-else-full : NewBlock.Full ≡ elseMade c₁ els → Switched (Lowered.Refused MirLowerError.Limit p) bl₀
     unfolding thenSwitch
-    switch-else-full full s lo e = then-else-full p ends els (lent bl₀ s lo e) c discr current is full
+    switch-else-full full s lo e = then-else-full p ends els (lent bl₀ s lo e) c current is full
 
     -- both are made
     pub switch-ends : {c₂ : Counts} {other : BasicBlockId} {bl : List ℕ} → NewBlock.Block c₂ other ≡ elseMade c₁ els → bl ≡ stored bl₀ (12 * current .0) (termRow (Terminator.Switch l low high on other)) →
-        Begins c current els → Switched (Lowered.Done c₂ discr on (OptBlock.Some other)) bl
+        Begins c current els → Switched (Lowered.Done c₂ on (OptBlock.Some other)) bl
     unfolding thenSwitch
     switch-ends {c₂ = c₂} {other = other} made set h s lo e =
         let new = block-onward c is h in
         let new₂ = else-onward c₁ els made (new .1 .begins) in
-        then-else-ends p ends els (lent bl₀ s lo e) c discr current is made (Stepped.Now c₂) h (grown-refl c₂)
+        then-else-ends p ends els (lent bl₀ s lo e) c current is made (Stepped.Now c₂) h (grown-refl c₂)
         (λ sc R. set-answers bl₀ s lo sc e c₂ current (Terminator.Switch l low high on other) set (le-trans (h .start) (le-trans (new .0 .blocks) (new₂ .0 .blocks))) R)

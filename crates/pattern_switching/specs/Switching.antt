@@ -16,7 +16,6 @@ use Rattle.state.specs.State.{State, decode}
 use Rattle.state.specs.Steps.{nextBlock, nextLocal, tryBlock, tryStatement, setTerminator}
 use Rattle.state.specs.Contracts.{Ready, Answers, steppedResult, steppedCounts}
 use Rattle.state.specs.declared.Stepped.{Stepped}
-use Rattle.lower.specs.declared.temps.DiscrTemp.{DiscrTemp}
 use Rattle.lower.specs.declared.merging.OptBlock.{OptBlock}
 use Rattle.lower.specs.Temps.{temp}
 use Rattle.pattern_matching.specs.Walking.{Ctx, Out, Walk, step, out, withState, elseState, elseBlock}
@@ -50,6 +49,6 @@ Steps defined c current t₀ r t =
     Answers (bodyOf t₀ scopes) c (current .0) (bodyOf t scopes) (steppedCounts r) (steppedResult r (bodyOf t scopes)) (defined (decode (bodyOf t₀ scopes) c))
 
 -- what a step of the walk that touches the blocks alone promises, whatever lies in the other tables
-abbrev pub Switches : (Ctx → Walk Out) → Counts → DiscrTemp → BasicBlockId → OptBlock → List ℕ → Lowered → List ℕ → Type 0
-Switches defined c discr current els blocks₀ r blocks =
-    (statements locals entries : List ℕ) → Lowers defined c discr current els (lent blocks₀ statements locals entries) r (lent blocks statements locals entries)
+abbrev pub Switches : (Ctx → Walk Out) → Counts → BasicBlockId → OptBlock → List ℕ → Lowered → List ℕ → Type 0
+Switches defined c current els blocks₀ r blocks =
+    (statements locals entries : List ℕ) → Lowers defined c current els (lent blocks₀ statements locals entries) r (lent blocks statements locals entries)

@@ -2,7 +2,6 @@
 use image::PatId;
 use image::Tables;
 use lower::merging::OptBlock;
-use lower::temps::DiscrTemp;
 use lower::temps::NewTemp;
 use lower::temps::temp;
 use mir::BasicBlockId;
@@ -90,7 +89,6 @@ pub fn compare(
 pub fn then_switch(
     blocks: &mut [u16],
     counts: Counts,
-    discr: DiscrTemp,
     p: PatId,
     l: LocalId,
     low: u64,
@@ -99,7 +97,7 @@ pub fn then_switch(
     els: OptBlock,
 ) -> Lowered
     requires { ⌜ (length (now blocks) ≡ 6144) × (counts .blocks ≤ 512) × Begins counts current els ⌝ }
-    ensures { λ r. ⌜ Switches (λ ctx. thenSwitch (p .0) l low high ctx current els) counts discr current els (now (blocks .entry)) r (now (blocks .exit)) ⌝ }
+    ensures { λ r. ⌜ Switches (λ ctx. thenSwitch (p .0) l low high ctx current els) counts current els (now (blocks .entry)) r (now (blocks .exit)) ⌝ }
 {
     match new_basic_block(counts) {
         NewBlock::Full => Lowered::Refused(MirLowerError::Limit, p),
@@ -111,7 +109,7 @@ pub fn then_switch(
                     current,
                     Terminator::Switch(l, low, high, then, other),
                 );
-                Lowered::Done(c2, discr, then, OptBlock::Some(other))
+                Lowered::Done(c2, then, OptBlock::Some(other))
             }
         },
     }

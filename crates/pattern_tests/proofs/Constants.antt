@@ -28,7 +28,6 @@ use Rattle.state.specs.declared.Stepped.{Stepped}
 use Rattle.state.proofs.RowLengths.{constant-length, binary-length}
 use Rattle.literals.specs.Literals.{lowerLiteralToOperand, lowerConstToOperand}
 use Rattle.lower.specs.declared.temps.NewTemp.{NewTemp}
-use Rattle.lower.specs.declared.temps.DiscrTemp.{DiscrTemp}
 use Rattle.lower.specs.declared.merging.OptBlock.{OptBlock}
 use Rattle.lower.specs.Temps.{temp}
 use Rattle.lower.specs.Promises.{Makes}
@@ -47,28 +46,28 @@ use Rattle.pattern_switching.proofs.Cutting.{in-check, not-in-check}
 use Rattle.pattern_tests.proofs.Cutting.{const-cut}
 
 -- `pattern_match_const`; t lies in the tables at entry
-module _ (image : List ℕ) (t : Lent) (c : Counts) (discr : DiscrTemp) (p : PatId) (constant : Constant) (current : BasicBlockId) (els : OptBlock) (place : Place) where
+module _ (image : List ℕ) (t : Lent) (c : Counts) (p : PatId) (constant : Constant) (current : BasicBlockId) (els : OptBlock) (place : Place) where
   abbrev Tests : Lowered → Lent → Type 0
-  Tests = Lowers (λ ctx. patternMatchConst image (p .0) constant ctx current els place) c discr current els t
+  Tests = Lowers (λ ctx. patternMatchConst image (p .0) constant ctx current els place) c current els t
 
   abbrev ends : State → BasicBlockId → BasicBlockId → Result State
   ends st on other = compareStep image BinOp.Eq (Left.Constant constant) place st current on other
 
   -- there is no room for the block that goes on
   pub const-full : NewBlock.Full ≡ newBlock c → Tests (Lowered.Refused MirLowerError.Limit p) t
-  const-full full = lowers-by (const-cut image p constant place current els) (then-full p ends els t c discr current full)
+  const-full full = lowers-by (const-cut image p constant place current els) (then-full p ends els t c current full)
 
   module _ {c₁ : Counts} {on : BasicBlockId} (is : NewBlock.Block c₁ on ≡ newBlock c) where
     -- nor for an else
     pub const-else-full : NewBlock.Full ≡ elseMade c₁ els → Tests (Lowered.Refused MirLowerError.Limit p) t
-    const-else-full full = lowers-by (const-cut image p constant place current els) (then-else-full p ends els t c discr current is full)
+    const-else-full full = lowers-by (const-cut image p constant place current els) (then-else-full p ends els t c current is full)
 
     -- both are made, and the place is compared
     pub const-ends : {c₂ : Counts} {other : BasicBlockId} {t′ : Lent} (r : Stepped) → NewBlock.Block c₂ other ≡ elseMade c₁ els → Primed t c → Begins c current els → Steps (λ st. ends st on other) c₂ current t r t′ →
-        Tests (loweredBy discr p on other r) t′
+        Tests (loweredBy p on other r) t′
     const-ends {other = other} r made P h E =
         lowers-by (const-cut image p constant place current els)
-        (then-else-ends p ends els t c discr current is made r h (grown-to (λ st. ends st on other) r (then-else-made is made P h .0) E) E)
+        (then-else-ends p ends els t c current is made r h (grown-to (λ st. ends st on other) r (then-else-made is made P h .0) E) E)
 
 -- what is no literal is refused in every mode
 not-literal : (kind : OperandKind) (image : List ℕ) (p ty : ℕ) (operand : Operand) (mode : MatchingMode) (ctx : Ctx) (current : BasicBlockId) (els : OptBlock) (place : Place) → isLiteral kind ≡ false →
@@ -103,10 +102,10 @@ is-literal OperandKind.Other image p ty operand mode ctx current els place e = a
 is-literal OperandKind.Unknown image p ty operand mode ctx current els place e = absurd (false≢true e)
 
 -- `pattern_match_lit`, by the kind that is read
-module _ (image : List ℕ) (t : Lent) (c : Counts) (discr : DiscrTemp) (mode : MatchingMode) (p : PatId) (ty : ℕ) (operand : Operand) (current : BasicBlockId) (els : OptBlock) (place : Place)
+module _ (image : List ℕ) (t : Lent) (c : Counts) (mode : MatchingMode) (p : PatId) (ty : ℕ) (operand : Operand) (current : BasicBlockId) (els : OptBlock) (place : Place)
     {kind : OperandKind} (read : operand .kind ≡ kind) where
   abbrev Literal : Lowered → Lent → Type 0
-  Literal = Lowers (λ ctx. litBy (operand .kind) image (p .0) ty operand mode ctx current els place) c discr current els t
+  Literal = Lowers (λ ctx. litBy (operand .kind) image (p .0) ty operand mode ctx current els place) c current els t
 
   -- it is no literal
   pub lit-not : isLiteral kind ≡ false → Literal (Lowered.Refused MirLowerError.NotSupported p) t
@@ -114,7 +113,7 @@ module _ (image : List ℕ) (t : Lent) (c : Counts) (discr : DiscrTemp) (mode : 
 
   module _ (e : isLiteral kind ≡ true) where
     -- nothing is tested beyond Check
-    pub lit-skips : isCheck mode ≡ false → Begins c current els → Literal (Lowered.Done c discr current els) t
+    pub lit-skips : isCheck mode ≡ false → Begins c current els → Literal (Lowered.Done c current els) t
     unfolding literal
     lit-skips beyond h =
         lowers-skips (λ ctx. not-in-check mode (step (p .0) (lowerLiteralToOperand image ty operand) (λ constant. patternMatchConst image (p .0) constant ctx current els place)) (out ctx current els) beyond
@@ -136,13 +135,13 @@ module _ (image : List ℕ) (t : Lent) (c : Counts) (discr : DiscrTemp) (mode : 
 
       -- the operand's constant is compared
       pub lit-tests : {constant : Constant} {r : Lowered} {t′ : Lent} → done constant ≡ lowerLiteralToOperand image ty operand →
-          Lowers (λ ctx. patternMatchConst image (p .0) constant ctx current els place) c discr current els t r t′ → Literal r t′
+          Lowers (λ ctx. patternMatchConst image (p .0) constant ctx current els place) c current els t r t′ → Literal r t′
       lit-tests is L = lowers-by (tests is) L
 
 -- `constant_compared`; bl₀, s₀, l₀ and e₀ are the tables at entry
-module _ (image bl₀ s₀ l₀ e₀ : List ℕ) (c : Counts) (discr : DiscrTemp) (p : PatId) (held : LocalId) (current : BasicBlockId) (els : OptBlock) (place : Place) where
+module _ (image bl₀ s₀ l₀ e₀ : List ℕ) (c : Counts) (p : PatId) (held : LocalId) (current : BasicBlockId) (els : OptBlock) (place : Place) where
   abbrev Compared : Lowered → Lent → Type 0
-  Compared = Lowers (λ ctx. constantCompared image (p .0) held ctx current els place) c discr current els (lent bl₀ s₀ l₀ e₀)
+  Compared = Lowers (λ ctx. constantCompared image (p .0) held ctx current els place) c current els (lent bl₀ s₀ l₀ e₀)
 
   abbrev row : LocalId → List ℕ
   row n = binaryRow current n BinOp.Eq (Left.Local held) place
@@ -153,31 +152,31 @@ module _ (image bl₀ s₀ l₀ e₀ : List ℕ) (c : Counts) (discr : DiscrTemp
   -- there is no local
   pub compared-no-temp : {err : MirLowerError} {s l e : List ℕ} → Makes (λ st. temp image st 256 current) c current s₀ l₀ e₀ (NewTemp.Refused err) s l e → Compared (Lowered.Refused err p) (lent bl₀ s l e)
   unfolding constantCompared
-  compared-no-temp M = assign-no-local bl₀ p els row switches (making image 256 discr M)
+  compared-no-temp M = assign-no-local bl₀ p els row switches (making image 256 M)
 
   module _ {c₁ : Counts} {n : LocalId} {s₁ s l e : List ℕ} (long : length (place .elems) ≡ 16) (M : Makes (λ st. temp image st 256 current) c current s₀ l₀ e₀ (NewTemp.Local c₁ n) s₁ l e)
       (after : s ≡ statementsAfter c₁ s₁ (row n)) where
     -- there is no room for the statement
     pub compared-full : Counted.Full ≡ newStatement c₁ → Compared (Lowered.Refused MirLowerError.Limit p) (lent bl₀ s l e)
     unfolding constantCompared
-    compared-full full = assign-full bl₀ p els row switches (making image 256 discr M) (binary-length current n BinOp.Eq (Left.Local held) place long) after full
+    compared-full full = assign-full bl₀ p els row switches (making image 256 M) (binary-length current n BinOp.Eq (Left.Local held) place long) after full
 
     -- the block goes on by the local
-    pub compared-switches : {c₂ : Counts} {r : Lowered} {bl : List ℕ} → Counted.Now c₂ ≡ newStatement c₁ → Primed (lent bl₀ s₀ l₀ e₀) c → Begins c current els → Switches (switches n) c₂ discr current els bl₀ r bl →
+    pub compared-switches : {c₂ : Counts} {r : Lowered} {bl : List ℕ} → Counted.Now c₂ ≡ newStatement c₁ → Primed (lent bl₀ s₀ l₀ e₀) c → Begins c current els → Switches (switches n) c₂ current els bl₀ r bl →
         Compared r (lent bl s l e)
     unfolding constantCompared
-    compared-switches is P h S = assign-then bl₀ p els row switches (making image 256 discr M) (binary-length current n BinOp.Eq (Left.Local held) place long) after is P h (S s l e)
+    compared-switches is P h S = assign-then bl₀ p els row switches (making image 256 M) (binary-length current n BinOp.Eq (Left.Local held) place long) after is P h (S s l e)
 
 -- `constant_path`
-module _ (image bl₀ s₀ l₀ e₀ : List ℕ) (c : Counts) (discr : DiscrTemp) (mode : MatchingMode) (p : PatId) (ty : ℕ) (operand : Operand) (current : BasicBlockId) (els : OptBlock) (place : Place) where
+module _ (image bl₀ s₀ l₀ e₀ : List ℕ) (c : Counts) (mode : MatchingMode) (p : PatId) (ty : ℕ) (operand : Operand) (current : BasicBlockId) (els : OptBlock) (place : Place) where
   abbrev Path : Lowered → Lent → Type 0
-  Path = Lowers (λ ctx. constantPath image (p .0) ty operand mode ctx current els place) c discr current els (lent bl₀ s₀ l₀ e₀)
+  Path = Lowers (λ ctx. constantPath image (p .0) ty operand mode ctx current els place) c current els (lent bl₀ s₀ l₀ e₀)
 
   abbrev tested : LocalId → Ctx → Walk Out
   tested n ctx = constantCompared image (p .0) n ctx current els place
 
   -- nothing is tested beyond Check
-  pub path-skips : isCheck mode ≡ false → Begins c current els → Path (Lowered.Done c discr current els) (lent bl₀ s₀ l₀ e₀)
+  pub path-skips : isCheck mode ≡ false → Begins c current els → Path (Lowered.Done c current els) (lent bl₀ s₀ l₀ e₀)
   unfolding constantPath
   path-skips beyond h = lowers-skips (λ ctx. not-in-check mode _ (out ctx current els) beyond) h
 
@@ -194,13 +193,13 @@ module _ (image bl₀ s₀ l₀ e₀ : List ℕ) (c : Counts) (discr : DiscrTemp
 
     -- there is no local
     pub path-no-temp : {err : MirLowerError} {s l e : List ℕ} → Makes (λ st. temp image st ty current) c current s₀ l₀ e₀ (NewTemp.Refused err) s l e → Path (Lowered.Refused err p) (lent bl₀ s l e)
-    path-no-temp M = lowers-by path-cut (assign-no-local bl₀ p els copied tested (making image ty discr M))
+    path-no-temp M = lowers-by path-cut (assign-no-local bl₀ p els copied tested (making image ty M))
 
     module _ {c₁ : Counts} {n : LocalId} {s₁ s l e : List ℕ} (M : Makes (λ st. temp image st ty current) c current s₀ l₀ e₀ (NewTemp.Local c₁ n) s₁ l e) (after : s ≡ statementsAfter c₁ s₁ (copied n)) where
       -- there is no room for the statement
       pub path-full : Counted.Full ≡ newStatement c₁ → Path (Lowered.Refused MirLowerError.Limit p) (lent bl₀ s l e)
-      path-full full = lowers-by path-cut (assign-full bl₀ p els copied tested (making image ty discr M) (constant-length current n constant) after full)
+      path-full full = lowers-by path-cut (assign-full bl₀ p els copied tested (making image ty M) (constant-length current n constant) after full)
 
       -- the local is compared
-      pub path-tests : {c₂ : Counts} {r : Lowered} {t : Lent} → Counted.Now c₂ ≡ newStatement c₁ → Primed (lent bl₀ s₀ l₀ e₀) c → Begins c current els → Lowers (tested n) c₂ discr current els (lent bl₀ s l e) r t → Path r t
-      path-tests is P h L = lowers-by path-cut (assign-then bl₀ p els copied tested (making image ty discr M) (constant-length current n constant) after is P h L)
+      pub path-tests : {c₂ : Counts} {r : Lowered} {t : Lent} → Counted.Now c₂ ≡ newStatement c₁ → Primed (lent bl₀ s₀ l₀ e₀) c → Begins c current els → Lowers (tested n) c₂ current els (lent bl₀ s l e) r t → Path r t
+      path-tests is P h L = lowers-by path-cut (assign-then bl₀ p els copied tested (making image ty M) (constant-length current n constant) after is P h L)

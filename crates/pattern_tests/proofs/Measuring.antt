@@ -27,7 +27,6 @@ use Rattle.state.specs.declared.Stepped.{Stepped}
 use Rattle.state.proofs.RowLengths.{place-rvalue-length}
 use Rattle.state.proofs.Calls.{set-answers}
 use Rattle.lower.specs.declared.temps.NewTemp.{NewTemp}
-use Rattle.lower.specs.declared.temps.DiscrTemp.{DiscrTemp}
 use Rattle.lower.specs.declared.merging.OptBlock.{OptBlock}
 use Rattle.lower.specs.Temps.{temp}
 use Rattle.lower.specs.Promises.{Makes}
@@ -61,9 +60,9 @@ module _ (image : List ℕ) (c : Counts) (l : LocalId) (n : ℕ) (current on oth
   end-least t t′ r is k at E sc R = answers-by (least is k at _) (E sc R)
 
 -- `length_switch`; t lies in the tables at entry
-module _ (image : List ℕ) (t : Lent) (c : Counts) (discr : DiscrTemp) (p : PatId) (l : LocalId) (n : ℕ) (rest : Bool) (current : BasicBlockId) (els : OptBlock) where
+module _ (image : List ℕ) (t : Lent) (c : Counts) (p : PatId) (l : LocalId) (n : ℕ) (rest : Bool) (current : BasicBlockId) (els : OptBlock) where
   abbrev Switched : Lowered → Lent → Type 0
-  Switched = Lowers (λ ctx. lengthSwitch image (p .0) l n rest ctx current els) c discr current els t
+  Switched = Lowers (λ ctx. lengthSwitch image (p .0) l n rest ctx current els) c current els t
 
   abbrev ends : State → BasicBlockId → BasicBlockId → Result State
   ends st on other = lengthEnd image l n rest st current on other
@@ -71,24 +70,24 @@ module _ (image : List ℕ) (t : Lent) (c : Counts) (discr : DiscrTemp) (p : Pat
   -- there is no room for an else
   pub length-full : NewBlock.Full ≡ elseMade c els → Switched (Lowered.Refused MirLowerError.Limit p) t
   unfolding lengthSwitch
-  length-full full = else-full p ends els t c discr current full
+  length-full full = else-full p ends els t c current full
 
   module _ {c₁ : Counts} {other : BasicBlockId} (made : NewBlock.Block c₁ other ≡ elseMade c els) where
     -- nor for the block that goes on
     pub length-then-full : NewBlock.Full ≡ newBlock c₁ → Switched (Lowered.Refused MirLowerError.Limit p) t
     unfolding lengthSwitch
-    length-then-full full = else-then-full p ends els t c discr current made full
+    length-then-full full = else-then-full p ends els t c current made full
 
     -- both are made, and the block goes on by the length
     pub length-ends : {c₂ : Counts} {on : BasicBlockId} {t′ : Lent} (r : Stepped) → NewBlock.Block c₂ on ≡ newBlock c₁ → Primed t c → Begins c current els → Steps (λ st. ends st on other) c₂ current t r t′ →
-        Switched (loweredBy discr p on other r) t′
+        Switched (loweredBy p on other r) t′
     unfolding lengthSwitch
-    length-ends {on = on} r is P h E = else-then-ends p ends els t c discr current made is r h (grown-to (λ st. ends st on other) r (else-then-made made is P h .0) E) E
+    length-ends {on = on} r is P h E = else-then-ends p ends els t c current made is r h (grown-to (λ st. ends st on other) r (else-then-made made is P h .0) E) E
 
 -- `length_test`; bl₀, s₀, l₀ and e₀ are the tables at entry
-module _ (image bl₀ s₀ l₀ e₀ : List ℕ) (c : Counts) (discr : DiscrTemp) (p : PatId) (n : ℕ) (rest : Bool) (current : BasicBlockId) (els : OptBlock) (place : Place) where
+module _ (image bl₀ s₀ l₀ e₀ : List ℕ) (c : Counts) (p : PatId) (n : ℕ) (rest : Bool) (current : BasicBlockId) (els : OptBlock) (place : Place) where
   abbrev Measured : Lowered → Lent → Type 0
-  Measured = Lowers (λ ctx. lengthTestBy rest image (p .0) n ctx current els place) c discr current els (lent bl₀ s₀ l₀ e₀)
+  Measured = Lowers (λ ctx. lengthTestBy rest image (p .0) n ctx current els place) c current els (lent bl₀ s₀ l₀ e₀)
 
   abbrev row : LocalId → List ℕ
   row m = placeRvalueRow current m PlaceRvalue.Len place
@@ -99,17 +98,17 @@ module _ (image bl₀ s₀ l₀ e₀ : List ℕ) (c : Counts) (discr : DiscrTemp
   -- there is no local
   pub measure-no-temp : {err : MirLowerError} {s l e : List ℕ} → Makes (λ st. temp image st 257 current) c current s₀ l₀ e₀ (NewTemp.Refused err) s l e → Measured (Lowered.Refused err p) (lent bl₀ s l e)
   unfolding lengthTestBy
-  measure-no-temp M = assign-no-local bl₀ p els row switches (making image 257 discr M)
+  measure-no-temp M = assign-no-local bl₀ p els row switches (making image 257 M)
 
   module _ {c₁ : Counts} {m : LocalId} {s₁ s l e : List ℕ} (long : length (place .elems) ≡ 16) (M : Makes (λ st. temp image st 257 current) c current s₀ l₀ e₀ (NewTemp.Local c₁ m) s₁ l e)
       (after : s ≡ statementsAfter c₁ s₁ (row m)) where
     -- there is no room for the statement
     pub measure-full : Counted.Full ≡ newStatement c₁ → Measured (Lowered.Refused MirLowerError.Limit p) (lent bl₀ s l e)
     unfolding lengthTestBy
-    measure-full full = assign-full bl₀ p els row switches (making image 257 discr M) (place-rvalue-length current m PlaceRvalue.Len place long) after full
+    measure-full full = assign-full bl₀ p els row switches (making image 257 M) (place-rvalue-length current m PlaceRvalue.Len place long) after full
 
     -- the block goes on by the local
-    pub measure-switches : {c₂ : Counts} {r : Lowered} {t : Lent} → Counted.Now c₂ ≡ newStatement c₁ → Primed (lent bl₀ s₀ l₀ e₀) c → Begins c current els → Lowers (switches m) c₂ discr current els (lent bl₀ s l e) r t →
+    pub measure-switches : {c₂ : Counts} {r : Lowered} {t : Lent} → Counted.Now c₂ ≡ newStatement c₁ → Primed (lent bl₀ s₀ l₀ e₀) c → Begins c current els → Lowers (switches m) c₂ current els (lent bl₀ s l e) r t →
         Measured r t
     unfolding lengthTestBy
-    measure-switches is P h L = assign-then bl₀ p els row switches (making image 257 discr M) (place-rvalue-length current m PlaceRvalue.Len place long) after is P h L
+    measure-switches is P h L = assign-then bl₀ p els row switches (making image 257 M) (place-rvalue-length current m PlaceRvalue.Len place long) after is P h L

@@ -30,7 +30,6 @@ use Rattle.mir.specs.Rvalues.{placeRvalueRow}
 use Rattle.mir.specs.Statements.{newStatement, statementsAfter}
 use Rattle.state.proofs.RowLengths.{place-rvalue-length}
 use Rattle.lower.specs.declared.temps.NewTemp.{NewTemp}
-use Rattle.lower.specs.declared.temps.DiscrTemp.{DiscrTemp}
 use Rattle.lower.specs.declared.merging.OptBlock.{OptBlock}
 use Rattle.lower.specs.Promises.{Shares}
 use Rattle.pattern_matching.specs.Walking.{Ctx, Out, Walk}
@@ -93,16 +92,16 @@ module _ (image : List ℕ) (row : VariantRow) {bytes : List ℕ} (read : bytes 
       parts low high _ (split ∙ ap littleEndian all) (rw d (little-small 8 bytes few))
 
 -- `discriminant_test`; bl₀, s₀, l₀ and e₀ are the tables at entry
-module _ (image bl₀ s₀ l₀ e₀ : List ℕ) (c : Counts) (discr : DiscrTemp) (p : PatId) (v : ℕ) (current : BasicBlockId) (els : OptBlock) (place : Place) where
+module _ (image bl₀ s₀ l₀ e₀ : List ℕ) (c : Counts) (p : PatId) (v : ℕ) (current : BasicBlockId) (els : OptBlock) (place : Place) where
   abbrev Tested : Lowered → Lent → Type 0
-  Tested = Lowers (λ ctx. discriminantTest image (p .0) v ctx current els place) c discr current els (lent bl₀ s₀ l₀ e₀)
+  Tested = Lowers (λ ctx. discriminantTest image (p .0) v ctx current els place) c current els (lent bl₀ s₀ l₀ e₀)
 
   abbrev row : LocalId → List ℕ
   row m = placeRvalueRow current m PlaceRvalue.Discr place
 
   -- from here on all tests of enums share the local
   abbrev switches : ℕ → ℕ → LocalId → Ctx → Walk Out
-  switches low high m ctx = thenSwitch (p .0) m low high (record { state = ctx .state; discr = DiscrTemp.Some m; visits = ctx .visits }) current els
+  switches low high m ctx = thenSwitch (p .0) m low high (record { state = ctx .state; visits = ctx .visits }) current els
 
   abbrev both : LocalId → Ctx → Walk Out
   both = switches (variantOf image v .discriminant % 18446744073709551616) (variantOf image v .discriminant / 18446744073709551616)
@@ -110,14 +109,14 @@ module _ (image bl₀ s₀ l₀ e₀ : List ℕ) (c : Counts) (discr : DiscrTemp
   -- there is no local
   pub discriminant-no-temp : {err : MirLowerError} {s l e : List ℕ} → Shares image discr c current s₀ l₀ e₀ (NewTemp.Refused err) s l e → Tested (Lowered.Refused err p) (lent bl₀ s l e)
   unfolding discriminantTest thenSwitch
-  discriminant-no-temp S = assign-no-local bl₀ p els row both (sharing discr S)
+  discriminant-no-temp S = assign-no-local bl₀ p els row both (sharing S)
 
   module _ {c₁ : Counts} {m : LocalId} {s₁ s l e : List ℕ} (long : length (place .elems) ≡ 16) (S : Shares image discr c current s₀ l₀ e₀ (NewTemp.Local c₁ m) s₁ l e)
       (after : s ≡ statementsAfter c₁ s₁ (row m)) where
     -- there is no room for the statement
     pub discriminant-full : Counted.Full ≡ newStatement c₁ → Tested (Lowered.Refused MirLowerError.Limit p) (lent bl₀ s l e)
     unfolding discriminantTest thenSwitch
-    discriminant-full full = assign-full bl₀ p els row both (sharing discr S) (place-rvalue-length current m PlaceRvalue.Discr place long) after full
+    discriminant-full full = assign-full bl₀ p els row both (sharing S) (place-rvalue-length current m PlaceRvalue.Discr place long) after full
 
     -- the block goes on by the local
     pub discriminant-switches : {c₂ : Counts} {r : Lowered} {bl : List ℕ} {low high : ℕ} →
@@ -127,5 +126,5 @@ module _ (image bl₀ s₀ l₀ e₀ : List ℕ) (c : Counts) (discr : DiscrTemp
     unfolding discriminantTest thenSwitch
     discriminant-switches {low = low} {high = high} halves is P h W =
         let L = W s l e in
-        assign-then bl₀ p els row both (sharing discr S) (place-rvalue-length current m PlaceRvalue.Discr place long) after is P h
+        assign-then bl₀ p els row both (sharing S) (place-rvalue-length current m PlaceRvalue.Discr place long) after is P h
         (lowers-by {defined = switches low high m} (λ ctx. rw (halves .0, halves .1) refl) (record { answers = L .answers; onward = L .onward }))

@@ -8,7 +8,6 @@ use literals::LoweredOperand;
 use literals::lower_const_to_operand;
 use literals::lower_literal_to_operand;
 use lower::merging::OptBlock;
-use lower::temps::DiscrTemp;
 use lower::temps::NewTemp;
 use lower::temps::temp;
 use mir::BasicBlockId;
@@ -53,7 +52,6 @@ pub fn pattern_match_const(
     locals: &mut [u16],
     entries: &mut [u16],
     counts: Counts,
-    discr: DiscrTemp,
     p: PatId,
     constant: Constant,
     current: BasicBlockId,
@@ -61,7 +59,7 @@ pub fn pattern_match_const(
     place: Place,
 ) -> Lowered
     requires { ⌜ Whole (now image) tables × Primed (lent (now blocks) (now statements) (now locals) (now entries)) counts × Begins counts current els ⌝ }
-    ensures { λ r. ⌜ Lowers (λ ctx. patternMatchConst (now (image .entry)) (p .0) constant ctx current els place) counts discr current els (lent (now (blocks .entry)) (now (statements .entry)) (now (locals .entry)) (now (entries .entry))) r (lent (now (blocks .exit)) (now (statements .exit)) (now (locals .exit)) (now (entries .exit))) ⌝ }
+    ensures { λ r. ⌜ Lowers (λ ctx. patternMatchConst (now (image .entry)) (p .0) constant ctx current els place) counts current els (lent (now (blocks .entry)) (now (statements .entry)) (now (locals .entry)) (now (entries .entry))) r (lent (now (blocks .exit)) (now (statements .exit)) (now (locals .exit)) (now (entries .exit))) ⌝ }
 {
     match new_basic_block(counts) {
         NewBlock::Full => Lowered::Refused(MirLowerError::Limit, p),
@@ -83,7 +81,7 @@ pub fn pattern_match_const(
                 other,
             ) {
                 Stepped::Refused(e) => Lowered::Refused(e, p),
-                Stepped::Now(c3) => Lowered::Done(c3, discr, then, OptBlock::Some(other)),
+                Stepped::Now(c3) => Lowered::Done(c3, then, OptBlock::Some(other)),
             },
         },
     }
@@ -117,7 +115,6 @@ pub fn pattern_match_lit(
     locals: &mut [u16],
     entries: &mut [u16],
     counts: Counts,
-    discr: DiscrTemp,
     mode: MatchingMode,
     p: PatId,
     ty: u16,
@@ -128,13 +125,13 @@ pub fn pattern_match_lit(
 ) -> Lowered
     requires { ⌜ (valid (now image) ≡ true) × Whole (now image) tables × (ty < typeCount (now image)) × (operandHolds (now image) o ≡ true) ⌝ }
     requires { ⌜ Primed (lent (now blocks) (now statements) (now locals) (now entries)) counts × Begins counts current els ⌝ }
-    ensures { λ r. ⌜ Lowers (λ ctx. litBy (operandOf (now (image .entry)) o .kind) (now (image .entry)) (p .0) ty (operandOf (now (image .entry)) o) mode ctx current els place) counts discr current els (lent (now (blocks .entry)) (now (statements .entry)) (now (locals .entry)) (now (entries .entry))) r (lent (now (blocks .exit)) (now (statements .exit)) (now (locals .exit)) (now (entries .exit))) ⌝ }
+    ensures { λ r. ⌜ Lowers (λ ctx. litBy (operandOf (now (image .entry)) o .kind) (now (image .entry)) (p .0) ty (operandOf (now (image .entry)) o) mode ctx current els place) counts current els (lent (now (blocks .entry)) (now (statements .entry)) (now (locals .entry)) (now (entries .entry))) r (lent (now (blocks .exit)) (now (statements .exit)) (now (locals .exit)) (now (entries .exit))) ⌝ }
 {
     if !is_literal(operand_kind(operand_at(image, tables, o).kind)) {
         return Lowered::Refused(MirLowerError::NotSupported, p);
     }
     if !is_check(mode) {
-        return Lowered::Done(counts, discr, current, els);
+        return Lowered::Done(counts, current, els);
     }
     match lower_literal_to_operand(image, tables, ty, o) {
         LoweredOperand::Refused(e) => Lowered::Refused(e, p),
@@ -146,7 +143,6 @@ pub fn pattern_match_lit(
             locals,
             entries,
             counts,
-            discr,
             p,
             constant,
             current,
@@ -165,7 +161,6 @@ fn constant_compared(
     locals: &mut [u16],
     entries: &mut [u16],
     counts: Counts,
-    discr: DiscrTemp,
     p: PatId,
     l: LocalId,
     current: BasicBlockId,
@@ -173,7 +168,7 @@ fn constant_compared(
     place: Place,
 ) -> Lowered
     requires { ⌜ Whole (now image) tables × Primed (lent (now blocks) (now statements) (now locals) (now entries)) counts × Begins counts current els ⌝ }
-    ensures { λ r. ⌜ Lowers (λ ctx. constantCompared (now (image .entry)) (p .0) l ctx current els place) counts discr current els (lent (now (blocks .entry)) (now (statements .entry)) (now (locals .entry)) (now (entries .entry))) r (lent (now (blocks .exit)) (now (statements .exit)) (now (locals .exit)) (now (entries .exit))) ⌝ }
+    ensures { λ r. ⌜ Lowers (λ ctx. constantCompared (now (image .entry)) (p .0) l ctx current els place) counts current els (lent (now (blocks .entry)) (now (statements .entry)) (now (locals .entry)) (now (entries .entry))) r (lent (now (blocks .exit)) (now (statements .exit)) (now (locals .exit)) (now (entries .exit))) ⌝ }
 {
     match temp(
         image,
@@ -196,7 +191,7 @@ fn constant_compared(
             place,
         ) {
             Counted::Full => Lowered::Refused(MirLowerError::Limit, p),
-            Counted::Now(c2) => then_switch(blocks, c2, discr, p, test, 1, 0, current, els),
+            Counted::Now(c2) => then_switch(blocks, c2, p, test, 1, 0, current, els),
         },
     }
 }
@@ -211,7 +206,6 @@ pub fn constant_path(
     locals: &mut [u16],
     entries: &mut [u16],
     counts: Counts,
-    discr: DiscrTemp,
     mode: MatchingMode,
     p: PatId,
     ty: u16,
@@ -222,10 +216,10 @@ pub fn constant_path(
 ) -> Lowered
     requires { ⌜ Whole (now image) tables × (operandHolds (now image) o ≡ true) × (operandOf (now image) o .kind ≡ OperandKind.Constant) ⌝ }
     requires { ⌜ Primed (lent (now blocks) (now statements) (now locals) (now entries)) counts × Begins counts current els ⌝ }
-    ensures { λ r. ⌜ Lowers (λ ctx. constantPath (now (image .entry)) (p .0) ty (operandOf (now (image .entry)) o) mode ctx current els place) counts discr current els (lent (now (blocks .entry)) (now (statements .entry)) (now (locals .entry)) (now (entries .entry))) r (lent (now (blocks .exit)) (now (statements .exit)) (now (locals .exit)) (now (entries .exit))) ⌝ }
+    ensures { λ r. ⌜ Lowers (λ ctx. constantPath (now (image .entry)) (p .0) ty (operandOf (now (image .entry)) o) mode ctx current els place) counts current els (lent (now (blocks .entry)) (now (statements .entry)) (now (locals .entry)) (now (entries .entry))) r (lent (now (blocks .exit)) (now (statements .exit)) (now (locals .exit)) (now (entries .exit))) ⌝ }
 {
     if !is_check(mode) {
-        return Lowered::Done(counts, discr, current, els);
+        return Lowered::Done(counts, current, els);
     }
     let constant = lower_const_to_operand(image, tables, ty, o);
     match temp(
@@ -255,7 +249,6 @@ pub fn constant_path(
                 locals,
                 entries,
                 c2,
-                discr,
                 p,
                 l,
                 current,

@@ -6,7 +6,6 @@ use image::rows::operand_bytes;
 use image::rows::variant_at;
 use literals::half;
 use lower::merging::OptBlock;
-use lower::temps::DiscrTemp;
 use lower::temps::NewTemp;
 use lower::temps::discr_temp_place;
 use mir::BasicBlockId;
@@ -35,7 +34,6 @@ pub fn discriminant_test(
     locals: &mut [u16],
     entries: &mut [u16],
     counts: Counts,
-    discr: DiscrTemp,
     p: PatId,
     v: u16,
     current: BasicBlockId,
@@ -44,7 +42,7 @@ pub fn discriminant_test(
 ) -> Lowered
     requires { ⌜ (valid (now image) ≡ true) × Whole (now image) tables × (v < variantCount (now image)) ⌝ }
     requires { ⌜ Primed (lent (now blocks) (now statements) (now locals) (now entries)) counts × Begins counts current els ⌝ }
-    ensures { λ r. ⌜ Lowers (λ ctx. discriminantTest (now (image .entry)) (p .0) v ctx current els place) counts discr current els (lent (now (blocks .entry)) (now (statements .entry)) (now (locals .entry)) (now (entries .entry))) r (lent (now (blocks .exit)) (now (statements .exit)) (now (locals .exit)) (now (entries .exit))) ⌝ }
+    ensures { λ r. ⌜ Lowers (λ ctx. discriminantTest (now (image .entry)) (p .0) v ctx current els place) counts current els (lent (now (blocks .entry)) (now (statements .entry)) (now (locals .entry)) (now (entries .entry))) r (lent (now (blocks .exit)) (now (statements .exit)) (now (locals .exit)) (now (entries .exit))) ⌝ }
 {
     let row = variant_at(image, tables, v);
     let bytes = operand_bytes(
@@ -58,16 +56,7 @@ pub fn discriminant_test(
     );
     let low = half(bytes, 0, 8);
     let high = half(bytes, 8, 8);
-    match discr_temp_place(
-        image,
-        tables,
-        statements,
-        locals,
-        entries,
-        counts,
-        discr,
-        current,
-    ) {
+    match discr_temp_place(image, tables, statements, locals, entries, counts, current) {
         NewTemp::Refused(e) => Lowered::Refused(e, p),
         NewTemp::Local(c1, l) => match push_assignment(
             statements,

@@ -2,7 +2,6 @@
 use image::PatId;
 use image::Tables;
 use lower::merging::OptBlock;
-use lower::temps::DiscrTemp;
 use lower::temps::NewTemp;
 use lower::temps::temp;
 use mir::BasicBlockId;
@@ -104,7 +103,6 @@ fn length_switch(
     locals: &mut [u16],
     entries: &mut [u16],
     counts: Counts,
-    discr: DiscrTemp,
     p: PatId,
     l: LocalId,
     n: u16,
@@ -113,7 +111,7 @@ fn length_switch(
     els: OptBlock,
 ) -> Lowered
     requires { ⌜ Whole (now image) tables × Primed (lent (now blocks) (now statements) (now locals) (now entries)) counts × Begins counts current els ⌝ }
-    ensures { λ r. ⌜ Lowers (λ ctx. lengthSwitch (now (image .entry)) (p .0) l n rest ctx current els) counts discr current els (lent (now (blocks .entry)) (now (statements .entry)) (now (locals .entry)) (now (entries .entry))) r (lent (now (blocks .exit)) (now (statements .exit)) (now (locals .exit)) (now (entries .exit))) ⌝ }
+    ensures { λ r. ⌜ Lowers (λ ctx. lengthSwitch (now (image .entry)) (p .0) l n rest ctx current els) counts current els (lent (now (blocks .entry)) (now (statements .entry)) (now (locals .entry)) (now (entries .entry))) r (lent (now (blocks .exit)) (now (statements .exit)) (now (locals .exit)) (now (entries .exit))) ⌝ }
 {
     match else_block(counts, els) {
         NewBlock::Full => Lowered::Refused(MirLowerError::Limit, p),
@@ -135,7 +133,7 @@ fn length_switch(
                 other,
             ) {
                 Stepped::Refused(e) => Lowered::Refused(e, p),
-                Stepped::Now(c3) => Lowered::Done(c3, discr, then, OptBlock::Some(other)),
+                Stepped::Now(c3) => Lowered::Done(c3, then, OptBlock::Some(other)),
             },
         },
     }
@@ -150,7 +148,6 @@ pub fn length_test(
     locals: &mut [u16],
     entries: &mut [u16],
     counts: Counts,
-    discr: DiscrTemp,
     p: PatId,
     n: u16,
     rest: bool,
@@ -159,7 +156,7 @@ pub fn length_test(
     place: Place,
 ) -> Lowered
     requires { ⌜ Whole (now image) tables × Primed (lent (now blocks) (now statements) (now locals) (now entries)) counts × Begins counts current els ⌝ }
-    ensures { λ r. ⌜ Lowers (λ ctx. lengthTestBy rest (now (image .entry)) (p .0) n ctx current els place) counts discr current els (lent (now (blocks .entry)) (now (statements .entry)) (now (locals .entry)) (now (entries .entry))) r (lent (now (blocks .exit)) (now (statements .exit)) (now (locals .exit)) (now (entries .exit))) ⌝ }
+    ensures { λ r. ⌜ Lowers (λ ctx. lengthTestBy rest (now (image .entry)) (p .0) n ctx current els place) counts current els (lent (now (blocks .entry)) (now (statements .entry)) (now (locals .entry)) (now (entries .entry))) r (lent (now (blocks .exit)) (now (statements .exit)) (now (locals .exit)) (now (entries .exit))) ⌝ }
 {
     match temp(
         image,
@@ -189,7 +186,6 @@ pub fn length_test(
                 locals,
                 entries,
                 c2,
-                discr,
                 p,
                 l,
                 n,

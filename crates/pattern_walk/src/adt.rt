@@ -5,7 +5,6 @@ use image::PatId;
 use image::Tables;
 use image::rows::variant_at;
 use lower::merging::OptBlock;
-use lower::temps::DiscrTemp;
 use mir::BasicBlockId;
 use mir::Counts;
 use pattern_idle::nothing_to_do;
@@ -47,7 +46,6 @@ pub fn pattern_match_adt(
     entries: &mut [u16],
     visits: &mut [u16],
     counts: Counts,
-    discr: DiscrTemp,
     mode: MatchingMode,
     p: PatId,
     row: ArgumentRow,
@@ -60,10 +58,9 @@ pub fn pattern_match_adt(
 ) -> Lowered
     requires { ⌜ Walkable (now image) tables (now bindings) (lent (now blocks) (now statements) (now locals) (now entries)) (now visits) counts current els place ⌝ }
     requires { ⌜ (p .0 < patternCount (now image)) × ArgumentsThere row (now image) (p .0) from fields count ⌝ }
-    ensures { λ r. ⌜ Walks (λ ctx. patternMatchAdt (p .0) (argumentElems row (now (image .entry)) from fields 0 count) (lowerings (now (image .entry)) (now (bindings .entry)) (trees (tree (now (image .entry))) (argumentPats row (now (image .entry)) from 0 count))) mode ctx current els place) counts discr current els (lent (now (blocks .entry)) (now (statements .entry)) (now (locals .entry)) (now (entries .entry))) (now (visits .entry)) r (lent (now (blocks .exit)) (now (statements .exit)) (now (locals .exit)) (now (entries .exit))) (now (visits .exit)) ⌝ }
+    ensures { λ r. ⌜ Walks (λ ctx. patternMatchAdt (p .0) (argumentElems row (now (image .entry)) from fields 0 count) (lowerings (now (image .entry)) (now (bindings .entry)) (trees (tree (now (image .entry))) (argumentPats row (now (image .entry)) from 0 count))) mode ctx current els place) counts current els (lent (now (blocks .entry)) (now (statements .entry)) (now (locals .entry)) (now (entries .entry))) (now (visits .entry)) r (lent (now (blocks .exit)) (now (statements .exit)) (now (locals .exit)) (now (entries .exit))) (now (visits .exit)) ⌝ }
 {
     let mut c = counts;
-    let mut d = discr;
     let mut here = current;
     let mut other = els;
     let mut i = 0u16;
@@ -88,7 +85,6 @@ pub fn pattern_match_adt(
             entries,
             visits,
             c,
-            d,
             mode,
             q,
             here,
@@ -98,16 +94,15 @@ pub fn pattern_match_adt(
             Lowered::Refused(e, at) => {
                 return Lowered::Refused(e, at);
             }
-            Lowered::Done(c1, d1, b1, e1) => {
+            Lowered::Done(c1, b1, e1) => {
                 c = c1;
-                d = d1;
                 here = b1;
                 other = e1;
             }
         }
         i += 1;
     }
-    Lowered::Done(c, d, here, other)
+    Lowered::Done(c, here, other)
 }
 
 // The `count` arguments from the word `from` of the list on: those before the ellipsis on the first of so many fields, then those behind it on the last ones,
@@ -122,7 +117,6 @@ pub fn pattern_match_tuple_like(
     entries: &mut [u16],
     visits: &mut [u16],
     counts: Counts,
-    discr: DiscrTemp,
     mode: MatchingMode,
     p: PatId,
     from: u16,
@@ -135,7 +129,7 @@ pub fn pattern_match_tuple_like(
 ) -> Lowered
     requires { ⌜ Walkable (now image) tables (now bindings) (lent (now blocks) (now statements) (now locals) (now entries)) (now visits) counts current els place ⌝ }
     requires { ⌜ (p .0 < patternCount (now image)) × ArgumentsThere ArgumentRow.Items (now image) (p .0) from 0 count ⌝ }
-    ensures { λ r. ⌜ Walks (λ ctx. patternMatchTupleLike (p .0) (lowered (now (image .entry)) (now (bindings .entry)) from count) (ellipsisAt (word? ellipsis) (lowered (now (image .entry)) (now (bindings .entry)) from count)) fields mode ctx current els place) counts discr current els (lent (now (blocks .entry)) (now (statements .entry)) (now (locals .entry)) (now (entries .entry))) (now (visits .entry)) r (lent (now (blocks .exit)) (now (statements .exit)) (now (locals .exit)) (now (entries .exit))) (now (visits .exit)) ⌝ }
+    ensures { λ r. ⌜ Walks (λ ctx. patternMatchTupleLike (p .0) (lowered (now (image .entry)) (now (bindings .entry)) from count) (ellipsisAt (word? ellipsis) (lowered (now (image .entry)) (now (bindings .entry)) from count)) fields mode ctx current els place) counts current els (lent (now (blocks .entry)) (now (statements .entry)) (now (locals .entry)) (now (entries .entry))) (now (visits .entry)) r (lent (now (blocks .exit)) (now (statements .exit)) (now (locals .exit)) (now (entries .exit))) (now (visits .exit)) ⌝ }
 {
     let before = ellipsis_at(ellipsis, count);
     if count < before {
@@ -151,7 +145,6 @@ pub fn pattern_match_tuple_like(
         entries,
         visits,
         counts,
-        discr,
         mode,
         p,
         ArgumentRow::Fields,
@@ -163,9 +156,9 @@ pub fn pattern_match_tuple_like(
         place,
     ) {
         Lowered::Refused(e, at) => Lowered::Refused(e, at),
-        Lowered::Done(c1, d1, then, other) => {
+        Lowered::Done(c1, then, other) => {
             if count == before {
-                return Lowered::Done(c1, d1, then, other);
+                return Lowered::Done(c1, then, other);
             }
             pattern_match_adt(
                 image,
@@ -177,7 +170,6 @@ pub fn pattern_match_tuple_like(
                 entries,
                 visits,
                 c1,
-                d1,
                 mode,
                 p,
                 ArgumentRow::LastFields,
@@ -203,7 +195,6 @@ pub fn pattern_matching_variant(
     entries: &mut [u16],
     visits: &mut [u16],
     counts: Counts,
-    discr: DiscrTemp,
     mode: MatchingMode,
     p: PatId,
     v: u16,
@@ -214,7 +205,7 @@ pub fn pattern_matching_variant(
 ) -> Lowered
     requires { ⌜ Walkable (now image) tables (now bindings) (lent (now blocks) (now statements) (now locals) (now entries)) (now visits) counts current els place ⌝ }
     requires { ⌜ (p .0 < patternCount (now image)) × (v < variantCount (now image)) × ShapeThere (now image) (p .0) shape ⌝ }
-    ensures { λ r. ⌜ Walks (λ ctx. patternMatchingVariant (now (image .entry)) (p .0) v (shapeOf (now (image .entry)) (now (bindings .entry)) shape) mode ctx current els place) counts discr current els (lent (now (blocks .entry)) (now (statements .entry)) (now (locals .entry)) (now (entries .entry))) (now (visits .entry)) r (lent (now (blocks .exit)) (now (statements .exit)) (now (locals .exit)) (now (entries .exit))) (now (visits .exit)) ⌝ }
+    ensures { λ r. ⌜ Walks (λ ctx. patternMatchingVariant (now (image .entry)) (p .0) v (shapeOf (now (image .entry)) (now (bindings .entry)) shape) mode ctx current els place) counts current els (lent (now (blocks .entry)) (now (statements .entry)) (now (locals .entry)) (now (entries .entry))) (now (visits .entry)) r (lent (now (blocks .exit)) (now (statements .exit)) (now (locals .exit)) (now (entries .exit))) (now (visits .exit)) ⌝ }
 {
     let fields = variant_at(image, tables, v).count;
     match adt_at(image, tables, place_ty(image, tables, locals, place), v) {
@@ -229,7 +220,6 @@ pub fn pattern_matching_variant(
             entries,
             visits,
             counts,
-            discr,
             mode,
             p,
             shape,
@@ -246,7 +236,6 @@ pub fn pattern_matching_variant(
             locals,
             entries,
             counts,
-            discr,
             mode,
             p,
             v,
@@ -255,7 +244,7 @@ pub fn pattern_matching_variant(
             place,
         ) {
             Lowered::Refused(e, at) => Lowered::Refused(e, at),
-            Lowered::Done(c1, d1, then, other) => {
+            Lowered::Done(c1, then, other) => {
                 let chosen = project(place, ProjectionElem::Downcast(v));
                 if !chosen.ok {
                     return Lowered::Refused(MirLowerError::Limit, p);
@@ -270,7 +259,6 @@ pub fn pattern_matching_variant(
                     entries,
                     visits,
                     c1,
-                    d1,
                     mode,
                     p,
                     shape,

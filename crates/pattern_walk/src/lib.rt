@@ -14,7 +14,6 @@ use image::kinds::pat_kind;
 use image::kinds::path_kind;
 use image::rows::pat_at;
 use lower::merging::OptBlock;
-use lower::temps::DiscrTemp;
 use mir::BasicBlockId;
 use mir::Counts;
 use pattern_leaves::kinds::is_leaf;
@@ -60,7 +59,6 @@ pub fn pattern_match_inner(
     entries: &mut [u16],
     visits: &mut [u16],
     counts: Counts,
-    discr: DiscrTemp,
     mode: MatchingMode,
     p: PatId,
     current: BasicBlockId,
@@ -69,7 +67,7 @@ pub fn pattern_match_inner(
 ) -> Lowered
     requires { ⌜ Walkable (now image) tables (now bindings) (lent (now blocks) (now statements) (now locals) (now entries)) (now visits) counts current els place ⌝ }
     requires { ⌜ p .0 < patternCount (now image) ⌝ }
-    ensures { λ r. ⌜ Walks (λ ctx. patternMatchInner (now (image .entry)) (now (bindings .entry)) (tree (now (image .entry)) (p .0)) mode ctx current els place) counts discr current els (lent (now (blocks .entry)) (now (statements .entry)) (now (locals .entry)) (now (entries .entry))) (now (visits .entry)) r (lent (now (blocks .exit)) (now (statements .exit)) (now (locals .exit)) (now (entries .exit))) (now (visits .exit)) ⌝ }
+    ensures { λ r. ⌜ Walks (λ ctx. patternMatchInner (now (image .entry)) (now (bindings .entry)) (tree (now (image .entry)) (p .0)) mode ctx current els place) counts current els (lent (now (blocks .entry)) (now (statements .entry)) (now (locals .entry)) (now (entries .entry))) (now (visits .entry)) r (lent (now (blocks .exit)) (now (statements .exit)) (now (locals .exit)) (now (entries .exit))) (now (visits .exit)) ⌝ }
 {
     let entered = enter(image, tables, visits, mode, p, place);
     let q = entered.p;
@@ -88,7 +86,6 @@ pub fn pattern_match_inner(
             locals,
             entries,
             counts,
-            discr,
             mode,
             q,
             row,
@@ -114,7 +111,6 @@ pub fn pattern_match_inner(
                 entries,
                 visits,
                 counts,
-                discr,
                 mode,
                 q,
                 row.a,
@@ -136,7 +132,6 @@ pub fn pattern_match_inner(
             entries,
             visits,
             counts,
-            discr,
             mode,
             q,
             row.a,
@@ -155,7 +150,6 @@ pub fn pattern_match_inner(
             entries,
             visits,
             counts,
-            discr,
             mode,
             q,
             row,
@@ -173,7 +167,6 @@ pub fn pattern_match_inner(
             entries,
             visits,
             counts,
-            discr,
             mode,
             q,
             row,
@@ -202,7 +195,6 @@ pub fn pattern_match_inner(
                     entries,
                     visits,
                     counts,
-                    discr,
                     mode,
                     PatId(row.a),
                     current,
@@ -226,7 +218,6 @@ pub fn pattern_match_inner(
                 entries,
                 visits,
                 counts,
-                discr,
                 mode,
                 q,
                 v,
@@ -250,7 +241,6 @@ pub fn pattern_matching_variant_fields(
     entries: &mut [u16],
     visits: &mut [u16],
     counts: Counts,
-    discr: DiscrTemp,
     mode: MatchingMode,
     p: PatId,
     shape: AdtPatternShape,
@@ -261,10 +251,10 @@ pub fn pattern_matching_variant_fields(
 ) -> Lowered
     requires { ⌜ Walkable (now image) tables (now bindings) (lent (now blocks) (now statements) (now locals) (now entries)) (now visits) counts current els place ⌝ }
     requires { ⌜ (p .0 < patternCount (now image)) × ShapeThere (now image) (p .0) shape ⌝ }
-    ensures { λ r. ⌜ Walks (λ ctx. variantFields (shapeOf (now (image .entry)) (now (bindings .entry)) shape) (p .0) fields mode ctx current els place) counts discr current els (lent (now (blocks .entry)) (now (statements .entry)) (now (locals .entry)) (now (entries .entry))) (now (visits .entry)) r (lent (now (blocks .exit)) (now (statements .exit)) (now (locals .exit)) (now (entries .exit))) (now (visits .exit)) ⌝ }
+    ensures { λ r. ⌜ Walks (λ ctx. variantFields (shapeOf (now (image .entry)) (now (bindings .entry)) shape) (p .0) fields mode ctx current els place) counts current els (lent (now (blocks .entry)) (now (statements .entry)) (now (locals .entry)) (now (entries .entry))) (now (visits .entry)) r (lent (now (blocks .exit)) (now (statements .exit)) (now (locals .exit)) (now (entries .exit))) (now (visits .exit)) ⌝ }
 {
     match shape {
-        AdtPatternShape::Unit => Lowered::Done(counts, discr, current, els),
+        AdtPatternShape::Unit => Lowered::Done(counts, current, els),
         AdtPatternShape::Tuple(from, count, ellipsis) => pattern_match_tuple_like(
             image,
             tables,
@@ -275,7 +265,6 @@ pub fn pattern_matching_variant_fields(
             entries,
             visits,
             counts,
-            discr,
             mode,
             p,
             from,
@@ -300,7 +289,6 @@ pub fn pattern_matching_variant_fields(
                 entries,
                 visits,
                 counts,
-                discr,
                 mode,
                 p,
                 ArgumentRow::RecordFields,

@@ -8,7 +8,6 @@ use image::kinds::binding_mode;
 use image::rows::PatRow;
 use image::rows::list_at;
 use lower::merging::OptBlock;
-use lower::temps::DiscrTemp;
 use mir::BasicBlockId;
 use mir::Counts;
 use mir::blocks::NewBlock;
@@ -51,7 +50,6 @@ pub fn bound(
     entries: &mut [u16],
     visits: &mut [u16],
     counts: Counts,
-    discr: DiscrTemp,
     mode: MatchingMode,
     p: PatId,
     row: PatRow,
@@ -61,7 +59,7 @@ pub fn bound(
 ) -> Lowered
     requires { ⌜ Walkable (now image) tables (now bindings) (lent (now blocks) (now statements) (now locals) (now entries)) (now visits) counts current els place ⌝ }
     requires { ⌜ (p .0 < patternCount (now image)) × (row .a < bindingCount (now image)) × SubpatternBelow (row .b) (p .0) ⌝ }
-    ensures { λ r. ⌜ Walks (λ ctx. bindPattern (now (bindings .entry)) (p .0) (row .a) (bindingMode (row .c)) (lowering? (now (image .entry)) (now (bindings .entry)) (tree? (tree (now (image .entry))) (row .b))) mode ctx current els place) counts discr current els (lent (now (blocks .entry)) (now (statements .entry)) (now (locals .entry)) (now (entries .entry))) (now (visits .entry)) r (lent (now (blocks .exit)) (now (statements .exit)) (now (locals .exit)) (now (entries .exit))) (now (visits .exit)) ⌝ }
+    ensures { λ r. ⌜ Walks (λ ctx. bindPattern (now (bindings .entry)) (p .0) (row .a) (bindingMode (row .c)) (lowering? (now (image .entry)) (now (bindings .entry)) (tree? (tree (now (image .entry))) (row .b))) mode ctx current els place) counts current els (lent (now (blocks .entry)) (now (statements .entry)) (now (locals .entry)) (now (entries .entry))) (now (visits .entry)) r (lent (now (blocks .exit)) (now (statements .exit)) (now (locals .exit)) (now (entries .exit))) (now (visits .exit)) ⌝ }
 {
     let b = BindingId(row.a);
     let how = binding_mode(row.c);
@@ -71,7 +69,6 @@ pub fn bound(
             statements,
             entries,
             counts,
-            discr,
             mode,
             p,
             b,
@@ -91,7 +88,6 @@ pub fn bound(
         entries,
         visits,
         counts,
-        discr,
         mode,
         PatId(row.b),
         current,
@@ -99,12 +95,11 @@ pub fn bound(
         place,
     ) {
         Lowered::Refused(e, q) => Lowered::Refused(e, q),
-        Lowered::Done(c1, d1, then, other) => bind(
+        Lowered::Done(c1, then, other) => bind(
             bindings,
             statements,
             entries,
             c1,
-            d1,
             mode,
             p,
             b,
@@ -127,7 +122,6 @@ pub fn alt(
     entries: &mut [u16],
     visits: &mut [u16],
     counts: Counts,
-    discr: DiscrTemp,
     mode: MatchingMode,
     q: PatId,
     current: BasicBlockId,
@@ -135,7 +129,7 @@ pub fn alt(
 ) -> Lowered
     requires { ⌜ Walkable (now image) tables (now bindings) (lent (now blocks) (now statements) (now locals) (now entries)) (now visits) counts current OptBlock.None place ⌝ }
     requires { ⌜ q .0 < patternCount (now image) ⌝ }
-    ensures { λ r. ⌜ Walks (λ ctx. alternative (patternMatchInner (now (image .entry)) (now (bindings .entry)) (tree (now (image .entry)) (q .0))) mode ctx current place) counts discr current OptBlock.None (lent (now (blocks .entry)) (now (statements .entry)) (now (locals .entry)) (now (entries .entry))) (now (visits .entry)) r (lent (now (blocks .exit)) (now (statements .exit)) (now (locals .exit)) (now (entries .exit))) (now (visits .exit)) ⌝ }
+    ensures { λ r. ⌜ Walks (λ ctx. alternative (patternMatchInner (now (image .entry)) (now (bindings .entry)) (tree (now (image .entry)) (q .0))) mode ctx current place) counts current OptBlock.None (lent (now (blocks .entry)) (now (statements .entry)) (now (locals .entry)) (now (entries .entry))) (now (visits .entry)) r (lent (now (blocks .exit)) (now (statements .exit)) (now (locals .exit)) (now (entries .exit))) (now (visits .exit)) ⌝ }
 {
     match pattern_match_inner(
         image,
@@ -147,7 +141,6 @@ pub fn alt(
         entries,
         visits,
         counts,
-        discr,
         MatchingMode::Check,
         q,
         current,
@@ -155,13 +148,13 @@ pub fn alt(
         place,
     ) {
         Lowered::Refused(e, at) => Lowered::Refused(e, at),
-        Lowered::Done(c1, d1, then, other) => {
+        Lowered::Done(c1, then, other) => {
             if is_check(mode) {
-                return Lowered::Done(c1, d1, then, other);
+                return Lowered::Done(c1, then, other);
             }
             if nothing_to_do(image, tables, mode, q) {
                 visit(visits, q);
-                return Lowered::Done(c1, d1, then, other);
+                return Lowered::Done(c1, then, other);
             }
             let again = pattern_match_inner(
                 image,
@@ -173,7 +166,6 @@ pub fn alt(
                 entries,
                 visits,
                 c1,
-                d1,
                 mode,
                 q,
                 then,
@@ -197,7 +189,6 @@ pub fn alts(
     entries: &mut [u16],
     visits: &mut [u16],
     counts: Counts,
-    discr: DiscrTemp,
     mode: MatchingMode,
     p: PatId,
     from: u16,
@@ -208,13 +199,12 @@ pub fn alts(
 ) -> Lowered
     requires { ⌜ Walkable (now image) tables (now bindings) (lent (now blocks) (now statements) (now locals) (now entries)) (now visits) counts current els place ⌝ }
     requires { ⌜ (p .0 < patternCount (now image)) × ArgumentsThere ArgumentRow.Items (now image) (p .0) from 0 count ⌝ }
-    ensures { λ r. ⌜ Walks (λ ctx. orPattern (p .0) (lowered (now (image .entry)) (now (bindings .entry)) from count) mode ctx current els place) counts discr current els (lent (now (blocks .entry)) (now (statements .entry)) (now (locals .entry)) (now (entries .entry))) (now (visits .entry)) r (lent (now (blocks .exit)) (now (statements .exit)) (now (locals .exit)) (now (entries .exit))) (now (visits .exit)) ⌝ }
+    ensures { λ r. ⌜ Walks (λ ctx. orPattern (p .0) (lowered (now (image .entry)) (now (bindings .entry)) from count) mode ctx current els place) counts current els (lent (now (blocks .entry)) (now (statements .entry)) (now (locals .entry)) (now (entries .entry))) (now (visits .entry)) r (lent (now (blocks .exit)) (now (statements .exit)) (now (locals .exit)) (now (entries .exit))) (now (visits .exit)) ⌝ }
 {
     match new_basic_block(counts) {
         NewBlock::Full => Lowered::Refused(MirLowerError::Limit, p),
         NewBlock::Block(made, join) => {
             let mut c = made;
-            let mut d = discr;
             let mut here = current;
             let mut i = 0u16;
             while i < count {
@@ -229,7 +219,6 @@ pub fn alts(
                     entries,
                     visits,
                     c,
-                    d,
                     mode,
                     q,
                     here,
@@ -238,15 +227,14 @@ pub fn alts(
                     Lowered::Refused(e, at) => {
                         return Lowered::Refused(e, at);
                     }
-                    Lowered::Done(c1, d1, then, other) => {
+                    Lowered::Done(c1, then, other) => {
                         set_goto(blocks, then, join);
                         match other {
                             OptBlock::None => {
-                                return Lowered::Done(c1, d1, join, els);
+                                return Lowered::Done(c1, join, els);
                             }
                             OptBlock::Some(next) => {
                                 c = c1;
-                                d = d1;
                                 here = next;
                             }
                         }
@@ -270,7 +258,6 @@ pub fn slice(
     entries: &mut [u16],
     visits: &mut [u16],
     counts: Counts,
-    discr: DiscrTemp,
     mode: MatchingMode,
     p: PatId,
     row: PatRow,
@@ -280,7 +267,7 @@ pub fn slice(
 ) -> Lowered
     requires { ⌜ Walkable (now image) tables (now bindings) (lent (now blocks) (now statements) (now locals) (now entries)) (now visits) counts current els place ⌝ }
     requires { ⌜ (p .0 < patternCount (now image)) × (row .ty < typeCount (now image)) × SliceThere (now image) (p .0) (row .d) (row .a) (row .b) (row .c) ⌝ }
-    ensures { λ r. ⌜ Walks (λ ctx. sliceOn (tyOf (now (image .entry)) (row .ty) .shape) (now (image .entry)) (now (bindings .entry)) (p .0) (lowered (now (image .entry)) (now (bindings .entry)) (row .a) (row .b)) (restOf (tree? (tree (now (image .entry))) (row .d))) (lowered (now (image .entry)) (now (bindings .entry)) (row .a + row .b) (row .c)) mode ctx current els place) counts discr current els (lent (now (blocks .entry)) (now (statements .entry)) (now (locals .entry)) (now (entries .entry))) (now (visits .entry)) r (lent (now (blocks .exit)) (now (statements .exit)) (now (locals .exit)) (now (entries .exit))) (now (visits .exit)) ⌝ }
+    ensures { λ r. ⌜ Walks (λ ctx. sliceOn (tyOf (now (image .entry)) (row .ty) .shape) (now (image .entry)) (now (bindings .entry)) (p .0) (lowered (now (image .entry)) (now (bindings .entry)) (row .a) (row .b)) (restOf (tree? (tree (now (image .entry))) (row .d))) (lowered (now (image .entry)) (now (bindings .entry)) (row .a + row .b) (row .c)) mode ctx current els place) counts current els (lent (now (blocks .entry)) (now (statements .entry)) (now (locals .entry)) (now (entries .entry))) (now (visits .entry)) r (lent (now (blocks .exit)) (now (statements .exit)) (now (locals .exit)) (now (entries .exit))) (now (visits .exit)) ⌝ }
 {
     match slice_test(
         image,
@@ -290,7 +277,6 @@ pub fn slice(
         locals,
         entries,
         counts,
-        discr,
         mode,
         p,
         row.ty,
@@ -301,7 +287,7 @@ pub fn slice(
         place,
     ) {
         Lowered::Refused(e, at) => Lowered::Refused(e, at),
-        Lowered::Done(c1, d1, b1, e1) => match pattern_match_adt(
+        Lowered::Done(c1, b1, e1) => match pattern_match_adt(
             image,
             tables,
             bindings,
@@ -311,7 +297,6 @@ pub fn slice(
             entries,
             visits,
             c1,
-            d1,
             mode,
             p,
             ArgumentRow::Items,
@@ -323,14 +308,13 @@ pub fn slice(
             place,
         ) {
             Lowered::Refused(e, at) => Lowered::Refused(e, at),
-            Lowered::Done(c2, d2, b2, e2) => match rest_bound(
+            Lowered::Done(c2, b2, e2) => match rest_bound(
                 image,
                 tables,
                 bindings,
                 statements,
                 entries,
                 c2,
-                d2,
                 mode,
                 p,
                 row.d,
@@ -341,9 +325,9 @@ pub fn slice(
                 place,
             ) {
                 Lowered::Refused(e, at) => Lowered::Refused(e, at),
-                Lowered::Done(c3, d3, b3, e3) => {
+                Lowered::Done(c3, b3, e3) => {
                     if row.c == 0 {
-                        return Lowered::Done(c3, d3, b3, e3);
+                        return Lowered::Done(c3, b3, e3);
                     }
                     pattern_match_adt(
                         image,
@@ -355,7 +339,6 @@ pub fn slice(
                         entries,
                         visits,
                         c3,
-                        d3,
                         mode,
                         p,
                         ArgumentRow::LastItems,

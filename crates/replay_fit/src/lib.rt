@@ -3,7 +3,6 @@
 use fit::FitCall;
 use fit::fit;
 use image::PatId;
-use lower::temps::DiscrTemp;
 use place::LocalId;
 use program_io::write_output;
 use stored_records::Words;

@@ -18,7 +18,6 @@ use Rattle.mir.specs.Blocks.{termRow}
 use Rattle.mir.specs.Rvalues.{liveRow}
 use Rattle.state.specs.State.{State}
 use Rattle.state.specs.Steps.{newBlock, setTerminator, pushStatement, newLocal, pushEntry, within, tryBlock, tryStatement, tryLocal, tryEntry, nextLocal}
-use Rattle.lower.specs.declared.temps.DiscrTemp.{DiscrTemp}
 use Rattle.lower.specs.declared.merging.OptBlock.{OptBlock}
 use Rattle.lower.specs.Temps.{isSlice, temp, pushStorageLiveForLocal, discrTempPlace}
 use Rattle.pattern_matching.specs.Walking.{Ctx, elseState}
@@ -216,7 +215,7 @@ onceMore F E els d local = discrMade E d
 onceMore F E els d entry = discrMade E d
 
 -- the local that all tests of enums share
-pub spend-discr : {A : Type 0} {base : Ctx} {T : Table → ℕ} (image : List ℕ) (st : State) (m : Table → ℕ) (d : DiscrTemp) (b : BasicBlockId) →
+pub spend-discr : {A : Type 0} {base : Ctx} {T : Table → ℕ} (image : List ℕ) (st : State) (m : Table → ℕ) (b : BasicBlockId) →
     Has A base T st (λ w. make 0 (discrMade true d) (discrMade true d) (discrMade true d) w + m w) → Sure A base (λ st′. Has A base T st′ m) (discrTempPlace image st d b)
 unfolding discrTempPlace
 spend-discr {A = A} {base = base} {T = T} image st m (DiscrTemp.Some l) b h =

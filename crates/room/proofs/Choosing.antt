@@ -102,7 +102,7 @@ module _ {A : Type 0} {base : Ctx} {image : List ℕ} {l : Lowering} {fails : Pl
   -- the test of an alternative
   sound-tried : (c : Ctx) (current : BasicBlockId) (place : Place) (n : Table → ℕ) → At image base place ty → (A → place .len + deep ty ≤ 16) → (someEnum (rs (fails ty)) ≡ true → E ≡ true) →
       Fares A base T F E (λ w. total (tested w) (rs (fails ty)) + (n w + m w)) c els →
-      Sound A base (λ r. Has A base T (r .ctx .state) (λ w. onceMore (fails ty) E (r .else) (r .ctx .discr) w + (n w + kept w)) × Settled (fails ty) (r .else))
+      Sound A base (λ r. Has A base T (r .ctx .state) (λ w. onceMore (fails ty) E (r .else) w + (n w + kept w)) × Settled (fails ty) (r .else))
       (l MatchingMode.Check c current OptBlock.None place)
   sound-tried c current place n at len enum h =
       let flag = flag-tested (pays .headed ty (k + 1)) (fails ty) in
@@ -268,14 +268,14 @@ spends-or {A = A} {base = base} {fs = fs} {rs = rs} ty h e =
       above = λ k. (le-refl _, above-alternatives ty k e);
       goes = λ pass k T F E m c current els place at len f enum room.
           sound-step (h .number) (tryBlock (c .state)) _
-          (spend-block (c .state) (λ w. onceMore F E els (c .discr) w + (total (spent pass k w) (throughAlternatives ty k fs rs) + m w)) (joined pass k T F E m c els room)) (λ st g.
+          (spend-block (c .state) (λ w. onceMore F E els w + (total (spent pass k w) (throughAlternatives ty k fs rs) + m w)) (joined pass k T F E m c els room)) (λ st g.
           sound-next (alternatives (h .number) _ (modeOf pass) (withState c st) (nextBlock (c .state)) current place) _
           (sound-alternatives (h .number) ty k T F E m els pass (nextBlock (c .state)) place at e (withState c st) current len enum g) (λ a g′.
           sound-as (λ r z. (z, g′ .1)) (sound-left (h .number) F E m els pass (nextBlock (c .state)) (allAlternatives ty fs) a f (g′ .0))));
     }
   where
     joined : (pass : Pass) (k : ℕ) (T : Table → ℕ) (F E : Bool) (m : Table → ℕ) (c : Ctx) (els : OptBlock) →
-        Has A base T (c .state) (λ w. onceMore F E els (c .discr) w + (total (spent pass k w) (anOr h k false ∷ throughAlternatives ty k fs rs) + m w)) →
-        Has A base T (c .state) (λ w. make 1 0 0 0 w + (onceMore F E els (c .discr) w + (total (spent pass k w) (throughAlternatives ty k fs rs) + m w)))
+        Has A base T (c .state) (λ w. onceMore F E els w + (total (spent pass k w) (anOr h k false ∷ throughAlternatives ty k fs rs) + m w)) →
+        Has A base T (c .state) (λ w. make 1 0 0 0 w + (onceMore F E els w + (total (spent pass k w) (throughAlternatives ty k fs rs) + m w)))
     joined checks k T F E m c els room = has-by room _ (omega arith) (omega arith) (omega arith) (omega arith)
     joined binds k T F E m c els room = has-by room _ (omega arith) (omega arith) (omega arith) (omega arith)

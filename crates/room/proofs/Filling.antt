@@ -2,7 +2,7 @@
 use mathlib.Core.Path.{_≡_, refl, sym, ap, subst, _∙_}
 use mathlib.Core.Bool.{Bool, true, false, cond, _||_}
 use mathlib.Core.List.{List, [], _∷_, _++_, map}
-use Prim.Native.Nat.{ℕ, suc, _+_, _≤_, max}
+use Prim.Native.Nat.{ℕ, suc, _+_, _-_, _≤_, max}
 use native.Mathlib.Nat.{le-refl, le-trans, le-antisymm, le-max-left, le-max-right, max-le, max-zero, zero-max}
 use native.Mathlib.Omega.{arith}
 use lib.ListN.{length}
@@ -20,7 +20,7 @@ use Rattle.lower.specs.declared.merging.OptBlock.{OptBlock}
 use Rattle.pattern_matching.specs.Walking.{Ctx, Lowering, out, project, inCheck}
 use Rattle.pattern_matching.specs.Tests.{patternMatchBinding}
 use Rattle.pattern_matching.specs.Variants.{patternMatchAdt}
-use Rattle.pattern_matching.specs.Slices.{RestOf, lengthTest, restBound, sliceItems, sliceOn}
+use Rattle.pattern_matching.specs.Slices.{RestOf, lengthTest, restBound, sliceItems, sliceOn, suffixItems}
 use Rattle.pattern_matching.specs.Patterns.{bindPattern}
 use Rattle.counting.specs.Reaching.{Argument, zip, isSliceShape, items, someArgument, Reached, Reaching, testing, binding, lengthStatements, restBinds, throughArguments}
 use Rattle.counting.specs.Counting.{total, someEnum}
@@ -106,12 +106,12 @@ each-count (one-more c e) = let (a, b, d) = each-count e in (ap suc a, ap suc b,
 
 -- items of one end
 spends-items : {A : Type 0} {base : Ctx} {image : List ℕ} {ls : List Lowering} {fs : List (PlaceTy → Bool)} {rs : List Reaching} {ds : List (PlaceTy → ℕ)} (p : ℕ) (ty : PlaceTy)
-    (elem : ℕ → ProjectionElem) → ((i : ℕ) → Fits (elem i)) → Each A base image ls fs rs ds → Row A base image ty (patternMatchAdt p (map elem (upFrom 0 (length ls))) ls)
-    (zip (map elem (upFrom 0 (length fs))) fs) (zip (map elem (upFrom 0 (length ds))) ds) (zip (map elem (upFrom 0 (length rs))) rs)
+    (elem : ℕ → ℕ → ProjectionElem) → ((n i : ℕ) → Fits (elem n i)) → Each A base image ls fs rs ds → Row A base image ty (patternMatchAdt p (map (elem (length ls)) (upFrom 0 (length ls))) ls)
+    (zip (map (elem (length fs)) (upFrom 0 (length fs))) fs) (zip (map (elem (length ds)) (upFrom 0 (length ds))) ds) (zip (map (elem (length rs)) (upFrom 0 (length rs))) rs)
 spends-items {image = image} {ls = ls} {fs = fs} {rs = rs} {ds = ds} p ty elem fit e =
     let (a, b, d) = each-count e in
-    spends-as (ap (λ (n : ℕ). someArgument image ty (zip (map elem (upFrom 0 n)) fs)) a) (ap (λ (n : ℕ). mostOfArguments image ty (zip (map elem (upFrom 0 n)) ds)) d)
-    (λ k. ap (λ (n : ℕ). throughArguments image ty k (zip (map elem (upFrom 0 n)) rs)) b) (spends-arguments p (map elem (upFrom 0 (length ls))) ty e (fit-all elem fit (upFrom 0 (length ls))))
+    spends-as (ap (λ (n : ℕ). someArgument image ty (zip (map (elem n) (upFrom 0 n)) fs)) a) (ap (λ (n : ℕ). mostOfArguments image ty (zip (map (elem n) (upFrom 0 n)) ds)) d)
+    (λ k. ap (λ (n : ℕ). throughArguments image ty k (zip (map (elem n) (upFrom 0 n)) rs)) b) (spends-arguments p (map (elem (length ls)) (upFrom 0 (length ls))) ty e (fit-all (elem (length ls)) (fit (length ls)) (upFrom 0 (length ls))))
 
 -- what a Slice takes is what its test takes and what its rest does
 slice-split : (h : Head) (t s n : ℕ) (pass : Pass) (k : ℕ) (w : Table) →
@@ -147,7 +147,7 @@ abbrev prefix : {X : Type 0} → List X → List (Argument X)
 prefix xs = zip (map (λ i. ProjectionElem.Index i) (upFrom 0 (length xs))) xs
 
 abbrev suffix : {X : Type 0} → List X → List (Argument X)
-suffix xs = zip (map (λ i. ProjectionElem.IndexFromEnd i) (upFrom 0 (length xs))) xs
+suffix xs = zip (suffixItems (length xs)) xs
 
 module _ {A : Type 0} {base : Ctx} {image : List ℕ} {ls ls′ : List Lowering} {fs fs′ : List (PlaceTy → Bool)} {rs rs′ : List Reaching} {ds ds′ : List (PlaceTy → ℕ)} (front : Each A base image ls fs rs ds)
     (back : Each A base image ls′ fs′ rs′ ds′) (ty : PlaceTy) (h : Head) (bindings : List ℕ) (rest : RestOf) where
@@ -167,8 +167,8 @@ module _ {A : Type 0} {base : Ctx} {image : List ℕ} {ls ls′ : List Lowering}
       (λ k. first k ++ (binding h k false 0 0 (restBinds rest) ∷ last k))
   unfolding sliceItems
   spends-inner =
-      let g = spends-both _ _ (spends-items (h .number) ty (λ i. ProjectionElem.Index i) (λ i. tt) front)
-      (spends-both _ _ (spends-rest ty h bindings (length ls) (length ls′) rest) (spends-items (h .number) ty (λ i. ProjectionElem.IndexFromEnd i) (λ i. tt) back)) in
+      let g = spends-both _ _ (spends-items (h .number) ty (λ n i. ProjectionElem.Index i) (λ n i. tt) front)
+      (spends-both _ _ (spends-rest ty h bindings (length ls) (length ls′) rest) (spends-items (h .number) ty (λ n i. ProjectionElem.IndexFromEnd (n - 1 - i)) (λ n i. tt) back)) in
       record { above = g .above; goes = g .goes }
 
   -- with what the length's test takes
@@ -184,8 +184,8 @@ module _ {A : Type 0} {base : Ctx} {image : List ℕ} {ls ls′ : List Lowering}
       (same ∙ max-turned (mostOfArguments image ty (prefix ds)) R (mostOfArguments image ty (suffix ds′)) ∙ ap (max R) (most-append image ty (prefix ds) (suffix ds′)))
       (λ k. (
         le-refl _,
-        subst (AllAbove k) (sym (through k)) (above-append k (first k) (last k) (spends-items (h .number) ty (λ i. ProjectionElem.Index i) (λ i. tt) front .above k)
-            (spends-items (h .number) ty (λ i. ProjectionElem.IndexFromEnd i) (λ i. tt) back .above k)),
+        subst (AllAbove k) (sym (through k)) (above-append k (first k) (last k) (spends-items (h .number) ty (λ n i. ProjectionElem.Index i) (λ n i. tt) front .above k)
+            (spends-items (h .number) ty (λ n i. ProjectionElem.IndexFromEnd (n - 1 - i)) (λ n i. tt) back .above k)),
       ))
       (λ k e. ap someEnum (through k) ∙ some-append (first k) (last k) ∙ sym (some-append (first k) (binding h k false 0 0 (restBinds rest) ∷ last k)) ∙ e)
       (λ pass k w.

@@ -19,7 +19,7 @@ use Rattle.lower.specs.declared.merging.OptBlock.{OptBlock}
 use Rattle.pattern_matching.specs.Walking.{Ctx}
 use Rattle.pattern_matching.specs.Tests.{litBy, literal, constantPath, rangeEnd?, localPath}
 use Rattle.pattern_matching.specs.Variants.{shapeOf, AdtPatternShape, patternMatchingVariant, variantPattern}
-use Rattle.pattern_matching.specs.Patterns.{rangePattern, pathPattern}
+use Rattle.pattern_matching.specs.Patterns.{endOp, rangePattern, pathPattern}
 use Rattle.counting.specs.Reaching.{Argument, isEnum, downcast, ofVariant, someArgument, endCount, pathTests, positive, Reached, Reaching, testing, naming, pathReached, throughArguments}
 use Rattle.counting.specs.Counting.{one, total, someEnum}
 use Rattle.counting.proofs.Passing.{Pass, checks, binds, modeOf, inChecks}
@@ -56,16 +56,16 @@ module _ {A : Type 0} {base : Ctx} {image : List ℕ} (ty : PlaceTy) (h : Head) 
   spends-lit OperandKind.Unknown o = let g = spends-refused MirLowerError.NotSupported (h .number) tt (spends-literal o .above) in record { above = g .above; goes = g .goes }
 
   -- a Range
-  pub spends-range : (start end : Option Operand) → Spends A base image ty (rangePattern image (h .number) (h .ty) start end) (positive (endCount start + endCount end)) 0
+  pub spends-range : (start end : Option Operand) (halfOpen : Bool) → Spends A base image ty (rangePattern image (h .number) (h .ty) start end halfOpen) (positive (endCount start + endCount end)) 0
       (λ k. testing h k false (endCount start + endCount end) (endCount start + endCount end + (endCount start + endCount end)) ∷ [])
   unfolding rangePattern total
-  spends-range start end =
+  spends-range start end halfOpen =
       let g = spends-test {A = A} {base = base} {image = image} {ty = ty} (positive (endCount start + endCount end)) x _
       (idle-testing h (endCount start + endCount end) (endCount start + endCount end + (endCount start + endCount end))) (λ k T F E m c current els place f enum room.
       sound-next (rangeEnd? image (h .number) (h .ty) BinOp.Le start c current els place) _
       (sound-end image (h .number) E (λ w. make (endCount end) (endCount end + endCount end) (endCount end) (endCount end) w + m w) c F (h .ty) BinOp.Le start current els place
       (λ e. f (some-first start end e)) (split start end k T F E m c els room)) (λ r room′.
-      sound-end image (h .number) E m (r .ctx) F (h .ty) BinOp.Ge end (r .then) (r .else) place (λ e. f (some-second start end e)) room′)) in
+      sound-end image (h .number) E m (r .ctx) F (h .ty) (endOp halfOpen) end (r .then) (r .else) place (λ e. f (some-second start end e)) room′)) in
       record { above = g .above; goes = g .goes }
     where
       x : ℕ → Reached

@@ -15,7 +15,6 @@ use Rattle.refusals.specs.Refusals.{numberOf}
 use Rattle.place.specs.declared.Place.{Place}
 use Rattle.place.specs.declared.place_ty.PlaceTy.{PlaceTy}
 use Rattle.mir.specs.declared.BasicBlockId.{BasicBlockId}
-use Rattle.lower.specs.declared.temps.DiscrTemp.{DiscrTemp}
 use Rattle.lower.specs.declared.merging.OptBlock.{OptBlock}
 use Rattle.pattern_matching.specs.declared.MatchingMode.{MatchingMode}
 use Rattle.pattern_matching.specs.Walking.{Ctx, Out, Walk, ok, refused}
@@ -89,7 +88,7 @@ module _ (image bindings : List ℕ) (root : Pat) (ctx : Ctx) (current : BasicBl
 
   -- how much there is in each table behind both passes
   abbrev inTheEnd : Table → ℕ
-  inTheEnd w = held w (ctx .state) + (onceMore (canFail image root ty) (someEnum rs) els (ctx .discr) w + (total (spent checks 0 w) rs + (total (spent binds 0 w) rs + 0)))
+  inTheEnd w = held w (ctx .state) + (onceMore (canFail image root ty) (someEnum rs) els w + (total (spent checks 0 w) rs + (total (spent binds 0 w) rs + 0)))
 
   -- there is room for that
   room-for-both : (A : Type 0) → (A → Room image root ctx els place) → A → (w : Table) → inTheEnd w ≤ limit w
@@ -115,7 +114,7 @@ module _ (image bindings : List ℕ) (root : Pat) (ctx : Ctx) (current : BasicBl
   unfolding newLocals newEntries longestPlace
   made r accepted =
       let h = told ⊥ (λ never. absurd never) .at r accepted in
-      let shared = made-once (someEnum rs) (ctx .discr) (r .ctx .discr) (stepped image bindings root ctx current els place r rooted whole accepted .discr) in
+      let shared = made-once (someEnum rs) in
       record {
         locals = let x = h .0 .sum local in let y = both-passes local rs in omega (arith, x, y, shared);
         entries = let x = h .0 .sum entry in let y = both-passes entry rs in omega (arith, x, y, shared);
@@ -133,13 +132,13 @@ module _ (image bindings : List ℕ) (root : Pat) (ctx : Ctx) (current : BasicBl
       B = length (ctx .state .blocks) + newBlocks image root ty els
 
       S : ℕ
-      S = length (ctx .state .statements) + newStatements image root ty (ctx .discr)
+      S = length (ctx .state .statements) + newStatements image root ty
 
       L : ℕ
-      L = length (ctx .state .locals) + newLocals image root ty (ctx .discr)
+      L = length (ctx .state .locals) + newLocals image root ty
 
       N : ℕ
-      N = length (ctx .state .entries) + newEntries image root ty (ctx .discr)
+      N = length (ctx .state .entries) + newEntries image root ty
 
       P : ℕ
       P = longestPlace image root ty (place .len)
@@ -156,7 +155,7 @@ module _ (image bindings : List ℕ) (root : Pat) (ctx : Ctx) (current : BasicBl
 -- The theorem: a pattern that fits, with room and a scope open, is accepted.
 pub fit-accepted : (image bindings : List ℕ) (pat : Pat) (ctx : Ctx) (current : BasicBlockId) (els : OptBlock) (place : Place) (t : ℕ) → valid image ≡ true → t < typeCount image →
     placeTy image (ctx .state) place ≡ PlaceTy.Ty t → place .local .0 < length (ctx .state .locals) → length (place .elems) ≡ 16 →
-    fits image bindings (place .local .0) (ctx .discr) t pat ≡ true → Room image pat ctx els place → ScopeOpen ctx → (r : Out) × (patternMatch image bindings pat ctx current els place ≡ ok r)
+    fits image bindings (place .local .0) t pat ≡ true → Room image pat ctx els place → ScopeOpen ctx → (r : Out) × (patternMatch image bindings pat ctx current els place ≡ ok r)
 unfolding numberOf
 fit-accepted image bindings pat ctx current els place t v there placed rooted whole fit room scope = by (patternMatch image bindings pat ctx current els place) refl
   where

@@ -136,11 +136,11 @@ in-checks binds a b f e = e
 
 -- a context from which there is room for so much more, and for an else and a shared local
 abbrev pub Fares : Type 0 → Ctx → (Table → ℕ) → Bool → Bool → (Table → ℕ) → Ctx → OptBlock → Type 0
-Fares A base T F E m c els = Has A base T (c .state) (λ w. onceMore F E els (c .discr) w + m w)
+Fares A base T F E m c els = Has A base T (c .state) (λ w. onceMore F E els w + m w)
 
 -- so it is where a walk leads
 abbrev pub Leaves : Type 0 → Ctx → (Table → ℕ) → Bool → Bool → (Table → ℕ) → Out → Type 0
-Leaves A base T F E m r = Has A base T (r .ctx .state) (λ w. onceMore F E (r .else) (r .ctx .discr) w + m w)
+Leaves A base T F E m r = Has A base T (r .ctx .state) (λ w. onceMore F E (r .else) w + m w)
 
 -- a place of the type ty, as there are places in the body that a walk starts from
 pub record At (image : List ℕ) (base : Ctx) (place : Place) (ty : PlaceTy) : Type 0 where

@@ -21,7 +21,6 @@ use Rattle.mir.specs.declared.rvalues.Left.{Left}
 use Rattle.state.specs.State.{State}
 use Rattle.state.specs.Steps.{tryBlock, tryStatement}
 use Rattle.literals.specs.Literals.{integerConstant, literalBy, lowerLiteralToOperand, literalOrConstBy, lowerLiteralOrConstToOperand}
-use Rattle.lower.specs.declared.temps.DiscrTemp.{DiscrTemp}
 use Rattle.lower.specs.declared.merging.OptBlock.{OptBlock}
 use Rattle.lower.specs.Temps.{temp, bindingLocal, pushStorageLiveForLocal, discrTempPlace}
 use Rattle.pattern_matching.specs.Walking.{Ctx, elseState, elseBlock}
@@ -107,17 +106,17 @@ sure-end {A = A} {base = base} image t o = by (o .kind)
 
 module _ {A : Type 0} {base : Ctx} {T : Table → ℕ} (image : List ℕ) (p : ℕ) (E : Bool) (m : Table → ℕ) (c : Ctx) where
   -- a test's end
-  tested-end : (F : Bool) (st : State) (els : BasicBlockId) → Has A base T st (λ w. shared E (c .discr) w + m w) → Has A base T st (λ w. onceMore F E (OptBlock.Some els) (c .discr) w + m w)
+  tested-end : (F : Bool) (st : State) (els : BasicBlockId) → Has A base T st (λ w. shared E w + m w) → Has A base T st (λ w. onceMore F E (OptBlock.Some els) w + m w)
   tested-end F st els h = has-by h _ (omega arith) (omega arith) (omega arith) (omega arith)
 
   -- an operator's test
-  sound-compare : (F : Bool) (op : BinOp) (left : Left) (place : Place) (st : State) (current then els : BasicBlockId) → Has A base T st (λ w. make 0 2 1 1 w + (shared E (c .discr) w + m w)) →
+  sound-compare : (F : Bool) (op : BinOp) (left : Left) (place : Place) (st : State) (current then els : BasicBlockId) → Has A base T st (λ w. make 0 2 1 1 w + (shared E w + m w)) →
       Sound A base (Leaves A base T F E m) (compare image p op left place c st current then els)
   unfolding compare
   sound-compare F op left place st current then els h =
       sound-step p (temp image st boolWord current) _
-      (spend-temp image st (λ w. make 0 1 0 0 w + (shared E (c .discr) w + m w)) boolWord current (has-by h _ (omega arith) (omega arith) (omega arith) (omega arith))) (λ st₁ h₁.
-      sound-step p (tryStatement st₁ _) _ (spend-statement st₁ (λ w. shared E (c .discr) w + m w) _ h₁) (λ st₂ h₂.
+      (spend-temp image st (λ w. make 0 1 0 0 w + (shared E w + m w)) boolWord current (has-by h _ (omega arith) (omega arith) (omega arith) (omega arith))) (λ st₁ h₁.
+      sound-step p (tryStatement st₁ _) _ (spend-statement st₁ (λ w. shared E w + m w) _ h₁) (λ st₂ h₂.
       sound-ok (Leaves A base T F E m) _ (has-terminator st₂ _ current _ (tested-end F st₂ els h₂))))
 
   -- a constant's test
@@ -126,7 +125,7 @@ module _ {A : Type 0} {base : Ctx} {T : Table → ℕ} (image : List ℕ) (p : �
   unfolding patternMatchConst
   sound-const false k current els place e h = absurd (false≢true e)
   sound-const true k current els place e h =
-      let rest : Table → ℕ = λ w. make 0 2 1 1 w + (shared E (c .discr) w + m w) in
+      let rest : Table → ℕ = λ w. make 0 2 1 1 w + (shared E w + m w) in
       sound-step p (tryBlock (c .state)) _
       (spend-block (c .state) (λ w. make (elseMade true els) 0 0 0 w + rest w) (has-by h _ (omega arith) (omega arith) (omega arith) (omega arith))) (λ st₁ h₁.
       sound-step p (elseState st₁ els) _ (spend-else st₁ rest els h₁) (λ st₂ h₂.
@@ -143,7 +142,7 @@ module _ {A : Type 0} {base : Ctx} {T : Table → ℕ} (image : List ℕ) (p : �
       by : (F : Bool) → F ≡ true → Fares A base T F E (λ w. make 1 (1 + 1) 1 1 w + m w) c els → Sound A base (Leaves A base T F E m) (rangeEnd image p t op o c current els place)
       by false e h = absurd (false≢true e)
       by true e h =
-          let rest : Table → ℕ = λ w. make 0 2 1 1 w + (shared E (c .discr) w + m w) in
+          let rest : Table → ℕ = λ w. make 0 2 1 1 w + (shared E w + m w) in
           sound-step p (lowerLiteralOrConstToOperand image t o) _ (sure-end image t o) (λ k _.
           sound-step p (elseState (c .state) els) _
           (spend-else (c .state) (λ w. make 1 0 0 0 w + rest w) els (has-by h _ (omega arith) (omega arith) (omega arith) (omega arith))) (λ st₁ h₁.
@@ -156,7 +155,7 @@ module _ {A : Type 0} {base : Ctx} {T : Table → ℕ} (image : List ℕ) (p : �
   unfolding constantPath
   sound-constant false t o current els place e h = absurd (false≢true e)
   sound-constant true t o current els place e h =
-      let r₅ : Table → ℕ = λ w. make (elseMade true els) 0 0 0 w + (shared E (c .discr) w + m w) in
+      let r₅ : Table → ℕ = λ w. make (elseMade true els) 0 0 0 w + (shared E w + m w) in
       let r₄ : Table → ℕ = λ w. make 1 0 0 0 w + r₅ w in
       let r₃ : Table → ℕ = λ w. make 0 1 0 0 w + r₄ w in
       let r₂ : Table → ℕ = λ w. make 0 1 1 1 w + r₃ w in
@@ -166,11 +165,11 @@ module _ {A : Type 0} {base : Ctx} {T : Table → ℕ} (image : List ℕ) (p : �
       sound-step p (temp image st₂ boolWord current) _ (spend-temp image st₂ r₃ boolWord current h₂) (λ st₃ h₃.
       sound-step p (tryStatement st₃ _) _ (spend-statement st₃ r₄ _ h₃) (λ st₄ h₄.
       sound-step p (tryBlock st₄) _ (spend-block st₄ r₅ h₄) (λ st₅ h₅.
-      sound-step p (elseState st₅ els) _ (spend-else st₅ (λ w. shared E (c .discr) w + m w) els h₅) (λ st₆ h₆.
+      sound-step p (elseState st₅ els) _ (spend-else st₅ (λ w. shared E w + m w) els h₅) (λ st₆ h₆.
       sound-ok (Leaves A base T true E m) _ (has-terminator st₆ _ current _ (tested-end true st₆ (elseBlock st₅ els) h₆))))))))
 
   -- the end of a length's test
-  sound-compared : (rest : RestOf) (n : ℕ) (st₀ st : State) (current then els : BasicBlockId) → Has A base T st (λ w. after rest w + (shared E (c .discr) w + m w)) →
+  sound-compared : (rest : RestOf) (n : ℕ) (st₀ st : State) (current then els : BasicBlockId) → Has A base T st (λ w. after rest w + (shared E w + m w)) →
       Sound A base (Leaves A base T true E m) (lengthCompared rest image p n c st₀ st current then els)
   unfolding lengthCompared
   sound-compared RestOf.none n st₀ st current then els h =
@@ -186,7 +185,7 @@ module _ {A : Type 0} {base : Ctx} {T : Table → ℕ} (image : List ℕ) (p : �
   unfolding lengthTest
   sound-length false rest n current els place e h = absurd (false≢true e)
   sound-length true rest n current els place e h =
-      let r₄ : Table → ℕ = λ w. after rest w + (shared E (c .discr) w + m w) in
+      let r₄ : Table → ℕ = λ w. after rest w + (shared E w + m w) in
       let r₃ : Table → ℕ = λ w. make 1 0 0 0 w + r₄ w in
       let r₂ : Table → ℕ = λ w. make (elseMade true els) 0 0 0 w + r₃ w in
       sound-step p (temp image (c .state) usizeWord current) _ (spend-temp image (c .state) (λ w. make 0 1 0 0 w + r₂ w) usizeWord current (split rest h)) (λ st₁ h₁.
@@ -196,7 +195,7 @@ module _ {A : Type 0} {base : Ctx} {T : Table → ℕ} (image : List ℕ) (p : �
       sound-compared rest n (c .state) st₄ current _ (elseBlock st₂ els) h₄))))
     where
       split : (rest : RestOf) → Fares A base T true E (λ w. make 1 (lengthStatements rest) (lengthStatements rest / 2) (lengthStatements rest / 2) w + m w) c els →
-          Has A base T (c .state) (λ w. make 0 1 1 1 w + (make 0 1 0 0 w + (make (elseMade true els) 0 0 0 w + (make 1 0 0 0 w + (after rest w + (shared E (c .discr) w + m w))))))
+          Has A base T (c .state) (λ w. make 0 1 1 1 w + (make 0 1 0 0 w + (make (elseMade true els) 0 0 0 w + (make 1 0 0 0 w + (after rest w + (shared E w + m w))))))
       split RestOf.none h = unfold lengthStatements in has-by h _ (omega arith) (omega arith) (omega arith) (omega arith)
       split (RestOf.binds q b how) h = unfold lengthStatements in has-by h _ (omega arith) (omega arith) (omega arith) (omega arith)
       split RestOf.ignores h = unfold lengthStatements in has-by h _ (omega arith) (omega arith) (omega arith) (omega arith)
@@ -209,8 +208,8 @@ module _ {A : Type 0} {base : Ctx} {T : Table → ℕ} (image : List ℕ) (p : �
   sound-discriminant true v current els place e e′ h =
       let r₃ : Table → ℕ = λ w. make (elseMade true els) 0 0 0 w + m w in
       let r₂ : Table → ℕ = λ w. make 1 0 0 0 w + r₃ w in
-      sound-step p (discrTempPlace image (c .state) (c .discr) current) _
-      (spend-discr image (c .state) (λ w. make 0 1 0 0 w + r₂ w) (c .discr) current (has-by (rw e′ at h) _ (omega arith) (omega arith) (omega arith) (omega arith))) (λ st₁ h₁.
+      sound-step p (discrTempPlace image (c .state) current) _
+      (spend-discr image (c .state) (λ w. make 0 1 0 0 w + r₂ w) current (has-by (rw e′ at h) _ (omega arith) (omega arith) (omega arith) (omega arith))) (λ st₁ h₁.
       sound-step p (tryStatement st₁ _) _ (spend-statement st₁ r₂ _ h₁) (λ st₂ h₂.
       sound-step p (tryBlock st₂) _ (spend-block st₂ r₃ h₂) (λ st₃ h₃.
       sound-step p (elseState st₃ els) _ (spend-else st₃ m els h₃) (λ st₄ h₄.
@@ -221,7 +220,7 @@ module _ {A : Type 0} {base : Ctx} {T : Table → ℕ} (image : List ℕ) (p : �
       Sound A base (Leaves A base T F E m) (patternMatchBinding bindings p q b how c current els place)
   unfolding patternMatchBinding
   sound-binding F bindings q b how current els place h =
-      let rest : Table → ℕ = λ w. onceMore F E els (c .discr) w + m w in
+      let rest : Table → ℕ = λ w. onceMore F E els w + m w in
       sound-step q (bindingLocal bindings b) _ (sure-local bindings b) (λ l _.
       sound-step p (pushStorageLiveForLocal (c .state) l current) _
       (spend-live (c .state) (λ w. make 0 1 0 0 w + rest w) l current (has-by h _ (omega arith) (omega arith) (omega arith) (omega arith))) (λ st₁ h₁.

@@ -107,7 +107,7 @@ module _ (A : Type 0) (base : Ctx) (image bindings : List ℕ) where
     spends-pattern (Pat.Tuple h args ellipsis) ty = spends-entered (h .number) (h .derefs) (spends-tuple _ h ellipsis (each args))
     spends-pattern (Pat.Or h alts) ty = spends-entered (h .number) (h .derefs) (spends-or _ h (each alts))
     spends-pattern (Pat.Record h fields args v) ty = spends-entered (h .number) (h .derefs) (spends-variant _ h v (fielded-record fields (each args)))
-    spends-pattern (Pat.Range h start end halfOpen) ty = spends-leaf (h .number) (h .derefs) (spends-range _ h start end)
+    spends-pattern (Pat.Range h start end halfOpen) ty = spends-leaf (h .number) (h .derefs) (spends-range _ h start end halfOpen)
     spends-pattern (Pat.Slice h prefix rest suffix) ty =
         spends-entered (h .number) (h .derefs) (spends-slice (each prefix) (each suffix) _ h bindings (restOf rest) (tyOf image (h .ty) .shape))
     spends-pattern (Pat.Path h target) ty = spends-entered (h .number) (h .derefs) (spends-path _ h bindings target)

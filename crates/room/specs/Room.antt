@@ -6,15 +6,14 @@ use lib.ListN.{length}
 use Rattle.image.specs.Tree.{Pat}
 use Rattle.place.specs.declared.Place.{Place}
 use Rattle.place.specs.declared.place_ty.PlaceTy.{PlaceTy}
-use Rattle.lower.specs.declared.temps.DiscrTemp.{DiscrTemp}
 use Rattle.lower.specs.declared.merging.OptBlock.{OptBlock}
 use Rattle.pattern_matching.specs.Walking.{Ctx, Out}
 use Rattle.pattern_matching.specs.Variants.{placeTy}
 use Rattle.counting.specs.Reaching.{Reached}
-use Rattle.counting.specs.Counting.{total, reachedFrom, checkVisits, someEnum, discrMade, newBlocks, newStatements}
+use Rattle.counting.specs.Counting.{total, reachedFrom, checkVisits, newBlocks, newStatements}
 use Rattle.room.specs.Elements.{elements}
 
--- a temporary is marked live and then set, two statements: the test of an enum, which makes one, has none of its own
+-- a temporary is marked live and then set, two statements
 abbrev pub temporaries : Reached → ℕ
 temporaries r = r .testStatements / 2
 
@@ -26,18 +25,16 @@ boundLocals r = r .bindStatements / 2
 abbrev pub localsOf : Reached → ℕ
 localsOf r = checkVisits r * temporaries r
 
--- a new local is a temporary or the discriminant local
-unfoldable pub newLocals : List ℕ → Pat → PlaceTy → DiscrTemp → ℕ
-newLocals image root ty discr =
-    total localsOf (reachedFrom image root ty) + discrMade (someEnum (reachedFrom image root ty)) discr
+-- a new local is a temporary
+unfoldable pub newLocals : List ℕ → Pat → PlaceTy → ℕ
+newLocals image root ty = total localsOf (reachedFrom image root ty)
 
 -- a local that is marked live enters the last scope: each new one, and that of each binding, which is made live in the one Bind visit
 abbrev pub entriesOf : Reached → ℕ
 entriesOf r = checkVisits r * temporaries r + boundLocals r
 
-unfoldable pub newEntries : List ℕ → Pat → PlaceTy → DiscrTemp → ℕ
-newEntries image root ty discr =
-    total entriesOf (reachedFrom image root ty) + discrMade (someEnum (reachedFrom image root ty)) discr
+unfoldable pub newEntries : List ℕ → Pat → PlaceTy → ℕ
+newEntries image root ty = total entriesOf (reachedFrom image root ty)
 
 -- the most elements that a place has which the walk comes to
 unfoldable pub longestPlace : List ℕ → Pat → PlaceTy → ℕ → ℕ
@@ -47,17 +44,17 @@ longestPlace image root ty n = n + elements image root ty
 -- passes none of these limits
 pub record Room (image : List ℕ) (root : Pat) (ctx : Ctx) (els : OptBlock) (place : Place) : Type 0 where
   pub blocks : length (ctx .state .blocks) + newBlocks image root (placeTy image (ctx .state) place) els ≤ 512
-  pub statements : length (ctx .state .statements) + newStatements image root (placeTy image (ctx .state) place) (ctx .discr) ≤ 1024
-  pub locals : length (ctx .state .locals) + newLocals image root (placeTy image (ctx .state) place) (ctx .discr) ≤ 512
-  pub entries : length (ctx .state .entries) + newEntries image root (placeTy image (ctx .state) place) (ctx .discr) ≤ 1024
+  pub statements : length (ctx .state .statements) + newStatements image root (placeTy image (ctx .state) place) ≤ 1024
+  pub locals : length (ctx .state .locals) + newLocals image root (placeTy image (ctx .state) place) ≤ 512
+  pub entries : length (ctx .state .entries) + newEntries image root (placeTy image (ctx .state) place) ≤ 1024
   pub elements : longestPlace image root (placeTy image (ctx .state) place) (place .len) ≤ 16
 
 -- one of the limits is passed
 pub data Passed (image : List ℕ) (root : Pat) (ctx : Ctx) (els : OptBlock) (place : Place) : Type 0 where
   tooManyBlocks : 512 < length (ctx .state .blocks) + newBlocks image root (placeTy image (ctx .state) place) els → Passed image root ctx els place
-  tooManyStatements : 1024 < length (ctx .state .statements) + newStatements image root (placeTy image (ctx .state) place) (ctx .discr) → Passed image root ctx els place
-  tooManyLocals : 512 < length (ctx .state .locals) + newLocals image root (placeTy image (ctx .state) place) (ctx .discr) → Passed image root ctx els place
-  tooManyEntries : 1024 < length (ctx .state .entries) + newEntries image root (placeTy image (ctx .state) place) (ctx .discr) → Passed image root ctx els place
+  tooManyStatements : 1024 < length (ctx .state .statements) + newStatements image root (placeTy image (ctx .state) place) → Passed image root ctx els place
+  tooManyLocals : 512 < length (ctx .state .locals) + newLocals image root (placeTy image (ctx .state) place) → Passed image root ctx els place
+  tooManyEntries : 1024 < length (ctx .state .entries) + newEntries image root (placeTy image (ctx .state) place) → Passed image root ctx els place
   tooManyElements : 16 < longestPlace image root (placeTy image (ctx .state) place) (place .len) → Passed image root ctx els place
 
 -- a scope is open
@@ -66,6 +63,6 @@ ScopeOpen ctx = 1 ≤ length (ctx .state .scopes)
 
 -- what an accepted lowering of a root from ctx on, which gave r, has made: exactly as many locals and entries as are counted, and no place with more than 16 elements
 pub record Made (image : List ℕ) (root : Pat) (ctx : Ctx) (place : Place) (r : Out) : Type 0 where
-  pub locals : length (r .ctx .state .locals) ≡ length (ctx .state .locals) + newLocals image root (placeTy image (ctx .state) place) (ctx .discr)
-  pub entries : length (r .ctx .state .entries) ≡ length (ctx .state .entries) + newEntries image root (placeTy image (ctx .state) place) (ctx .discr)
+  pub locals : length (r .ctx .state .locals) ≡ length (ctx .state .locals) + newLocals image root (placeTy image (ctx .state) place)
+  pub entries : length (r .ctx .state .entries) ≡ length (ctx .state .entries) + newEntries image root (placeTy image (ctx .state) place)
   pub elements : longestPlace image root (placeTy image (ctx .state) place) (place .len) ≤ 16

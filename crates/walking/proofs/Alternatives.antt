@@ -26,7 +26,6 @@ use Rattle.state.specs.Steps.{nextBlock}
 use Rattle.state.specs.Contracts.{Ready, Grown, Own, Kept, Answers}
 use Rattle.state.proofs.Answering.{kept-trans, next-block}
 use Rattle.state.proofs.Calls.{new-block-answers, set-answers}
-use Rattle.lower.specs.declared.temps.DiscrTemp.{DiscrTemp}
 use Rattle.lower.specs.declared.merging.OptBlock.{OptBlock}
 use Rattle.lower.specs.Merging.{setGoto}
 use Rattle.pattern_matching.specs.declared.MatchingMode.{MatchingMode}
@@ -47,8 +46,8 @@ abbrev pub withBlocks : Lent → List ℕ → Lent
 withBlocks t bl = lent bl (t .statements) (t .locals) (t .entries)
 
 -- the same of alternatives by another definition
-joins-by : {defined defined₁ : Ctx → Walk Out} {c : Counts} {discr : DiscrTemp} {current join : BasicBlockId} {els : OptBlock} {t₀ t : Lent} {v₀ v : List ℕ} {r : Lowered} → ((ctx : Ctx) → defined ctx ≡ defined₁ ctx) →
-    Joins defined c discr current join els t₀ v₀ r t v → Joins defined₁ c discr current join els t₀ v₀ r t v
+joins-by : {defined defined₁ : Ctx → Walk Out} {c : Counts} {current join : BasicBlockId} {els : OptBlock} {t₀ t : Lent} {v₀ v : List ℕ} {r : Lowered} → ((ctx : Ctx) → defined ctx ≡ defined₁ ctx) →
+    Joins defined c current join els t₀ v₀ r t v → Joins defined₁ c current join els t₀ v₀ r t v
 joins-by same S = record {
   answers = λ scopes visits R H. let F = S .answers scopes visits R H in record { visits′ = F .visits′; holds = F .holds; answers = answers-by (same _) (F .answers) };
   leaves = S .leaves;
@@ -57,7 +56,7 @@ joins-by same S = record {
 
 -- where they go on, after more blocks
 joined-by : (c c₁ : Counts) (join : BasicBlockId) (els : OptBlock) (r : Lowered) → Grown c c₁ → OwnElse c els els → JoinedBy c₁ join els r → JoinedBy c join els r
-joined-by c c₁ join els (Lowered.Done c₂ d₂ then els₂) G own S = record { at = S .at; own-else = own-else-trans c c₁ els els els₂ G own (S .own-else); begins = S .begins }
+joined-by c c₁ join els (Lowered.Done c₂ then els₂) G own S = record { at = S .at; own-else = own-else-trans c c₁ els els els₂ G own (S .own-else); begins = S .begins }
 joined-by c c₁ join els (Lowered.Refused e p) G own S = tt
 
 module _ (image bindings : List ℕ) (p : PatId) (from count : ℕ) (mode : MatchingMode) (join : BasicBlockId) (els : OptBlock) (place : Place) where
@@ -71,10 +70,10 @@ module _ (image bindings : List ℕ) (p : PatId) (from count : ℕ) (mode : Matc
       afterAlternative (r .else) (withState (r .ctx) (setGoto (r .ctx .state) (r .then) join)) join els (λ b.
       alternativesFrom image bindings (p .0) (from + (i + 1)) (count - (i + 1)) mode (withState (r .ctx) (setGoto (r .ctx .state) (r .then) join)) join b els place)
 
-  module _ (i : ℕ) (c : Counts) (d : DiscrTemp) (here : BasicBlockId) (t : Lent) (v : List ℕ) where
+  module _ (i : ℕ) (c : Counts) (here : BasicBlockId) (t : Lent) (v : List ℕ) where
     -- what the rest promises
     abbrev pub Rest : Lowered → Lent → List ℕ → Type 0
-    Rest = Joins (alternativesGo i here) c d here join els t v
+    Rest = Joins (alternativesGo i here) c here join els t v
 
     -- no alternative is left: by what `alternatives_end` promises
     pub alternatives-over : {r : Lowered} {bl : List ℕ} → count ≤ i →
@@ -99,7 +98,7 @@ module _ (image bindings : List ℕ) (p : PatId) (from count : ℕ) (mode : Matc
 
       -- it is refused
       pub alternatives-stop : {x : MirLowerError} {at : PatId} {t₁ : Lent} {v₁ : List ℕ} →
-          Walks (λ ctx. alternative (patternMatchInner image bindings (tree image (q .0))) mode ctx here place) c d here OptBlock.None t v (Lowered.Refused x at) t₁ v₁ → Rest (Lowered.Refused x at) t₁ v₁
+          Walks (λ ctx. alternative (patternMatchInner image bindings (tree image (q .0))) mode ctx here place) c here OptBlock.None t v (Lowered.Refused x at) t₁ v₁ → Rest (Lowered.Refused x at) t₁ v₁
       alternatives-stop W = joins-by alternative-as (record {
         answers = λ scopes visits R H. let F = W .answers scopes visits R H in record { visits′ = F .visits′; holds = F .holds; answers = next-stops (behindAlternative i) (F .answers) };
         leaves = W .leaves;
@@ -107,8 +106,8 @@ module _ (image bindings : List ℕ) (p : PatId) (from count : ℕ) (mode : Matc
       })
 
       -- where it matched it goes on at `join`
-      module _ {c₁ : Counts} {d₁ : DiscrTemp} {then : BasicBlockId} {other : OptBlock} {t₁ : Lent} {v₁ bl : List ℕ}
-          (W : Walks (λ ctx. alternative (patternMatchInner image bindings (tree image (q .0))) mode ctx here place) c d here OptBlock.None t v (Lowered.Done c₁ d₁ then other) t₁ v₁)
+      module _ {c₁ : Counts} {then : BasicBlockId} {other : OptBlock} {t₁ : Lent} {v₁ bl : List ℕ}
+          (W : Walks (λ ctx. alternative (patternMatchInner image bindings (tree image (q .0))) mode ctx here place) c here OptBlock.None t v (Lowered.Done c₁ then other) t₁ v₁)
           (set : bl ≡ stored (t₁ .blocks) (12 * then .0) (termRow (Terminator.Goto join))) where
         goto-answers : (scopes : List ℕ) → Ready (bodyOf t₁ scopes) c₁ →
             Answers (bodyOf t₁ scopes) c₁ (then .0) (bodyOf (withBlocks t₁ bl) scopes) (some c₁) (done (decode (bodyOf (withBlocks t₁ bl) scopes) c₁)) (done (setGoto (decode (bodyOf t₁ scopes) c₁) then join))
@@ -122,9 +121,9 @@ module _ (image bindings : List ℕ) (p : PatId) (from count : ℕ) (mode : Matc
             ((S .goes .0, A .0 .1), kept-trans (A .1) (A .0 .1) (W .onward .own) (S .kept))
 
       -- it cannot fail, and is the last
-      pub alternatives-sure : {c₁ : Counts} {d₁ : DiscrTemp} {then : BasicBlockId} {t₁ : Lent} {v₁ bl : List ℕ} → Begins c here els → join .0 < c .blocks → Primed t c →
-          Walks (λ ctx. alternative (patternMatchInner image bindings (tree image (q .0))) mode ctx here place) c d here OptBlock.None t v (Lowered.Done c₁ d₁ then OptBlock.None) t₁ v₁ →
-          bl ≡ stored (t₁ .blocks) (12 * then .0) (termRow (Terminator.Goto join)) → Rest (Lowered.Done c₁ d₁ join els) (withBlocks t₁ bl) v₁
+      pub alternatives-sure : {c₁ : Counts} {then : BasicBlockId} {t₁ : Lent} {v₁ bl : List ℕ} → Begins c here els → join .0 < c .blocks → Primed t c →
+          Walks (λ ctx. alternative (patternMatchInner image bindings (tree image (q .0))) mode ctx here place) c here OptBlock.None t v (Lowered.Done c₁ then OptBlock.None) t₁ v₁ →
+          bl ≡ stored (t₁ .blocks) (12 * then .0) (termRow (Terminator.Goto join)) → Rest (Lowered.Done c₁ join els) (withBlocks t₁ bl) v₁
       alternatives-sure {c₁ = c₁} {d₁ = d₁} B inside P W set = joins-by alternative-as (record {
         answers = λ scopes visits R H.
             let F = W .answers scopes visits R H in
@@ -133,7 +132,7 @@ module _ (image bindings : List ℕ) (p : PatId) (from count : ℕ) (mode : Matc
               visits′ = F .visits′;
               holds = F .holds;
               answers = record {
-                says = ap (λ (r : Result State). step (p .0) r (λ st. out (record { state = st; discr = d₁; visits = F .visits′ }) join els)) (S .says) ∙ ap (λ (r : Walk Out). next r (behindAlternative i)) (F .answers .says);
+                says = ap (λ (r : Result State). step (p .0) r (λ st. out (record { state = st; visits = F .visits′ }) join els)) (S .says) ∙ ap (λ (r : Walk Out). next r (behindAlternative i)) (F .answers .says);
                 goes = (S .goes .0, F .answers .goes .1);
                 kept = kept-trans (F .answers .kept) (F .answers .goes .1) (W .onward .own) (S .kept);
               };
@@ -145,10 +144,10 @@ module _ (image bindings : List ℕ) (p : PatId) (from count : ℕ) (mode : Matc
       })
 
       -- the others start where it does not match
-      pub alternatives-next : {c₁ : Counts} {d₁ : DiscrTemp} {then on : BasicBlockId} {t₁ : Lent} {v₁ bl : List ℕ} → Begins c here els → Primed t c →
-          Walks (λ ctx. alternative (patternMatchInner image bindings (tree image (q .0))) mode ctx here place) c d here OptBlock.None t v (Lowered.Done c₁ d₁ then (OptBlock.Some on)) t₁ v₁ →
+      pub alternatives-next : {c₁ : Counts} {then on : BasicBlockId} {t₁ : Lent} {v₁ bl : List ℕ} → Begins c here els → Primed t c →
+          Walks (λ ctx. alternative (patternMatchInner image bindings (tree image (q .0))) mode ctx here place) c here OptBlock.None t v (Lowered.Done c₁ then (OptBlock.Some on)) t₁ v₁ →
           bl ≡ stored (t₁ .blocks) (12 * then .0) (termRow (Terminator.Goto join)) →
-          {r : Lowered} {t₂ : Lent} {v₂ : List ℕ} → Joins (alternativesGo (i + 1) on) c₁ d₁ on join els (withBlocks t₁ bl) v₁ r t₂ v₂ → Rest r t₂ v₂
+          {r : Lowered} {t₂ : Lent} {v₂ : List ℕ} → Joins (alternativesGo (i + 1) on) c₁ on join els (withBlocks t₁ bl) v₁ r t₂ v₂ → Rest r t₂ v₂
       alternatives-next {c₁ = c₁} {d₁ = d₁} {on = on} B P W set {r = r} {t₂ = t₂} N = joins-by alternative-as (record {
         answers = λ scopes visits R H.
             let F = W .answers scopes visits R H in
@@ -159,7 +158,7 @@ module _ (image bindings : List ℕ) (p : PatId) (from count : ℕ) (mode : Matc
               holds = L .holds;
               answers = record {
                 says = L .answers .says
-                    ∙ ap (λ (r : Result State). step (p .0) r (λ st. alternativesGo (i + 1) on (record { state = st; discr = d₁; visits = F .visits′ }))) (S .says)
+                    ∙ ap (λ (r : Result State). step (p .0) r (λ st. alternativesGo (i + 1) on (record { state = st; visits = F .visits′ }))) (S .says)
                     ∙ ap (λ (r : Walk Out). next r (behindAlternative i)) (F .answers .says);
                 goes = goes-on (bodyOf t₂ scopes) (loweredCounts r) (F .answers .goes .1) (L .answers .goes);
                 kept = kept-trans (kept-trans (F .answers .kept) (F .answers .goes .1) (W .onward .own) (S .kept)) (F .answers .goes .1) (own-next (W .onward .own-else)) (L .answers .kept);
@@ -178,30 +177,30 @@ module _ (image bindings : List ℕ) (p : PatId) (from count : ℕ) (mode : Matc
 
 -- the invariant of the loop: the walk may go on from where it is now, and what the rest promises from there is what the whole promises from where it began
 pub record AlternativesGoing (image : List ℕ) (tables : Tables) (bindings : List ℕ) (p : PatId) (from count : ℕ) (mode : MatchingMode) (join : BasicBlockId) (els : OptBlock) (place : Place)
-    (c₀ : Counts) (d₀ : DiscrTemp) (b₀ : BasicBlockId) (t₀ : Lent) (v₀ : List ℕ) (c : Counts) (d : DiscrTemp) (here : BasicBlockId) (t : Lent) (v : List ℕ) (i : ℕ) : Type 0 where
+    (c₀ : Counts) (b₀ : BasicBlockId) (t₀ : Lent) (v₀ : List ℕ) (c : Counts) (here : BasicBlockId) (t : Lent) (v : List ℕ) (i : ℕ) : Type 0 where
   pub walkable : Walkable image tables bindings t v c here els place
   pub inside : join .0 < c .blocks
-  pub rest : {r : Lowered} {t₁ : Lent} {v₁ : List ℕ} → Joins (alternativesGo image bindings p from count mode join els place i here) c d here join els t v r t₁ v₁ →
-      Joins (λ ctx. alternativesFrom image bindings (p .0) from count mode ctx join b₀ els place) c₀ d₀ b₀ join els t₀ v₀ r t₁ v₁
+  pub rest : {r : Lowered} {t₁ : Lent} {v₁ : List ℕ} → Joins (alternativesGo image bindings p from count mode join els place i here) c here join els t v r t₁ v₁ →
+      Joins (λ ctx. alternativesFrom image bindings (p .0) from count mode ctx join b₀ els place) c₀ b₀ join els t₀ v₀ r t₁ v₁
 
 -- it holds at the start
 pub alternatives-begin : (image : List ℕ) (tables : Tables) (bindings : List ℕ) (p : PatId) (from count : ℕ) (mode : MatchingMode) (join : BasicBlockId) (els : OptBlock) (place : Place)
-    (c : Counts) (d : DiscrTemp) (here : BasicBlockId) (t : Lent) (v : List ℕ) → Walkable image tables bindings t v c here els place → join .0 < c .blocks →
-    AlternativesGoing image tables bindings p from count mode join els place c d here t v c d here t v 0
-alternatives-begin image tables bindings p from count mode join els place c d here t v W inside = record {
+    (c : Counts) (here : BasicBlockId) (t : Lent) (v : List ℕ) → Walkable image tables bindings t v c here els place → join .0 < c .blocks →
+    AlternativesGoing image tables bindings p from count mode join els place c here t v c here t v 0
+alternatives-begin image tables bindings p from count mode join els place c here t v W inside = record {
   walkable = W;
   inside = inside;
   rest = λ S. joins-by (λ ctx. sym (alternatives-start image bindings (p .0) mode join here els place from count ctx)) S;
 }
 
-module _ {image : List ℕ} {tables : Tables} {bindings : List ℕ} {p : PatId} {from count : ℕ} {mode : MatchingMode} {join : BasicBlockId} {els : OptBlock} {place : Place} {c₀ : Counts} {d₀ : DiscrTemp} {b₀ : BasicBlockId} {t₀ : Lent} {v₀ : List ℕ}
-    {c : Counts} {d : DiscrTemp} {here : BasicBlockId} {t : Lent} {v : List ℕ} {i : ℕ} (G : AlternativesGoing image tables bindings p from count mode join els place c₀ d₀ b₀ t₀ v₀ c d here t v i)
-    (h : i < count) (q : PatId) (names : q .0 ≡ listAt image (from + i)) {c₁ : Counts} {d₁ : DiscrTemp} {then on : BasicBlockId} {t₁ : Lent} {v₁ bl : List ℕ} where
+module _ {image : List ℕ} {tables : Tables} {bindings : List ℕ} {p : PatId} {from count : ℕ} {mode : MatchingMode} {join : BasicBlockId} {els : OptBlock} {place : Place} {c₀ : Counts} {b₀ : BasicBlockId} {t₀ : Lent} {v₀ : List ℕ}
+    {c : Counts} {here : BasicBlockId} {t : Lent} {v : List ℕ} {i : ℕ} (G : AlternativesGoing image tables bindings p from count mode join els place c₀ b₀ t₀ v₀ c here t v i)
+    (h : i < count) (q : PatId) (names : q .0 ≡ listAt image (from + i)) {c₁ : Counts} {then on : BasicBlockId} {t₁ : Lent} {v₁ bl : List ℕ} where
   -- and after one more alternative
   pub alternatives-again : length v₁ ≡ length v →
-      Walks (λ ctx. alternative (patternMatchInner image bindings (tree image (q .0))) mode ctx here place) c d here OptBlock.None t v (Lowered.Done c₁ d₁ then (OptBlock.Some on)) t₁ v₁ →
+      Walks (λ ctx. alternative (patternMatchInner image bindings (tree image (q .0))) mode ctx here place) c here OptBlock.None t v (Lowered.Done c₁ then (OptBlock.Some on)) t₁ v₁ →
       bl ≡ stored (t₁ .blocks) (12 * then .0) (termRow (Terminator.Goto join)) →
-      AlternativesGoing image tables bindings p from count mode join els place c₀ d₀ b₀ t₀ v₀ c₁ d₁ on (withBlocks t₁ bl) v₁ (i + 1)
+      AlternativesGoing image tables bindings p from count mode join els place c₀ b₀ t₀ v₀ c₁ on (withBlocks t₁ bl) v₁ (i + 1)
   alternatives-again same W set =
       let K = G .walkable in
       let more = grown-after W (K .primed) in
@@ -211,19 +210,19 @@ module _ {image : List ℕ} {tables : Tables} {bindings : List ℕ} {p : PatId} 
           whole = K .whole;
           locals-of-bindings = K .locals-of-bindings;
           visits-sized = same ∙ K .visits-sized;
-          primed = goto-leaves image bindings p from count mode join els place i c d here t v h q names W set (K .primed) .0 .0;
+          primed = goto-leaves image bindings p from count mode join els place i c here t v h q names W set (K .primed) .0 .0;
           begins = record { start = W .onward .begins .else; else = begins-grown more (K .begins) .else };
           placed = let Q = placed-after W (K .primed) (K .placed) in record { root = Q .root; named = Q .named; within = Q .within };
         };
         inside = le-trans (G .inside) (more .blocks);
-        rest = λ S. G .rest (alternatives-next image bindings p from count mode join els place i c d here t v h q names (K .begins) (K .primed) W set S);
+        rest = λ S. G .rest (alternatives-next image bindings p from count mode join els place i c here t v h q names (K .begins) (K .primed) W set S);
       }
 
 -- where the loop begins and ends: the block that all alternatives go on at is made first
-module _ (image bindings : List ℕ) (p : PatId) (from count : ℕ) (mode : MatchingMode) (c : Counts) (discr : DiscrTemp) (current : BasicBlockId) (els : OptBlock) (place : Place) (t : Lent) (v : List ℕ) where
+module _ (image bindings : List ℕ) (p : PatId) (from count : ℕ) (mode : MatchingMode) (c : Counts) (current : BasicBlockId) (els : OptBlock) (place : Place) (t : Lent) (v : List ℕ) where
   -- what it promises
   abbrev Or : Lowered → Lent → List ℕ → Type 0
-  Or = Walks (λ ctx. orPattern (p .0) (lowered image bindings from count) mode ctx current els place) c discr current els t v
+  Or = Walks (λ ctx. orPattern (p .0) (lowered image bindings from count) mode ctx current els place) c current els t v
 
   -- there is no room for a new block
   pub or-full : NewBlock.Full ≡ newBlock c → Or (Lowered.Refused MirLowerError.Limit p) t v
@@ -240,7 +239,7 @@ module _ (image bindings : List ℕ) (p : PatId) (from count : ℕ) (mode : Matc
 
   -- what matches goes on at it
   pub or-goes : {c₁ : Counts} {join : BasicBlockId} {r : Lowered} {t₁ : Lent} {v₁ : List ℕ} → Begins c current els → NewBlock.Block c₁ join ≡ newBlock c →
-      Joins (λ ctx. alternativesFrom image bindings (p .0) from count mode ctx join current els place) c₁ discr current join els t v r t₁ v₁ → Or r t₁ v₁
+      Joins (λ ctx. alternativesFrom image bindings (p .0) from count mode ctx join current els place) c₁ current join els t v r t₁ v₁ → Or r t₁ v₁
   or-goes {c₁ = c₁} {join = join} {r = r} {t₁ = t₁} B is S = record {
     answers = λ scopes visits R H.
         let N = new-block-answers (t .blocks) (t .statements) (t .locals) scopes (t .entries) c (current .0) is R in
@@ -251,7 +250,7 @@ module _ (image bindings : List ℕ) (p : PatId) (from count : ℕ) (mode : Matc
           holds = F .holds;
           answers = answers-by (sym (or-by-rows image bindings (p .0) from count mode _ current els place))
               (step-then (p .0) _ N (inl refl)
-              (answers-by (ap (λ (b : BasicBlockId). alternativesFrom image bindings (p .0) from count mode (ctxOf (bodyOf t scopes) c₁ discr visits) b current els place) at) (F .answers)));
+              (answers-by (ap (λ (b : BasicBlockId). alternativesFrom image bindings (p .0) from count mode (ctxOf (bodyOf t scopes) c₁ visits) b current els place) at) (F .answers)));
         };
     leaves = λ P.
         let N = new-block-answers (t .blocks) (t .statements) (t .locals) (zeros 32) (t .entries) c (current .0) is P in
@@ -264,6 +263,6 @@ module _ (image bindings : List ℕ) (p : PatId) (from count : ℕ) (mode : Matc
       more = block-onward c is B .0
 
       joined : (r : Lowered) → JoinedBy c₁ join els r → OnwardBy c current els r
-      joined (Lowered.Done c₂ d₂ then els₂) D =
+      joined (Lowered.Done c₂ then els₂) D =
           record { own = inr (rw (D .at, block-made c is .1) (le-refl (c .blocks))); own-else = own-else-trans c c₁ els els els₂ more (onward-refl B .own-else) (D .own-else); begins = D .begins }
       joined (Lowered.Refused e at) D = tt

@@ -17,7 +17,6 @@ use Rattle.place.specs.Elems.{Fits}
 use Rattle.place.specs.Places.{onward, Projects}
 use Rattle.mir.specs.declared.BasicBlockId.{BasicBlockId}
 use Rattle.mir.specs.declared.Counts.{Counts}
-use Rattle.lower.specs.declared.temps.DiscrTemp.{DiscrTemp}
 use Rattle.lower.specs.declared.merging.OptBlock.{OptBlock}
 use Rattle.pattern_matching.specs.declared.MatchingMode.{MatchingMode}
 use Rattle.pattern_matching.specs.Walking.{Ctx, Out, Walk, next, step, project}
@@ -38,9 +37,9 @@ module _ (row : ArgumentRow) (image bindings : List ℕ) (p : PatId) (from field
   abbrev pub argumentsLeft : ℕ → BasicBlockId → OptBlock → Ctx → Walk Out
   argumentsLeft i here other ctx = argumentsFrom row image bindings (p .0) from fields i (count - i) mode ctx here other place
 
-  module _ (i : ℕ) (c : Counts) (d : DiscrTemp) (here : BasicBlockId) (other : OptBlock) (t : Lent) (v : List ℕ) where
+  module _ (i : ℕ) (c : Counts) (here : BasicBlockId) (other : OptBlock) (t : Lent) (v : List ℕ) where
     -- no argument is left
-    pub arguments-end : count ≤ i → Begins c here other → Walks (argumentsLeft i here other) c d here other t v (Lowered.Done c d here other) t v
+    pub arguments-end : count ≤ i → Begins c here other → Walks (argumentsLeft i here other) c here other t v (Lowered.Done c here other) t v
     arguments-end h B = walks-skips (λ ctx. sym (applied (arguments-none row image bindings (p .0) from fields count i h) mode ctx here other place)) B
 
     -- the argument i, which is the pattern q, on the place `to`
@@ -57,30 +56,30 @@ module _ (row : ArgumentRow) (image bindings : List ℕ) (p : PatId) (from field
           ∙ ap (λ (e : ProjectionElem). step (p .0) (project place e) (λ to. argument to ctx)) (sym is)
 
       -- there is no room for the element
-      pub argument-full : stopped MirLowerError.Limit ≡ project place elem → Walks (argumentsLeft i here other) c d here other t v (Lowered.Refused MirLowerError.Limit p) t v
+      pub argument-full : stopped MirLowerError.Limit ≡ project place elem → Walks (argumentsLeft i here other) c here other t v (Lowered.Refused MirLowerError.Limit p) t v
       argument-full full = looks-stops p (λ ctx. project place elem) argument argument-looks (λ scopes visits. full)
 
       module _ {to : Place} (there : done to ≡ project place elem) (q : PatId) (names : q .0 ≡ argumentPat row image from i) where
-        argument-walks : {r : Lowered} {t₁ : Lent} {v₁ : List ℕ} → Walks (argument to) c d here other t v r t₁ v₁ → Walks (argumentsLeft i here other) c d here other t v r t₁ v₁
+        argument-walks : {r : Lowered} {t₁ : Lent} {v₁ : List ℕ} → Walks (argument to) c here other t v r t₁ v₁ → Walks (argumentsLeft i here other) c here other t v r t₁ v₁
         argument-walks W = looks-then p (λ ctx. project place elem) argument argument-looks (λ scopes visits. there) W
 
         -- its answer by the pattern's number
-        argument-named : {r : Lowered} {t₁ : Lent} {v₁ : List ℕ} → Walks (λ ctx. patternMatchInner image bindings (tree image (q .0)) mode ctx here other to) c d here other t v r t₁ v₁ →
-            Walks (λ ctx. patternMatchInner image bindings (tree image (argumentPat row image from i)) mode ctx here other to) c d here other t v r t₁ v₁
+        argument-named : {r : Lowered} {t₁ : Lent} {v₁ : List ℕ} → Walks (λ ctx. patternMatchInner image bindings (tree image (q .0)) mode ctx here other to) c here other t v r t₁ v₁ →
+            Walks (λ ctx. patternMatchInner image bindings (tree image (argumentPat row image from i)) mode ctx here other to) c here other t v r t₁ v₁
         argument-named W = walks-by (λ ctx. ap (λ (n : ℕ). patternMatchInner image bindings (tree image n) mode ctx here other to) names) W
 
         -- it is refused
         pub argument-stops : {x : MirLowerError} {at : PatId} {t₁ : Lent} {v₁ : List ℕ} →
-            Walks (λ ctx. patternMatchInner image bindings (tree image (q .0)) mode ctx here other to) c d here other t v (Lowered.Refused x at) t₁ v₁ →
-            Walks (argumentsLeft i here other) c d here other t v (Lowered.Refused x at) t₁ v₁
+            Walks (λ ctx. patternMatchInner image bindings (tree image (q .0)) mode ctx here other to) c here other t v (Lowered.Refused x at) t₁ v₁ →
+            Walks (argumentsLeft i here other) c here other t v (Lowered.Refused x at) t₁ v₁
         argument-stops W =
             argument-walks (walks-stops (λ r. argumentsFrom row image bindings (p .0) from fields (i + 1) (count - (i + 1)) mode (r .ctx) (r .then) (r .else) place) (argument-named W))
 
         -- the rest behind it
-        pub argument-goes : {c₁ : Counts} {d₁ : DiscrTemp} {then : BasicBlockId} {els : OptBlock} {t₁ : Lent} {v₁ : List ℕ} → Primed t c →
-            Walks (λ ctx. patternMatchInner image bindings (tree image (q .0)) mode ctx here other to) c d here other t v (Lowered.Done c₁ d₁ then els) t₁ v₁ →
-            {r : Lowered} {t₂ : Lent} {v₂ : List ℕ} → Walks (argumentsLeft (i + 1) then els) c₁ d₁ then els t₁ v₁ r t₂ v₂ →
-            Walks (argumentsLeft i here other) c d here other t v r t₂ v₂
+        pub argument-goes : {c₁ : Counts} {then : BasicBlockId} {els : OptBlock} {t₁ : Lent} {v₁ : List ℕ} → Primed t c →
+            Walks (λ ctx. patternMatchInner image bindings (tree image (q .0)) mode ctx here other to) c here other t v (Lowered.Done c₁ then els) t₁ v₁ →
+            {r : Lowered} {t₂ : Lent} {v₂ : List ℕ} → Walks (argumentsLeft (i + 1) then els) c₁ then els t₁ v₁ r t₂ v₂ →
+            Walks (argumentsLeft i here other) c here other t v r t₂ v₂
         argument-goes R W S =
             argument-walks (walks-then (argument-named W) R (λ r. argumentsFrom row image bindings (p .0) from fields (i + 1) (count - (i + 1)) mode (r .ctx) (r .then) (r .else) place) S)
 
@@ -109,29 +108,29 @@ argument-fits ArgumentRow.LastItems image from fields i e = rw e tt
 
 -- the invariant of the loop: the walk may go on from where it is now, and what the rest promises from there is what the whole promises from where it began
 pub record ArgumentsGoing (row : ArgumentRow) (image : List ℕ) (tables : Tables) (bindings : List ℕ) (p : PatId) (from fields count : ℕ) (mode : MatchingMode) (place : Place)
-    (c₀ : Counts) (d₀ : DiscrTemp) (b₀ : BasicBlockId) (e₀ : OptBlock) (t₀ : Lent) (v₀ : List ℕ) (c : Counts) (d : DiscrTemp) (here : BasicBlockId) (other : OptBlock) (t : Lent) (v : List ℕ) (i : ℕ) : Type 0 where
+    (c₀ : Counts) (b₀ : BasicBlockId) (e₀ : OptBlock) (t₀ : Lent) (v₀ : List ℕ) (c : Counts) (here : BasicBlockId) (other : OptBlock) (t : Lent) (v : List ℕ) (i : ℕ) : Type 0 where
   pub walkable : Walkable image tables bindings t v c here other place
-  pub rest : {r : Lowered} {t₁ : Lent} {v₁ : List ℕ} → Walks (argumentsLeft row image bindings p from fields count mode place i here other) c d here other t v r t₁ v₁ →
-      Walks (λ ctx. argumentsFrom row image bindings (p .0) from fields 0 count mode ctx b₀ e₀ place) c₀ d₀ b₀ e₀ t₀ v₀ r t₁ v₁
+  pub rest : {r : Lowered} {t₁ : Lent} {v₁ : List ℕ} → Walks (argumentsLeft row image bindings p from fields count mode place i here other) c here other t v r t₁ v₁ →
+      Walks (λ ctx. argumentsFrom row image bindings (p .0) from fields 0 count mode ctx b₀ e₀ place) c₀ b₀ e₀ t₀ v₀ r t₁ v₁
 
 -- it holds at the start
 pub arguments-begin : (row : ArgumentRow) (image : List ℕ) (tables : Tables) (bindings : List ℕ) (p : PatId) (from fields count : ℕ) (mode : MatchingMode) (place : Place)
-    (c : Counts) (d : DiscrTemp) (here : BasicBlockId) (other : OptBlock) (t : Lent) (v : List ℕ) → Walkable image tables bindings t v c here other place →
-    ArgumentsGoing row image tables bindings p from fields count mode place c d here other t v c d here other t v 0
-arguments-begin row image tables bindings p from fields count mode place c d here other t v W = record {
+    (c : Counts) (here : BasicBlockId) (other : OptBlock) (t : Lent) (v : List ℕ) → Walkable image tables bindings t v c here other place →
+    ArgumentsGoing row image tables bindings p from fields count mode place c here other t v c here other t v 0
+arguments-begin row image tables bindings p from fields count mode place c here other t v W = record {
   walkable = W;
   rest = λ S. walks-by (λ ctx. sym (applied (arguments-start row image bindings (p .0) from fields count) mode ctx here other place)) S;
 }
 
 -- and after one more argument
-module _ {row : ArgumentRow} {image : List ℕ} {tables : Tables} {bindings : List ℕ} {p : PatId} {from fields count : ℕ} {mode : MatchingMode} {place : Place} {c₀ : Counts} {d₀ : DiscrTemp} {b₀ : BasicBlockId} {e₀ : OptBlock} {t₀ : Lent} {v₀ : List ℕ}
-    {c : Counts} {d : DiscrTemp} {here : BasicBlockId} {other : OptBlock} {t : Lent} {v : List ℕ} {i : ℕ}
-    (G : ArgumentsGoing row image tables bindings p from fields count mode place c₀ d₀ b₀ e₀ t₀ v₀ c d here other t v i) where
+module _ {row : ArgumentRow} {image : List ℕ} {tables : Tables} {bindings : List ℕ} {p : PatId} {from fields count : ℕ} {mode : MatchingMode} {place : Place} {c₀ : Counts} {b₀ : BasicBlockId} {e₀ : OptBlock} {t₀ : Lent} {v₀ : List ℕ}
+    {c : Counts} {here : BasicBlockId} {other : OptBlock} {t : Lent} {v : List ℕ} {i : ℕ}
+    (G : ArgumentsGoing row image tables bindings p from fields count mode place c₀ b₀ e₀ t₀ v₀ c here other t v i) where
   pub arguments-again : (h : i < count) {elem : ProjectionElem} → elem ≡ argumentElem row image from fields i → {to : Place} → done to ≡ project place elem →
-      (q : PatId) → q .0 ≡ argumentPat row image from i → {c₁ : Counts} {d₁ : DiscrTemp} {then : BasicBlockId} {els : OptBlock} {t₁ : Lent} {v₁ : List ℕ} → length v₁ ≡ length v →
-      Walks (λ ctx. patternMatchInner image bindings (tree image (q .0)) mode ctx here other to) c d here other t v (Lowered.Done c₁ d₁ then els) t₁ v₁ →
-      ArgumentsGoing row image tables bindings p from fields count mode place c₀ d₀ b₀ e₀ t₀ v₀ c₁ d₁ then els t₁ v₁ (i + 1)
+      (q : PatId) → q .0 ≡ argumentPat row image from i → {c₁ : Counts} {then : BasicBlockId} {els : OptBlock} {t₁ : Lent} {v₁ : List ℕ} → length v₁ ≡ length v →
+      Walks (λ ctx. patternMatchInner image bindings (tree image (q .0)) mode ctx here other to) c here other t v (Lowered.Done c₁ then els) t₁ v₁ →
+      ArgumentsGoing row image tables bindings p from fields count mode place c₀ b₀ e₀ t₀ v₀ c₁ then els t₁ v₁ (i + 1)
   arguments-again h is there q names same W = record {
     walkable = walkable-after (G .walkable) same W;
-    rest = λ S. G .rest (argument-goes row image bindings p from fields count mode place i c d here other t v h is there q names (G .walkable .primed) W S);
+    rest = λ S. G .rest (argument-goes row image bindings p from fields count mode place i c here other t v h is there q names (G .walkable .primed) W S);
   }

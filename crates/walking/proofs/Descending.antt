@@ -21,7 +21,6 @@ use Rattle.place.specs.declared.Place.{Place}
 use Rattle.place.specs.declared.Projected.{Projected}
 use Rattle.mir.specs.declared.BasicBlockId.{BasicBlockId}
 use Rattle.mir.specs.declared.Counts.{Counts}
-use Rattle.lower.specs.declared.temps.DiscrTemp.{DiscrTemp}
 use Rattle.lower.specs.declared.merging.OptBlock.{OptBlock}
 use Rattle.pattern_matching.specs.declared.MatchingMode.{MatchingMode}
 use Rattle.pattern_matching.specs.Modes.{isCheck}
@@ -120,12 +119,12 @@ pub record Descending (image : List ℕ) (mode : MatchingMode) (p : PatId) (plac
   pub below : q .0 ≤ p .0
   pub same-length : length v₁ ≡ length v
   pub reached : Reached place here
-  pub walks : (bindings : List ℕ) (c : Counts) (discr : DiscrTemp) (current : BasicBlockId) (els : OptBlock) (t : Lent) {r : Lowered} {t₂ : Lent} {v₂ : List ℕ} →
-      Inner image bindings q mode c discr current els here t v₁ r t₂ v₂ → Inner image bindings p mode c discr current els place t v r t₂ v₂
+  pub walks : (bindings : List ℕ) (c : Counts) (current : BasicBlockId) (els : OptBlock) (t : Lent) {r : Lowered} {t₂ : Lent} {v₂ : List ℕ} →
+      Inner image bindings q mode c current els here t v₁ r t₂ v₂ → Inner image bindings p mode c current els place t v r t₂ v₂
 
 -- it holds at the start
 pub descending-begin : (image : List ℕ) (mode : MatchingMode) (p : PatId) (place : Place) (v : List ℕ) → Descending image mode p place v p place v
-descending-begin image mode p place v = record { below = omega arith; same-length = refl; reached = reached-refl place; walks = λ bindings c discr current els t W. W }
+descending-begin image mode p place v = record { below = omega arith; same-length = refl; reached = reached-refl place; walks = λ bindings c current els t W. W }
 
 -- a turn: q is visited, and its derefs are appended
 module _ {image : List ℕ} {mode : MatchingMode} {p : PatId} {place : Place} {v : List ℕ} {q : PatId} {here : Place} {v₁ : List ℕ} (D : Descending image mode p place v q here v₁)
@@ -140,7 +139,7 @@ module _ {image : List ℕ} {mode : MatchingMode} {p : PatId} {place : Place} {v
     below = D .below;
     same-length = long ∙ D .same-length;
     root = λ z. absurd (false≢true z);
-    stops = λ z bindings c discr current els t. D .walks bindings c discr current els t (inner-stops image bindings q row mode c discr current els here t v₁ b good there same seen is e);
+    stops = λ z bindings c current els t. D .walks bindings c current els t (inner-stops image bindings q row mode c current els here t v₁ b good there same seen is e);
     goes = λ z. absurd (false≢true z);
   }
 
@@ -155,8 +154,8 @@ module _ {image : List ℕ} {mode : MatchingMode} {p : PatId} {place : Place} {v
       same-length = long ∙ D .same-length;
       root = λ z. (further .local, further .within);
       stops = λ z. absurd (true≢false z);
-      goes = λ z read is-read bindings c discr current els t W.
-          D .walks bindings c discr current els t (inner-goes image bindings q read mode c discr current els here t v₁ b good there is-read seen (rw (same ∙ sym is-read) at is) e W);
+      goes = λ z read is-read bindings c current els t W.
+          D .walks bindings c current els t (inner-goes image bindings q read mode c current els here t v₁ b good there is-read seen (rw (same ∙ sym is-read) at is) e W);
     }
 
     -- its subpattern is
@@ -167,9 +166,9 @@ module _ {image : List ℕ} {mode : MatchingMode} {p : PatId} {place : Place} {v
             below = omega (arith, falls, D .below);
             same-length = long ∙ D .same-length;
             reached = further;
-            walks = λ bindings c discr current els t W.
-                D .walks bindings c discr current els t
-                (inner-goes image bindings q row mode c discr current els here t v₁ b good there same seen is e (walks-by (λ ctx. passed image mode q row passes bindings ctx current els (b .place)) W));
+            walks = λ bindings c current els t W.
+                D .walks bindings c current els t
+                (inner-goes image bindings q row mode c current els here t v₁ b good there same seen is e (walks-by (λ ctx. passed image mode q row passes bindings ctx current els (b .place)) W));
           },
           falls,
         )
@@ -199,9 +198,9 @@ module _ {image : List ℕ} {mode : MatchingMode} {p : PatId} {place : Place} {v
     entered-walkable W = walkable-at (walkable-visited W (E .same-length)) entered-reaches
 
     -- it has no subpattern
-    pub entered-leaf : (row : PatRow) → row ≡ patAt image (q .0) → (bindings : List ℕ) (c : Counts) (discr : DiscrTemp) (current : BasicBlockId) (els : OptBlock) (t : Lent) {r : Lowered} {t₂ : Lent} →
-        isLeaf (patKind (row .kind)) (pathKind (row .a)) ≡ true → Lowers (λ ctx. leafPattern (patKind (row .kind)) image bindings (q .0) row mode ctx current els to) c discr current els t r t₂ →
-        Inner image bindings p mode c discr current els place t v r t₂ v₁
-    entered-leaf row same bindings c discr current els t leaf L =
-        E .goes e row same bindings c discr current els t
+    pub entered-leaf : (row : PatRow) → row ≡ patAt image (q .0) → (bindings : List ℕ) (c : Counts) (current : BasicBlockId) (els : OptBlock) (t : Lent) {r : Lowered} {t₂ : Lent} →
+        isLeaf (patKind (row .kind)) (pathKind (row .a)) ≡ true → Lowers (λ ctx. leafPattern (patKind (row .kind)) image bindings (q .0) row mode ctx current els to) c current els t r t₂ →
+        Inner image bindings p mode c current els place t v r t₂ v₁
+    entered-leaf row same bindings c current els t leaf L =
+        E .goes e row same bindings c current els t
         (walks-by (λ ctx. sym (applied (leaf-by-kind (patKind (row .kind)) image bindings (q .0) row leaf) mode ctx current els to)) (lowers-walks v₁ L))

@@ -22,7 +22,6 @@ use Rattle.place.specs.PlaceTypes.{multiProjectionTy}
 use Rattle.mir.specs.declared.BasicBlockId.{BasicBlockId}
 use Rattle.mir.specs.declared.Counts.{Counts}
 use Rattle.mir.specs.Locals.{localTy}
-use Rattle.lower.specs.declared.temps.DiscrTemp.{DiscrTemp}
 use Rattle.lower.specs.declared.merging.OptBlock.{OptBlock}
 use Rattle.pattern_matching.specs.declared.MatchingMode.{MatchingMode}
 use Rattle.pattern_matching.specs.Walking.{Ctx, step}
@@ -58,27 +57,27 @@ pub derefs-reached : (place : Place) (n : ℕ) (b : Projected) → projectedResu
 derefs-reached place n b is e = derefs-reach place n (derefs-done place n b is e)
 
 -- `pattern_match_inner`: v is the visits' table before, and v₁ the one after p is visited
-module _ (image bindings : List ℕ) (p : PatId) (row : PatRow) (mode : MatchingMode) (c : Counts) (discr : DiscrTemp) (current : BasicBlockId) (els : OptBlock) (place : Place) (t : Lent) (v : List ℕ) {v₁ : List ℕ} (b : Projected)
+module _ (image bindings : List ℕ) (p : PatId) (row : PatRow) (mode : MatchingMode) (c : Counts) (current : BasicBlockId) (els : OptBlock) (place : Place) (t : Lent) (v : List ℕ) {v₁ : List ℕ} (b : Projected)
     (good : valid image ≡ true) (h : p .0 < patternCount image) (same : row ≡ patAt image (p .0)) (seen : v₁ ≡ visitedIn v p) (is : projectedResult b ≡ derefsOf place (row .derefs)) where
   -- there is no room for the derefs
-  pub inner-stops : b .ok ≡ false → Inner image bindings p mode c discr current els place t v (Lowered.Refused MirLowerError.Limit p) t v₁
+  pub inner-stops : b .ok ≡ false → Inner image bindings p mode c current els place t v (Lowered.Refused MirLowerError.Limit p) t v₁
   inner-stops e =
       rw seen
       (walks-by (λ ctx. sym (applied (by-read-row image bindings (p .0) row good h same) mode ctx current els place))
-      (enter-stops p (row .derefs) (kindPattern (patKind (row .kind)) image bindings (p .0) row) mode c discr current els place t v (derefs-full place (row .derefs) b is e)))
+      (enter-stops p (row .derefs) (kindPattern (patKind (row .kind)) image bindings (p .0) row) mode c current els place t v (derefs-full place (row .derefs) b is e)))
 
   -- it goes on by its kind
   pub inner-goes : {r : Lowered} {t₂ : Lent} {v₂ : List ℕ} → b .ok ≡ true →
-      Walks (λ ctx. kindPattern (patKind (row .kind)) image bindings (p .0) row mode ctx current els (b .place)) c discr current els t v₁ r t₂ v₂ → Inner image bindings p mode c discr current els place t v r t₂ v₂
+      Walks (λ ctx. kindPattern (patKind (row .kind)) image bindings (p .0) row mode ctx current els (b .place)) c current els t v₁ r t₂ v₂ → Inner image bindings p mode c current els place t v r t₂ v₂
   inner-goes e W =
       walks-by (λ ctx. sym (applied (by-read-row image bindings (p .0) row good h same) mode ctx current els place))
-      (enter-goes p (row .derefs) (kindPattern (patKind (row .kind)) image bindings (p .0) row) mode c discr current els place t v (derefs-done place (row .derefs) b is e) (rw seen at W))
+      (enter-goes p (row .derefs) (kindPattern (patKind (row .kind)) image bindings (p .0) row) mode c current els place t v (derefs-done place (row .derefs) b is e) (rw seen at W))
 
 -- by its kind
-module _ (image bindings : List ℕ) (p : PatId) (row : PatRow) (mode : MatchingMode) (c : Counts) (discr : DiscrTemp) (current : BasicBlockId) (els : OptBlock) (place : Place) (t : Lent) (v : List ℕ) where
+module _ (image bindings : List ℕ) (p : PatId) (row : PatRow) (mode : MatchingMode) (c : Counts) (current : BasicBlockId) (els : OptBlock) (place : Place) (t : Lent) (v : List ℕ) where
   -- what it promises
   abbrev Kind : Lowered → Lent → List ℕ → Type 0
-  Kind = Walks (λ ctx. kindPattern (patKind (row .kind)) image bindings (p .0) row mode ctx current els place) c discr current els t v
+  Kind = Walks (λ ctx. kindPattern (patKind (row .kind)) image bindings (p .0) row mode ctx current els place) c current els t v
 
   module _ (e : compoundKind (patKind (row .kind)) ≡ CompoundKind.Tuple) {ty : PlaceTy} (P : Placed image t c place)
       (is : ty ≡ multiProjectionTy image (localTy (getD (t .locals) (place .local .0) 0)) (projectionOf place)) where
@@ -98,7 +97,7 @@ module _ (image bindings : List ℕ) (p : PatId) (row : PatRow) (mode : Matching
         tuple-looks (λ scopes visits. n ∙ ap (λ (s : PlaceTy). tupleAt (shapeOf image s)) (place-ty-now image t c place P is scopes))
 
     pub kind-tuple : {fields : ℕ} {r : Lowered} {t₁ : Lent} {v₁ : List ℕ} → tupleResult (TupleAt.Fields fields) ≡ tupleAt (shapeOf image ty) →
-        Walks (λ ctx. patternMatchTupleLike (p .0) (lowered image bindings (row .a) (row .b)) (ellipsisAt (word? (row .c)) (lowered image bindings (row .a) (row .b))) fields mode ctx current els place) c discr current els t v r t₁ v₁ →
+        Walks (λ ctx. patternMatchTupleLike (p .0) (lowered image bindings (row .a) (row .b)) (ellipsisAt (word? (row .c)) (lowered image bindings (row .a) (row .b))) fields mode ctx current els place) c current els t v r t₁ v₁ →
         Kind r t₁ v₁
     kind-tuple n W =
         looks-then p (λ ctx. tupleAt (shapeOf image (placeTy image (ctx .state) place)))
@@ -108,27 +107,27 @@ module _ (image bindings : List ℕ) (p : PatId) (row : PatRow) (mode : Matching
   module _ {r : Lowered} {t₁ : Lent} {v₁ : List ℕ} where
     -- an Or
     pub kind-or : compoundKind (patKind (row .kind)) ≡ CompoundKind.Or →
-        Walks (λ ctx. orPattern (p .0) (lowered image bindings (row .a) (row .b)) mode ctx current els place) c discr current els t v r t₁ v₁ → Kind r t₁ v₁
+        Walks (λ ctx. orPattern (p .0) (lowered image bindings (row .a) (row .b)) mode ctx current els place) c current els t v r t₁ v₁ → Kind r t₁ v₁
     kind-or e W = walks-by (λ ctx. sym (applied (or-by-kind (patKind (row .kind)) image bindings (p .0) row e) mode ctx current els place)) W
 
     -- a Slice
     pub kind-slice : compoundKind (patKind (row .kind)) ≡ CompoundKind.Slice →
-        Walks (λ ctx. sliceOn (tyOf image (row .ty) .shape) image bindings (p .0) (lowered image bindings (row .a) (row .b)) (restOf (tree? (tree image) (row .d))) (lowered image bindings (row .a + row .b) (row .c)) mode ctx current els place) c discr current els t v r t₁ v₁ →
+        Walks (λ ctx. sliceOn (tyOf image (row .ty) .shape) image bindings (p .0) (lowered image bindings (row .a) (row .b)) (restOf (tree? (tree image) (row .d))) (lowered image bindings (row .a + row .b) (row .c)) mode ctx current els place) c current els t v r t₁ v₁ →
         Kind r t₁ v₁
     kind-slice e W = walks-by (λ ctx. sym (applied (slice-by-kind (patKind (row .kind)) image bindings (p .0) row e) mode ctx current els place)) W
 
     -- a Bind
     pub kind-bind : compoundKind (patKind (row .kind)) ≡ CompoundKind.Bind →
-        Walks (λ ctx. bindPattern bindings (p .0) (row .a) (bindingMode (row .c)) (lowering? image bindings (tree? (tree image) (row .b))) mode ctx current els place) c discr current els t v r t₁ v₁ → Kind r t₁ v₁
+        Walks (λ ctx. bindPattern bindings (p .0) (row .a) (bindingMode (row .c)) (lowering? image bindings (tree? (tree image) (row .b))) mode ctx current els place) c current els t v r t₁ v₁ → Kind r t₁ v₁
     kind-bind e W = walks-by (λ ctx. sym (applied (bind-by-kind (patKind (row .kind)) image bindings (p .0) row e) mode ctx current els place)) W
 
     -- a Ref
     pub kind-ref : compoundKind (patKind (row .kind)) ≡ CompoundKind.Ref →
-        Walks (λ ctx. refPattern image (p .0) (patternMatchInner image bindings (tree image (row .a))) mode ctx current els place) c discr current els t v r t₁ v₁ → Kind r t₁ v₁
+        Walks (λ ctx. refPattern image (p .0) (patternMatchInner image bindings (tree image (row .a))) mode ctx current els place) c current els t v r t₁ v₁ → Kind r t₁ v₁
     kind-ref e W = walks-by (λ ctx. sym (applied (ref-by-kind (patKind (row .kind)) image bindings (p .0) row e) mode ctx current els place)) W
 
     -- one that names a variant
     pub kind-variant : valid image ≡ true → p .0 < patternCount image → row ≡ patAt image (p .0) → isLeaf (patKind (row .kind)) (pathKind (row .a)) ≡ false →
         compoundKind (patKind (row .kind)) ≡ CompoundKind.Variant →
-        Walks (λ ctx. variantPattern image (p .0) (word? (variantWord row)) (arguments.shapeOf image bindings (variantShape row)) mode ctx current els place) c discr current els t v r t₁ v₁ → Kind r t₁ v₁
+        Walks (λ ctx. variantPattern image (p .0) (word? (variantWord row)) (arguments.shapeOf image bindings (variantShape row)) mode ctx current els place) c current els t v r t₁ v₁ → Kind r t₁ v₁
     kind-variant good h same leaf e W = walks-by (λ ctx. sym (applied (variant-by-kind image (p .0) row good h same bindings leaf e) mode ctx current els place)) W

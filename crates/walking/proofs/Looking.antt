@@ -21,7 +21,6 @@ use Rattle.mir.specs.declared.Counts.{Counts}
 use Rattle.mir.specs.Locals.{localTy}
 use Rattle.state.specs.State.{decode}
 use Rattle.state.proofs.Answering.{kept-refl}
-use Rattle.lower.specs.declared.temps.DiscrTemp.{DiscrTemp}
 use Rattle.lower.specs.declared.merging.OptBlock.{OptBlock}
 use Rattle.pattern_matching.specs.Walking.{Ctx, Out, Walk, refused, step, out}
 use Rattle.pattern_matching.specs.Variants.{placeTy}
@@ -32,11 +31,11 @@ use Rattle.walks.proofs.Sequences.{lowers-skips, lowers-walks}
 use Rattle.pattern_parts.specs.Parts.{Fills}
 use Rattle.pattern_parts.proofs.Visiting.{Reached, project-goes, project-reaches}
 
-module _ {defined : Ctx → Walk Out} {c : Counts} {discr : DiscrTemp} {current : BasicBlockId} {els : OptBlock} {t₀ : Lent} {v₀ : List ℕ} where
+module _ {defined : Ctx → Walk Out} {c : Counts} {current : BasicBlockId} {els : OptBlock} {t₀ : Lent} {v₀ : List ℕ} where
   -- the same by a definition that is equal for these tables
   pub walks-at : {defined₁ : Ctx → Walk Out} {r : Lowered} {t : Lent} {v : List ℕ} →
-      ((scopes visits : List ℕ) → defined (ctxOf (bodyOf t₀ scopes) c discr visits) ≡ defined₁ (ctxOf (bodyOf t₀ scopes) c discr visits)) →
-      Walks defined c discr current els t₀ v₀ r t v → Walks defined₁ c discr current els t₀ v₀ r t v
+      ((scopes visits : List ℕ) → defined (ctxOf (bodyOf t₀ scopes) c visits) ≡ defined₁ (ctxOf (bodyOf t₀ scopes) c visits)) →
+      Walks defined c current els t₀ v₀ r t v → Walks defined₁ c current els t₀ v₀ r t v
   walks-at same W = record {
     answers = λ scopes visits R H. let F = W .answers scopes visits R H in record { visits′ = F .visits′; holds = F .holds; answers = answers-by (same scopes visits) (F .answers) };
     leaves = W .leaves;
@@ -44,8 +43,8 @@ module _ {defined : Ctx → Walk Out} {c : Counts} {discr : DiscrTemp} {current 
   }
 
   -- a refusal before anything is done
-  pub walks-refuses : {e : MirLowerError} {p : PatId} → ((scopes visits : List ℕ) → refused e (p .0) ≡ defined (ctxOf (bodyOf t₀ scopes) c discr visits)) →
-      Walks defined c discr current els t₀ v₀ (Lowered.Refused e p) t₀ v₀
+  pub walks-refuses : {e : MirLowerError} {p : PatId} → ((scopes visits : List ℕ) → refused e (p .0) ≡ defined (ctxOf (bodyOf t₀ scopes) c visits)) →
+      Walks defined c current els t₀ v₀ (Lowered.Refused e p) t₀ v₀
   walks-refuses same = record {
     answers = λ scopes visits R H. record { visits′ = visits; holds = H; answers = refuses (same scopes visits) };
     leaves = λ P. (tt, kept-refl c (current .0) (bodyOf t₀ (zeros 32)));
@@ -53,19 +52,19 @@ module _ {defined : Ctx → Walk Out} {c : Counts} {discr : DiscrTemp} {current 
   }
 
   -- nothing to do
-  pub walks-skips : ((ctx : Ctx) → out ctx current els ≡ defined ctx) → Begins c current els → Walks defined c discr current els t₀ v₀ (Lowered.Done c discr current els) t₀ v₀
+  pub walks-skips : ((ctx : Ctx) → out ctx current els ≡ defined ctx) → Begins c current els → Walks defined c current els t₀ v₀ (Lowered.Done c current els) t₀ v₀
   walks-skips same h = lowers-walks v₀ (lowers-skips same h)
 
   -- a step that looks at something: it refuses, or the walk goes on with what it saw
   module _ {A : Type 0} (p : PatId) (look : Ctx → Result A) (k : A → Ctx → Walk Out) (same : (ctx : Ctx) → defined ctx ≡ step (p .0) (look ctx) (λ a. k a ctx)) where
-    pub looks-stops : {e : MirLowerError} → ((scopes visits : List ℕ) → stopped e ≡ look (ctxOf (bodyOf t₀ scopes) c discr visits)) →
-        Walks defined c discr current els t₀ v₀ (Lowered.Refused e p) t₀ v₀
+    pub looks-stops : {e : MirLowerError} → ((scopes visits : List ℕ) → stopped e ≡ look (ctxOf (bodyOf t₀ scopes) c visits)) →
+        Walks defined c current els t₀ v₀ (Lowered.Refused e p) t₀ v₀
     looks-stops seen = walks-refuses (λ scopes visits.
-        ap (λ (r : Result A). step (p .0) r (λ a. k a (ctxOf (bodyOf t₀ scopes) c discr visits))) (seen scopes visits)
-        ∙ sym (same (ctxOf (bodyOf t₀ scopes) c discr visits)))
+        ap (λ (r : Result A). step (p .0) r (λ a. k a (ctxOf (bodyOf t₀ scopes) c visits))) (seen scopes visits)
+        ∙ sym (same (ctxOf (bodyOf t₀ scopes) c visits)))
 
-    pub looks-then : {a : A} {r : Lowered} {t : Lent} {v : List ℕ} → ((scopes visits : List ℕ) → done a ≡ look (ctxOf (bodyOf t₀ scopes) c discr visits)) →
-        Walks (λ ctx. k a ctx) c discr current els t₀ v₀ r t v → Walks defined c discr current els t₀ v₀ r t v
+    pub looks-then : {a : A} {r : Lowered} {t : Lent} {v : List ℕ} → ((scopes visits : List ℕ) → done a ≡ look (ctxOf (bodyOf t₀ scopes) c visits)) →
+        Walks (λ ctx. k a ctx) c current els t₀ v₀ r t v → Walks defined c current els t₀ v₀ r t v
     looks-then {a = a} seen W = record {
       answers = λ scopes visits R H.
           let F = W .answers scopes visits R H in
@@ -73,7 +72,7 @@ module _ {defined : Ctx → Walk Out} {c : Counts} {discr : DiscrTemp} {current 
             visits′ = F .visits′;
             holds = F .holds;
             answers = answers-by
-                (ap (λ (r : Result A). step (p .0) r (λ a. k a (ctxOf (bodyOf t₀ scopes) c discr visits))) (seen scopes visits) ∙ sym (same (ctxOf (bodyOf t₀ scopes) c discr visits)))
+                (ap (λ (r : Result A). step (p .0) r (λ a. k a (ctxOf (bodyOf t₀ scopes) c visits))) (seen scopes visits) ∙ sym (same (ctxOf (bodyOf t₀ scopes) c visits)))
                 (F .answers);
           };
       leaves = W .leaves;
@@ -81,8 +80,8 @@ module _ {defined : Ctx → Walk Out} {c : Counts} {discr : DiscrTemp} {current 
     }
 
 -- a part that touches the statements and the entries
-pub fills-walks : {defined : Ctx → Walk Out} {c : Counts} {discr : DiscrTemp} {current : BasicBlockId} {els : OptBlock} {b s l e s₁ e₁ : List ℕ} {r : Lowered} (v : List ℕ) →
-    Primed (lent b s l e) c → Fills defined c discr current els s e r s₁ e₁ → Walks defined c discr current els (lent b s l e) v r (lent b s₁ l e₁) v
+pub fills-walks : {defined : Ctx → Walk Out} {c : Counts} {current : BasicBlockId} {els : OptBlock} {b s l e s₁ e₁ : List ℕ} {r : Lowered} (v : List ℕ) →
+    Primed (lent b s l e) c → Fills defined c current els s e r s₁ e₁ → Walks defined c current els (lent b s l e) v r (lent b s₁ l e₁) v
 fills-walks {b = b} {l = l} v P F = lowers-walks v (F b l P)
 
 -- the type of a place in the tables is that in the body that they are

@@ -17,7 +17,6 @@ use Rattle.place.specs.PlaceTypes.{multiProjectionTy}
 use Rattle.mir.specs.declared.BasicBlockId.{BasicBlockId}
 use Rattle.mir.specs.declared.Counts.{Counts}
 use Rattle.mir.specs.Locals.{localTy}
-use Rattle.lower.specs.declared.temps.DiscrTemp.{DiscrTemp}
 use Rattle.lower.specs.declared.merging.OptBlock.{OptBlock}
 use Rattle.pattern_matching.specs.declared.MatchingMode.{MatchingMode}
 use Rattle.pattern_matching.specs.Walking.{Ctx, Out, Walk, Lowering, next, step, project}
@@ -35,10 +34,10 @@ use Rattle.pattern_nodes.proofs.Branches.{no-subpattern, with-subpattern}
 use Rattle.walking.proofs.Looking.{looks-stops, looks-then, fills-walks, place-ty-now}
 
 -- a Ref pattern
-module _ (image : List ℕ) (p : PatId) (sub : Lowering) (mode : MatchingMode) (c : Counts) (discr : DiscrTemp) (current : BasicBlockId) (els : OptBlock) (place : Place) (t : Lent) (v : List ℕ) where
+module _ (image : List ℕ) (p : PatId) (sub : Lowering) (mode : MatchingMode) (c : Counts) (current : BasicBlockId) (els : OptBlock) (place : Place) (t : Lent) (v : List ℕ) where
   -- what it promises
   abbrev Ref : Lowered → Lent → List ℕ → Type 0
-  Ref = Walks (λ ctx. refPattern image (p .0) sub mode ctx current els place) c discr current els t v
+  Ref = Walks (λ ctx. refPattern image (p .0) sub mode ctx current els place) c current els t v
 
   -- the subpattern on what the reference refers to
   abbrev referent : Ctx → Walk Out
@@ -56,7 +55,7 @@ module _ (image : List ℕ) (p : PatId) (sub : Lowering) (mode : MatchingMode) (
         (λ scopes visits. n ∙ ap (λ (s : PlaceTy). referenceAt (shapeOf image s)) (place-ty-now image t c place P is scopes))
 
     module _ (n : referenceResult ReferenceAt.Reference ≡ referenceAt (shapeOf image ty)) {b : Projected} (Q : Projects place ProjectionElem.Deref b) where
-      ref-there : {r : Lowered} {t₁ : Lent} {v₁ : List ℕ} → Walks referent c discr current els t v r t₁ v₁ → Ref r t₁ v₁
+      ref-there : {r : Lowered} {t₁ : Lent} {v₁ : List ℕ} → Walks referent c current els t v r t₁ v₁ → Ref r t₁ v₁
       ref-there W =
           looks-then p (λ ctx. referenceAt (shapeOf image (placeTy image (ctx .state) place))) (λ there ctx. referent ctx) ref-looks
           (λ scopes visits. n ∙ ap (λ (s : PlaceTy). referenceAt (shapeOf image s)) (place-ty-now image t c place P is scopes)) W
@@ -67,15 +66,15 @@ module _ (image : List ℕ) (p : PatId) (sub : Lowering) (mode : MatchingMode) (
           ref-there (looks-stops p (λ ctx. project place ProjectionElem.Deref) (λ onward ctx. sub mode ctx current els onward) (λ ctx. refl) (λ scopes visits. project-stops place ProjectionElem.Deref Q e))
 
       -- the subpattern
-      pub ref-goes : {r : Lowered} {t₁ : Lent} {v₁ : List ℕ} → b .ok ≡ true → Walks (λ ctx. sub mode ctx current els (b .place)) c discr current els t v r t₁ v₁ → Ref r t₁ v₁
+      pub ref-goes : {r : Lowered} {t₁ : Lent} {v₁ : List ℕ} → b .ok ≡ true → Walks (λ ctx. sub mode ctx current els (b .place)) c current els t v r t₁ v₁ → Ref r t₁ v₁
       ref-goes e W =
           ref-there (looks-then p (λ ctx. project place ProjectionElem.Deref) (λ onward ctx. sub mode ctx current els onward) (λ ctx. refl) (λ scopes visits. project-goes place ProjectionElem.Deref Q e) W)
 
 -- `bound`: q is the word of the subpattern
-module _ (image bindings : List ℕ) (p : PatId) (b q : ℕ) (how : BindingMode) (mode : MatchingMode) (c : Counts) (discr : DiscrTemp) (current : BasicBlockId) (els : OptBlock) (place : Place) where
+module _ (image bindings : List ℕ) (p : PatId) (b q : ℕ) (how : BindingMode) (mode : MatchingMode) (c : Counts) (current : BasicBlockId) (els : OptBlock) (place : Place) where
   -- what it promises
   abbrev Bind : Lent → List ℕ → Lowered → Lent → List ℕ → Type 0
-  Bind = Walks (λ ctx. bindPattern bindings (p .0) b how (lowering? image bindings (tree? (tree image) q)) mode ctx current els place) c discr current els
+  Bind = Walks (λ ctx. bindPattern bindings (p .0) b how (lowering? image bindings (tree? (tree image) q)) mode ctx current els place) c current els
 
   -- the binding, behind the subpattern
   abbrev behindSub : Out → Walk Out
@@ -87,7 +86,7 @@ module _ (image bindings : List ℕ) (p : PatId) (b q : ℕ) (how : BindingMode)
 
   -- no subpattern
   pub bind-alone : {bl s l e s₁ e₁ v : List ℕ} {r : Lowered} → q ≡ 65535 → Primed (lent bl s l e) c →
-      Fills (λ ctx. bound bindings (p .0) b how mode ctx current els place) c discr current els s e r s₁ e₁ → Bind (lent bl s l e) v r (lent bl s₁ l e₁) v
+      Fills (λ ctx. bound bindings (p .0) b how mode ctx current els place) c current els s e r s₁ e₁ → Bind (lent bl s l e) v r (lent bl s₁ l e₁) v
   bind-alone {v = v} none P F =
       walks-by (λ ctx. sym (ap (λ (sub : Lowering). bindPattern bindings (p .0) b how sub mode ctx current els place) (no-subpattern image bindings q none) ∙ bind-as passing ctx)) (fills-walks v P F)
 
@@ -100,11 +99,11 @@ module _ (image bindings : List ℕ) (p : PatId) (b q : ℕ) (how : BindingMode)
 
     -- the subpattern is refused
     pub bind-stops : {t t₁ : Lent} {v v₁ : List ℕ} {x : MirLowerError} {at : PatId} →
-        Walks (λ ctx. patternMatchInner image bindings (tree image q) mode ctx current els place) c discr current els t v (Lowered.Refused x at) t₁ v₁ → Bind t v (Lowered.Refused x at) t₁ v₁
+        Walks (λ ctx. patternMatchInner image bindings (tree image q) mode ctx current els place) c current els t v (Lowered.Refused x at) t₁ v₁ → Bind t v (Lowered.Refused x at) t₁ v₁
     bind-stops W = walks-by bind-with (walks-stops behindSub W)
 
     -- the binding behind it
-    pub bind-then : {t : Lent} {v : List ℕ} {c₁ : Counts} {d₁ : DiscrTemp} {then : BasicBlockId} {other : OptBlock} {bl s l e s₁ e₁ v₁ : List ℕ} {r : Lowered} → Primed t c →
-        Walks (λ ctx. patternMatchInner image bindings (tree image q) mode ctx current els place) c discr current els t v (Lowered.Done c₁ d₁ then other) (lent bl s l e) v₁ →
-        Fills (λ ctx. bound bindings (p .0) b how mode ctx then other place) c₁ d₁ then other s e r s₁ e₁ → Bind t v r (lent bl s₁ l e₁) v₁
+    pub bind-then : {t : Lent} {v : List ℕ} {c₁ : Counts} {then : BasicBlockId} {other : OptBlock} {bl s l e s₁ e₁ v₁ : List ℕ} {r : Lowered} → Primed t c →
+        Walks (λ ctx. patternMatchInner image bindings (tree image q) mode ctx current els place) c current els t v (Lowered.Done c₁ then other) (lent bl s l e) v₁ →
+        Fills (λ ctx. bound bindings (p .0) b how mode ctx then other place) c₁ then other s e r s₁ e₁ → Bind t v r (lent bl s₁ l e₁) v₁
     bind-then {v₁ = v₁} P W F = walks-by bind-with (walks-then W P behindSub (fills-walks v₁ (primed-after W P) F))

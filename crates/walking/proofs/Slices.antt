@@ -11,7 +11,6 @@ use Rattle.image.specs.Tree.{tree, tree?}
 use Rattle.place.specs.declared.Place.{Place}
 use Rattle.mir.specs.declared.BasicBlockId.{BasicBlockId}
 use Rattle.mir.specs.declared.Counts.{Counts}
-use Rattle.lower.specs.declared.temps.DiscrTemp.{DiscrTemp}
 use Rattle.lower.specs.declared.merging.OptBlock.{OptBlock}
 use Rattle.pattern_matching.specs.declared.MatchingMode.{MatchingMode}
 use Rattle.pattern_matching.specs.Walking.{Ctx, Out, Walk, Lowering, next}
@@ -47,7 +46,7 @@ slice-tested (array t n) image bindings p prefix rest suffix mode ctx current el
 slice-tested (slice t) image bindings p prefix rest suffix mode ctx current els place = refl
 slice-tested unknown image bindings p prefix rest suffix mode ctx current els place = refl
 
-module _ (image bindings : List ℕ) (p : PatId) (rest from front back : ℕ) (mode : MatchingMode) (c : Counts) (discr : DiscrTemp) (current : BasicBlockId) (els : OptBlock) (place : Place) where
+module _ (image bindings : List ℕ) (p : PatId) (rest from front back : ℕ) (mode : MatchingMode) (c : Counts) (current : BasicBlockId) (els : OptBlock) (place : Place) where
   -- the items at the end, behind the rest
   abbrev behindRest : Out → Walk Out
   behindRest r = argumentsFrom ArgumentRow.LastItems image bindings (p .0) from back 0 back mode (r .ctx) (r .then) (r .else) place
@@ -59,28 +58,28 @@ module _ (image bindings : List ℕ) (p : PatId) (rest from front back : ℕ) (m
   module _ {bl s l e s₁ e₁ v : List ℕ} (P : Primed (lent bl s l e) c) where
     -- in `slice`: the rest is refused
     pub slice-behind-stops : {x : MirLowerError} {at : PatId} →
-        Fills (λ ctx. restBound (restOf (tree? (tree image) rest)) bindings (p .0) front back mode ctx current els place) c discr current els s e (Lowered.Refused x at) s₁ e₁ →
-        Walks (λ ctx. sliceBehind image bindings (p .0) rest from front back mode ctx current els place) c discr current els (lent bl s l e) v (Lowered.Refused x at) (lent bl s₁ l e₁) v
+        Fills (λ ctx. restBound (restOf (tree? (tree image) rest)) bindings (p .0) front back mode ctx current els place) c current els s e (Lowered.Refused x at) s₁ e₁ →
+        Walks (λ ctx. sliceBehind image bindings (p .0) rest from front back mode ctx current els place) c current els (lent bl s l e) v (Lowered.Refused x at) (lent bl s₁ l e₁) v
     slice-behind-stops F = walks-by behind-as (walks-stops behindRest (fills-walks v P F))
 
     -- the items at the end
-    pub slice-behind-then : {c₁ : Counts} {d₁ : DiscrTemp} {then : BasicBlockId} {other : OptBlock} {r : Lowered} {t₂ : Lent} {v₂ : List ℕ} →
-        Fills (λ ctx. restBound (restOf (tree? (tree image) rest)) bindings (p .0) front back mode ctx current els place) c discr current els s e (Lowered.Done c₁ d₁ then other) s₁ e₁ →
-        Walks (λ ctx. argumentsFrom ArgumentRow.LastItems image bindings (p .0) from back 0 back mode ctx then other place) c₁ d₁ then other (lent bl s₁ l e₁) v r t₂ v₂ →
-        Walks (λ ctx. sliceBehind image bindings (p .0) rest from front back mode ctx current els place) c discr current els (lent bl s l e) v r t₂ v₂
+    pub slice-behind-then : {c₁ : Counts} {then : BasicBlockId} {other : OptBlock} {r : Lowered} {t₂ : Lent} {v₂ : List ℕ} →
+        Fills (λ ctx. restBound (restOf (tree? (tree image) rest)) bindings (p .0) front back mode ctx current els place) c current els s e (Lowered.Done c₁ then other) s₁ e₁ →
+        Walks (λ ctx. argumentsFrom ArgumentRow.LastItems image bindings (p .0) from back 0 back mode ctx then other place) c₁ then other (lent bl s₁ l e₁) v r t₂ v₂ →
+        Walks (λ ctx. sliceBehind image bindings (p .0) rest from front back mode ctx current els place) c current els (lent bl s l e) v r t₂ v₂
     slice-behind-then F S = walks-by behind-as (walks-then (fills-walks v P F) P behindRest S)
 
     -- no item at the end
-    pub slice-behind-none : {c₁ : Counts} {d₁ : DiscrTemp} {then : BasicBlockId} {other : OptBlock} →
-        Fills (λ ctx. restBound (restOf (tree? (tree image) rest)) bindings (p .0) front back mode ctx current els place) c discr current els s e (Lowered.Done c₁ d₁ then other) s₁ e₁ → back ≡ 0 →
-        Walks (λ ctx. sliceBehind image bindings (p .0) rest from front back mode ctx current els place) c discr current els (lent bl s l e) v (Lowered.Done c₁ d₁ then other) (lent bl s₁ l e₁) v
+    pub slice-behind-none : {c₁ : Counts} {then : BasicBlockId} {other : OptBlock} →
+        Fills (λ ctx. restBound (restOf (tree? (tree image) rest)) bindings (p .0) front back mode ctx current els place) c current els s e (Lowered.Done c₁ then other) s₁ e₁ → back ≡ 0 →
+        Walks (λ ctx. sliceBehind image bindings (p .0) rest from front back mode ctx current els place) c current els (lent bl s l e) v (Lowered.Done c₁ then other) (lent bl s₁ l e₁) v
     slice-behind-none {c₁} {d₁} {then} {other} F none =
         slice-behind-then F (walks-by (λ ctx. ap (λ (k : ℕ). argumentsFrom ArgumentRow.LastItems image bindings (p .0) from back 0 k mode ctx then other place) (sym none))
-        (arguments-end ArgumentRow.LastItems image bindings p from back 0 mode place 0 c₁ d₁ then other (lent bl s₁ l e₁) v (omega arith) (fills-walks v P F .onward .begins)))
+        (arguments-end ArgumentRow.LastItems image bindings p from back 0 mode place 0 c₁ then other (lent bl s₁ l e₁) v (omega arith) (fills-walks v P F .onward .begins)))
 
   -- what `slice` promises of the items, behind its test
   abbrev Items : Lent → List ℕ → Lowered → Lent → List ℕ → Type 0
-  Items = Walks (λ ctx. sliceItems bindings (p .0) (lowered image bindings from front) (restOf (tree? (tree image) rest)) (lowered image bindings (from + front) back) mode ctx current els place) c discr current els
+  Items = Walks (λ ctx. sliceItems bindings (p .0) (lowered image bindings from front) (restOf (tree? (tree image) rest)) (lowered image bindings (from + front) back) mode ctx current els place) c current els
 
   -- what is behind the items in front
   abbrev behindFront : Out → Walk Out
@@ -93,13 +92,13 @@ module _ (image bindings : List ℕ) (p : PatId) (rest from front back : ℕ) (m
 
   -- one in front is refused
   pub slice-items-stop : {t t₁ : Lent} {v v₁ : List ℕ} {x : MirLowerError} {at : PatId} →
-      Walks (λ ctx. argumentsFrom ArgumentRow.Items image bindings (p .0) from 0 0 front mode ctx current els place) c discr current els t v (Lowered.Refused x at) t₁ v₁ → Items t v (Lowered.Refused x at) t₁ v₁
+      Walks (λ ctx. argumentsFrom ArgumentRow.Items image bindings (p .0) from 0 0 front mode ctx current els place) c current els t v (Lowered.Refused x at) t₁ v₁ → Items t v (Lowered.Refused x at) t₁ v₁
   slice-items-stop W = walks-by items-as (walks-stops behindFront W)
 
   -- what is behind them
-  pub slice-items-then : {t t₁ t₂ : Lent} {v v₁ v₂ : List ℕ} {c₁ : Counts} {d₁ : DiscrTemp} {then : BasicBlockId} {other : OptBlock} {r : Lowered} → Primed t c →
-      Walks (λ ctx. argumentsFrom ArgumentRow.Items image bindings (p .0) from 0 0 front mode ctx current els place) c discr current els t v (Lowered.Done c₁ d₁ then other) t₁ v₁ →
-      Walks (λ ctx. sliceBehind image bindings (p .0) rest (from + front) front back mode ctx then other place) c₁ d₁ then other t₁ v₁ r t₂ v₂ → Items t v r t₂ v₂
+  pub slice-items-then : {t t₁ t₂ : Lent} {v v₁ v₂ : List ℕ} {c₁ : Counts} {then : BasicBlockId} {other : OptBlock} {r : Lowered} → Primed t c →
+      Walks (λ ctx. argumentsFrom ArgumentRow.Items image bindings (p .0) from 0 0 front mode ctx current els place) c current els t v (Lowered.Done c₁ then other) t₁ v₁ →
+      Walks (λ ctx. sliceBehind image bindings (p .0) rest (from + front) front back mode ctx then other place) c₁ then other t₁ v₁ r t₂ v₂ → Items t v r t₂ v₂
   slice-items-then P W S = walks-by items-as (walks-then W P behindFront S)
 
   -- `slice`, of the type ty
@@ -108,7 +107,7 @@ module _ (image bindings : List ℕ) (p : PatId) (rest from front back : ℕ) (m
     abbrev Slice : Lent → List ℕ → Lowered → Lent → List ℕ → Type 0
     Slice =
         Walks (λ ctx. sliceOn (tyOf image ty .shape) image bindings (p .0) (lowered image bindings from front) (restOf (tree? (tree image) rest)) (lowered image bindings (from + front) back) mode ctx current els place)
-        c discr current els
+        c current els
 
     -- the items, behind the test
     abbrev behindLength : Out → Walk Out
@@ -124,12 +123,12 @@ module _ (image bindings : List ℕ) (p : PatId) (rest from front back : ℕ) (m
 
     -- the test is refused
     pub slice-stops : {t t₁ : Lent} {v : List ℕ} {x : MirLowerError} {at : PatId} →
-        Lowers (λ ctx. sliceTest (tyOf image ty .shape) image (p .0) n (restOf (tree? (tree image) rest)) mode ctx current els place) c discr current els t (Lowered.Refused x at) t₁ → Slice t v (Lowered.Refused x at) t₁ v
+        Lowers (λ ctx. sliceTest (tyOf image ty .shape) image (p .0) n (restOf (tree? (tree image) rest)) mode ctx current els place) c current els t (Lowered.Refused x at) t₁ → Slice t v (Lowered.Refused x at) t₁ v
     slice-stops {v = v} L = walks-by slice-as (walks-stops behindLength (lowers-walks v L))
 
     -- the items
-    pub slice-then : {t t₁ t₂ : Lent} {v v₂ : List ℕ} {c₁ : Counts} {d₁ : DiscrTemp} {then : BasicBlockId} {other : OptBlock} {r : Lowered} → Primed t c →
-        Lowers (λ ctx. sliceTest (tyOf image ty .shape) image (p .0) n (restOf (tree? (tree image) rest)) mode ctx current els place) c discr current els t (Lowered.Done c₁ d₁ then other) t₁ →
-        Walks (λ ctx. sliceItems bindings (p .0) (lowered image bindings from front) (restOf (tree? (tree image) rest)) (lowered image bindings (from + front) back) mode ctx then other place) c₁ d₁ then other t₁ v r t₂ v₂ →
+    pub slice-then : {t t₁ t₂ : Lent} {v v₂ : List ℕ} {c₁ : Counts} {then : BasicBlockId} {other : OptBlock} {r : Lowered} → Primed t c →
+        Lowers (λ ctx. sliceTest (tyOf image ty .shape) image (p .0) n (restOf (tree? (tree image) rest)) mode ctx current els place) c current els t (Lowered.Done c₁ then other) t₁ →
+        Walks (λ ctx. sliceItems bindings (p .0) (lowered image bindings from front) (restOf (tree? (tree image) rest)) (lowered image bindings (from + front) back) mode ctx then other place) c₁ then other t₁ v r t₂ v₂ →
         Slice t v r t₂ v₂
     slice-then {v = v} P L S = walks-by slice-as (walks-then (lowers-walks v L) P behindLength S)

@@ -8,7 +8,6 @@ use Rattle.image.specs.declared.PatId.{PatId}
 use Rattle.place.specs.declared.Place.{Place}
 use Rattle.mir.specs.declared.BasicBlockId.{BasicBlockId}
 use Rattle.mir.specs.declared.Counts.{Counts}
-use Rattle.lower.specs.declared.temps.DiscrTemp.{DiscrTemp}
 use Rattle.lower.specs.declared.merging.OptBlock.{OptBlock}
 use Rattle.pattern_matching.specs.declared.MatchingMode.{MatchingMode}
 use Rattle.pattern_matching.specs.Modes.{isCheck}
@@ -36,8 +35,8 @@ beyond-check MatchingMode.Assign test skip e = refl
 
 -- a part without an else, whose place another else takes
 with-else : {defined : Ctx → Walk Out} {c c₁ : Counts} {d d₁ : DiscrTemp} {current then : BasicBlockId} {x : OptBlock} {t t₁ : Lent} {v v₁ : List ℕ} (other : OptBlock) → Begins c current other → Primed t c →
-    Walks defined c d current OptBlock.None t v (Lowered.Done c₁ d₁ then x) t₁ v₁ →
-    Walks (λ ctx. next (defined ctx) (λ b. out (b .ctx) (b .then) other)) c d current other t v (Lowered.Done c₁ d₁ then other) t₁ v₁
+    Walks defined c current OptBlock.None t v (Lowered.Done c₁ then x) t₁ v₁ →
+    Walks (λ ctx. next (defined ctx) (λ b. out (b .ctx) (b .then) other)) c current other t v (Lowered.Done c₁ then other) t₁ v₁
 with-else other B P W = record {
   answers = λ scopes visits R H.
       let F = W .answers scopes visits R H in
@@ -52,10 +51,10 @@ with-else other B P W = record {
       record { own = W .onward .own; own-else = same .own-else; begins = record { start = W .onward .begins .start; else = same .begins .else } };
 }
 
-module _ (alt : Lowering) (mode : MatchingMode) (c : Counts) (discr : DiscrTemp) (current : BasicBlockId) (place : Place) (t : Lent) (v : List ℕ) where
+module _ (alt : Lowering) (mode : MatchingMode) (c : Counts) (current : BasicBlockId) (place : Place) (t : Lent) (v : List ℕ) where
   -- what it promises
   abbrev Tried : Lowered → Lent → List ℕ → Type 0
-  Tried = Walks (λ ctx. alternative alt mode ctx current place) c discr current OptBlock.None t v
+  Tried = Walks (λ ctx. alternative alt mode ctx current place) c current OptBlock.None t v
 
   -- behind the test
   abbrev behindCheck : Out → Walk Out
@@ -63,23 +62,23 @@ module _ (alt : Lowering) (mode : MatchingMode) (c : Counts) (discr : DiscrTemp)
 
   -- the test is refused
   pub alternative-stops : {x : MirLowerError} {at : PatId} {t₁ : Lent} {v₁ : List ℕ} →
-      Walks (λ ctx. alt MatchingMode.Check ctx current OptBlock.None place) c discr current OptBlock.None t v (Lowered.Refused x at) t₁ v₁ → Tried (Lowered.Refused x at) t₁ v₁
+      Walks (λ ctx. alt MatchingMode.Check ctx current OptBlock.None place) c current OptBlock.None t v (Lowered.Refused x at) t₁ v₁ → Tried (Lowered.Refused x at) t₁ v₁
   alternative-stops W = walks-stops behindCheck W
 
-  module _ (P : Primed t c) {c₁ : Counts} {d₁ : DiscrTemp} {then : BasicBlockId} {other : OptBlock} {t₁ : Lent} {v₁ : List ℕ}
-      (W : Walks (λ ctx. alt MatchingMode.Check ctx current OptBlock.None place) c discr current OptBlock.None t v (Lowered.Done c₁ d₁ then other) t₁ v₁) where
+  module _ (P : Primed t c) {c₁ : Counts} {then : BasicBlockId} {other : OptBlock} {t₁ : Lent} {v₁ : List ℕ}
+      (W : Walks (λ ctx. alt MatchingMode.Check ctx current OptBlock.None place) c current OptBlock.None t v (Lowered.Done c₁ then other) t₁ v₁) where
     -- in Check there is nothing more to do
-    pub alternative-tested : isCheck mode ≡ true → Tried (Lowered.Done c₁ d₁ then other) t₁ v₁
+    pub alternative-tested : isCheck mode ≡ true → Tried (Lowered.Done c₁ then other) t₁ v₁
     alternative-tested e = walks-then W P behindCheck (walks-skips (λ ctx. sym (in-check mode _ _ e)) (W .onward .begins))
 
     -- it is walked again, and refused
     pub alternative-again-stops : {x : MirLowerError} {at : PatId} {t₂ : Lent} {v₂ : List ℕ} → isCheck mode ≡ false →
-        Walks (λ ctx. alt mode ctx then OptBlock.None place) c₁ d₁ then OptBlock.None t₁ v₁ (Lowered.Refused x at) t₂ v₂ → Tried (Lowered.Refused x at) t₂ v₂
+        Walks (λ ctx. alt mode ctx then OptBlock.None place) c₁ then OptBlock.None t₁ v₁ (Lowered.Refused x at) t₂ v₂ → Tried (Lowered.Refused x at) t₂ v₂
     alternative-again-stops e S =
         let B = walks-stops (λ b. out (b .ctx) (b .then) other) S in
         walks-then W P behindCheck (walks-by (λ ctx. sym (beyond-check mode _ _ e)) (record { answers = B .answers; leaves = B .leaves; onward = tt }))
 
     -- and goes on, with the else of the test
-    pub alternative-again : {c₂ : Counts} {d₂ : DiscrTemp} {last : BasicBlockId} {x : OptBlock} {t₂ : Lent} {v₂ : List ℕ} → isCheck mode ≡ false →
-        Walks (λ ctx. alt mode ctx then OptBlock.None place) c₁ d₁ then OptBlock.None t₁ v₁ (Lowered.Done c₂ d₂ last x) t₂ v₂ → Tried (Lowered.Done c₂ d₂ last other) t₂ v₂
+    pub alternative-again : {c₂ : Counts} {last : BasicBlockId} {x : OptBlock} {t₂ : Lent} {v₂ : List ℕ} → isCheck mode ≡ false →
+        Walks (λ ctx. alt mode ctx then OptBlock.None place) c₁ then OptBlock.None t₁ v₁ (Lowered.Done c₂ last x) t₂ v₂ → Tried (Lowered.Done c₂ last other) t₂ v₂
     alternative-again e S = walks-then W P behindCheck (walks-by (λ ctx. sym (beyond-check mode _ _ e)) (with-else other (W .onward .begins) (primed-after W P) S))

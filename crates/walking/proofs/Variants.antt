@@ -19,7 +19,6 @@ use Rattle.place.specs.PlaceTypes.{multiProjectionTy}
 use Rattle.mir.specs.declared.BasicBlockId.{BasicBlockId}
 use Rattle.mir.specs.declared.Counts.{Counts}
 use Rattle.mir.specs.Locals.{localTy}
-use Rattle.lower.specs.declared.temps.DiscrTemp.{DiscrTemp}
 use Rattle.lower.specs.declared.merging.OptBlock.{OptBlock}
 use Rattle.pattern_matching.specs.declared.MatchingMode.{MatchingMode}
 use Rattle.pattern_matching.specs.Walking.{Ctx, Out, Walk, next, step, project}
@@ -44,13 +43,13 @@ use Rattle.pattern_nodes.proofs.Branches.{no-variant, with-variant}
 use Rattle.walking.proofs.Arguments.{arguments-end}
 use Rattle.walking.proofs.Looking.{walks-refuses, walks-skips, looks-stops, looks-then, place-ty-now}
 
-module _ (image bindings : List ℕ) (p : PatId) (mode : MatchingMode) (c : Counts) (discr : DiscrTemp) (current : BasicBlockId) (els : OptBlock) (place : Place) (t : Lent) (v : List ℕ) where
+module _ (image bindings : List ℕ) (p : PatId) (mode : MatchingMode) (c : Counts) (current : BasicBlockId) (els : OptBlock) (place : Place) (t : Lent) (v : List ℕ) where
   -- `pattern_match_tuple_like`
   module _ (from count ellipsis fields before : ℕ) (is : before ≡ beforeEllipsis ellipsis count) where
     -- what it promises
     abbrev TupleLike : Lowered → Lent → List ℕ → Type 0
     TupleLike =
-        Walks (λ ctx. patternMatchTupleLike (p .0) (lowered image bindings from count) (ellipsisAt (word? ellipsis) (lowered image bindings from count)) fields mode ctx current els place) c discr current els t v
+        Walks (λ ctx. patternMatchTupleLike (p .0) (lowered image bindings from count) (ellipsisAt (word? ellipsis) (lowered image bindings from count)) fields mode ctx current els place) c current els t v
 
     -- more arguments before the ellipsis than there are
     pub tuple-like-stops : count < before → TupleLike (Lowered.Refused MirLowerError.Ellipsis p) t v
@@ -68,38 +67,38 @@ module _ (image bindings : List ℕ) (p : PatId) (mode : MatchingMode) (c : Coun
 
       -- one before the ellipsis is refused
       pub tuple-like-first : {x : MirLowerError} {at : PatId} {t₁ : Lent} {v₁ : List ℕ} →
-          Walks (λ ctx. argumentsFrom ArgumentRow.Fields image bindings (p .0) from fields 0 m mode ctx current els place) c discr current els t v (Lowered.Refused x at) t₁ v₁ → TupleLike (Lowered.Refused x at) t₁ v₁
+          Walks (λ ctx. argumentsFrom ArgumentRow.Fields image bindings (p .0) from fields 0 m mode ctx current els place) c current els t v (Lowered.Refused x at) t₁ v₁ → TupleLike (Lowered.Refused x at) t₁ v₁
       tuple-like-first W = walks-by tuple-like-as (walks-stops behindEllipsis W)
 
       -- those behind it
-      pub tuple-like-then : {c₁ : Counts} {d₁ : DiscrTemp} {then : BasicBlockId} {other : OptBlock} {t₁ : Lent} {v₁ : List ℕ} (n : ℕ) {r : Lowered} {t₂ : Lent} {v₂ : List ℕ} → Primed t c →
-          Walks (λ ctx. argumentsFrom ArgumentRow.Fields image bindings (p .0) from fields 0 m mode ctx current els place) c discr current els t v (Lowered.Done c₁ d₁ then other) t₁ v₁ →
+      pub tuple-like-then : {c₁ : Counts} {then : BasicBlockId} {other : OptBlock} {t₁ : Lent} {v₁ : List ℕ} (n : ℕ) {r : Lowered} {t₂ : Lent} {v₂ : List ℕ} → Primed t c →
+          Walks (λ ctx. argumentsFrom ArgumentRow.Fields image bindings (p .0) from fields 0 m mode ctx current els place) c current els t v (Lowered.Done c₁ then other) t₁ v₁ →
           n ≡ smaller (count - before) fields →
-          Walks (λ ctx. argumentsFrom ArgumentRow.LastFields image bindings (p .0) (from + count) fields 0 n mode ctx then other place) c₁ d₁ then other t₁ v₁ r t₂ v₂ → TupleLike r t₂ v₂
+          Walks (λ ctx. argumentsFrom ArgumentRow.LastFields image bindings (p .0) (from + count) fields 0 n mode ctx then other place) c₁ then other t₁ v₁ r t₂ v₂ → TupleLike r t₂ v₂
       tuple-like-then n P W last S = walks-by tuple-like-as (walks-then W P behindEllipsis (rw last at S))
 
       -- none is behind it
-      pub tuple-like-none-behind : {c₁ : Counts} {d₁ : DiscrTemp} {then : BasicBlockId} {other : OptBlock} {t₁ : Lent} {v₁ : List ℕ} → Primed t c →
-          Walks (λ ctx. argumentsFrom ArgumentRow.Fields image bindings (p .0) from fields 0 m mode ctx current els place) c discr current els t v (Lowered.Done c₁ d₁ then other) t₁ v₁ →
-          count ≡ before → TupleLike (Lowered.Done c₁ d₁ then other) t₁ v₁
+      pub tuple-like-none-behind : {c₁ : Counts} {then : BasicBlockId} {other : OptBlock} {t₁ : Lent} {v₁ : List ℕ} → Primed t c →
+          Walks (λ ctx. argumentsFrom ArgumentRow.Fields image bindings (p .0) from fields 0 m mode ctx current els place) c current els t v (Lowered.Done c₁ then other) t₁ v₁ →
+          count ≡ before → TupleLike (Lowered.Done c₁ then other) t₁ v₁
       tuple-like-none-behind {c₁} {d₁} {then} {other} {t₁} {v₁} P W none =
           let e : count - before ≡ 0 = omega (arith, none) in
           tuple-like-then 0 P W (sym (ap (λ (k : ℕ). smaller k fields) e ∙ zero-smaller fields))
-          (arguments-end ArgumentRow.LastFields image bindings p (from + count) fields 0 mode place 0 c₁ d₁ then other t₁ v₁ (omega arith) (W .onward .begins))
+          (arguments-end ArgumentRow.LastFields image bindings p (from + count) fields 0 mode place 0 c₁ then other t₁ v₁ (omega arith) (W .onward .begins))
 
   -- `pattern_matching_variant_fields`
   module _ (fields : ℕ) where
     -- what it promises
     abbrev VariantFields : AdtPatternShape → Lowered → Lent → List ℕ → Type 0
-    VariantFields shape = Walks (λ ctx. variantFields (shapeOf image bindings shape) (p .0) fields mode ctx current els place) c discr current els t v
+    VariantFields shape = Walks (λ ctx. variantFields (shapeOf image bindings shape) (p .0) fields mode ctx current els place) c current els t v
 
     -- none
-    pub fields-unit : Begins c current els → VariantFields AdtPatternShape.Unit (Lowered.Done c discr current els) t v
+    pub fields-unit : Begins c current els → VariantFields AdtPatternShape.Unit (Lowered.Done c current els) t v
     fields-unit B = walks-skips (λ ctx. sym (applied (unit-shape image bindings (p .0) fields) mode ctx current els place)) B
 
     -- in a row
     pub fields-tuple : (from count ellipsis : ℕ) {r : Lowered} {t₁ : Lent} {v₁ : List ℕ} →
-        Walks (λ ctx. patternMatchTupleLike (p .0) (lowered image bindings from count) (ellipsisAt (word? ellipsis) (lowered image bindings from count)) fields mode ctx current els place) c discr current els t v r t₁ v₁ →
+        Walks (λ ctx. patternMatchTupleLike (p .0) (lowered image bindings from count) (ellipsisAt (word? ellipsis) (lowered image bindings from count)) fields mode ctx current els place) c current els t v r t₁ v₁ →
         VariantFields (AdtPatternShape.Tuple from count ellipsis) r t₁ v₁
     fields-tuple from count ellipsis W = walks-by (λ ctx. sym (applied (tuple-shape image bindings (p .0) fields from count ellipsis) mode ctx current els place)) W
 
@@ -110,7 +109,7 @@ module _ (image bindings : List ℕ) (p : PatId) (mode : MatchingMode) (c : Coun
 
     -- by fields that are all there
     pub fields-record : (from count : ℕ) {r : Lowered} {t₁ : Lent} {v₁ : List ℕ} → fields ≤ 65535 → fieldsThere image from count fields ≡ true →
-        Walks (λ ctx. argumentsFrom ArgumentRow.RecordFields image bindings (p .0) from fields 0 count mode ctx current els place) c discr current els t v r t₁ v₁ →
+        Walks (λ ctx. argumentsFrom ArgumentRow.RecordFields image bindings (p .0) from fields 0 count mode ctx current els place) c current els t v r t₁ v₁ →
         VariantFields (AdtPatternShape.Record from count) r t₁ v₁
     unfolding fieldsThere
     fields-record from count few e W = walks-by (λ ctx. sym (applied (record-by-rows image bindings (p .0) fields from count few e) mode ctx current els place)) W
@@ -119,7 +118,7 @@ module _ (image bindings : List ℕ) (p : PatId) (mode : MatchingMode) (c : Coun
   module _ (w : ℕ) (shape : AdtPatternShape) where
     -- what it promises
     abbrev Variant : Lowered → Lent → List ℕ → Type 0
-    Variant = Walks (λ ctx. patternMatchingVariant image (p .0) w (shapeOf image bindings shape) mode ctx current els place) c discr current els t v
+    Variant = Walks (λ ctx. patternMatchingVariant image (p .0) w (shapeOf image bindings shape) mode ctx current els place) c current els t v
 
     module _ {ty : PlaceTy} (P : Placed image t c place) (is : ty ≡ multiProjectionTy image (localTy (getD (t .locals) (place .local .0) 0)) (projectionOf place)) where
       variant-looks : (ctx : Ctx) →
@@ -137,7 +136,7 @@ module _ (image bindings : List ℕ) (p : PatId) (mode : MatchingMode) (c : Coun
 
       -- a struct
       pub variant-struct : {r : Lowered} {t₁ : Lent} {v₁ : List ℕ} (fields : ℕ) → adtResult AdtAt.Struct ≡ adtAt (defined.shapeOf image ty) w → fields ≡ length (variantOf image w .fields) →
-          Walks (λ ctx. variantFields (shapeOf image bindings shape) (p .0) fields mode ctx current els place) c discr current els t v r t₁ v₁ → Variant r t₁ v₁
+          Walks (λ ctx. variantFields (shapeOf image bindings shape) (p .0) fields mode ctx current els place) c current els t v r t₁ v₁ → Variant r t₁ v₁
       unfolding variantOn
       variant-struct fields n many W =
           looks-then p (λ ctx. adtAt (defined.shapeOf image (placeTy image (ctx .state) place)) w)
@@ -147,7 +146,7 @@ module _ (image bindings : List ℕ) (p : PatId) (mode : MatchingMode) (c : Coun
 
       -- an enum
       pub variant-enum : {r : Lowered} {t₁ : Lent} {v₁ : List ℕ} → adtResult AdtAt.Enum ≡ adtAt (defined.shapeOf image ty) w →
-          Walks (λ ctx. variantOn AdtKind.Enum image (p .0) w (shapeOf image bindings shape) mode ctx current els place) c discr current els t v r t₁ v₁ → Variant r t₁ v₁
+          Walks (λ ctx. variantOn AdtKind.Enum image (p .0) w (shapeOf image bindings shape) mode ctx current els place) c current els t v r t₁ v₁ → Variant r t₁ v₁
       variant-enum n W =
           looks-then p (λ ctx. adtAt (defined.shapeOf image (placeTy image (ctx .state) place)) w)
           (λ kind ctx. variantOn kind image (p .0) w (shapeOf image bindings shape) mode ctx current els place) variant-looks
@@ -155,7 +154,7 @@ module _ (image bindings : List ℕ) (p : PatId) (mode : MatchingMode) (c : Coun
 
     -- what an enum's variant promises
     abbrev Enum : Lowered → Lent → List ℕ → Type 0
-    Enum = Walks (λ ctx. variantOn AdtKind.Enum image (p .0) w (shapeOf image bindings shape) mode ctx current els place) c discr current els t v
+    Enum = Walks (λ ctx. variantOn AdtKind.Enum image (p .0) w (shapeOf image bindings shape) mode ctx current els place) c current els t v
 
     -- behind the test of an enum: the fields, on the variant
     abbrev behindTest : Out → Walk Out
@@ -169,11 +168,11 @@ module _ (image bindings : List ℕ) (p : PatId) (mode : MatchingMode) (c : Coun
 
     -- the test is refused
     pub enum-refused : {x : MirLowerError} {at : PatId} {t₁ : Lent} →
-        Lowers (λ ctx. enumTest image (p .0) w mode ctx current els place) c discr current els t (Lowered.Refused x at) t₁ → Enum (Lowered.Refused x at) t₁ v
+        Lowers (λ ctx. enumTest image (p .0) w mode ctx current els place) c current els t (Lowered.Refused x at) t₁ → Enum (Lowered.Refused x at) t₁ v
     enum-refused L = walks-by enum-as (walks-stops behindTest (lowers-walks v L))
 
-    module _ {c₁ : Counts} {d₁ : DiscrTemp} {then : BasicBlockId} {other : OptBlock} {t₁ : Lent} (P : Primed t c)
-        (L : Lowers (λ ctx. enumTest image (p .0) w mode ctx current els place) c discr current els t (Lowered.Done c₁ d₁ then other) t₁) (chosen : Projected) (Q : Projects place (ProjectionElem.Downcast w) chosen) where
+    module _ {c₁ : Counts} {then : BasicBlockId} {other : OptBlock} {t₁ : Lent} (P : Primed t c)
+        (L : Lowers (λ ctx. enumTest image (p .0) w mode ctx current els place) c current els t (Lowered.Done c₁ then other) t₁) (chosen : Projected) (Q : Projects place (ProjectionElem.Downcast w) chosen) where
       -- there is no room for the choice of the variant
       pub enum-full : chosen .ok ≡ false → Enum (Lowered.Refused MirLowerError.Limit p) t₁ v
       enum-full e =
@@ -183,7 +182,7 @@ module _ (image bindings : List ℕ) (p : PatId) (mode : MatchingMode) (c : Coun
 
       -- the fields
       pub enum-fields : {r : Lowered} {t₂ : Lent} {v₂ : List ℕ} (fields : ℕ) → chosen .ok ≡ true → fields ≡ length (variantOf image w .fields) →
-          Walks (λ ctx. variantFields (shapeOf image bindings shape) (p .0) fields mode ctx then other (chosen .place)) c₁ d₁ then other t₁ v r t₂ v₂ → Enum r t₂ v₂
+          Walks (λ ctx. variantFields (shapeOf image bindings shape) (p .0) fields mode ctx then other (chosen .place)) c₁ then other t₁ v r t₂ v₂ → Enum r t₂ v₂
       enum-fields fields e many W =
           walks-by enum-as
           (walks-then (lowers-walks v L) P behindTest
@@ -191,10 +190,10 @@ module _ (image bindings : List ℕ) (p : PatId) (mode : MatchingMode) (c : Coun
           (walks-by (λ ctx. ap (λ (m : ℕ). variantFields (shapeOf image bindings shape) (p .0) m mode ctx then other (chosen .place)) many) W)))
 
     -- in `kind`: the word is absent
-    pub variant-none : w ≡ 65535 → Walks (λ ctx. variantPattern image (p .0) (word? w) (shapeOf image bindings shape) mode ctx current els place) c discr current els t v (Lowered.Refused MirLowerError.NotSupported p) t v
+    pub variant-none : w ≡ 65535 → Walks (λ ctx. variantPattern image (p .0) (word? w) (shapeOf image bindings shape) mode ctx current els place) c current els t v (Lowered.Refused MirLowerError.NotSupported p) t v
     variant-none e = walks-refuses (λ scopes visits. sym (applied (no-variant image (p .0) w (shapeOf image bindings shape) e) mode _ current els place))
 
     -- it is there
     pub variant-some : {r : Lowered} {t₁ : Lent} {v₁ : List ℕ} → (w ≡ 65535 → ⊥) → Variant r t₁ v₁ →
-        Walks (λ ctx. variantPattern image (p .0) (word? w) (shapeOf image bindings shape) mode ctx current els place) c discr current els t v r t₁ v₁
+        Walks (λ ctx. variantPattern image (p .0) (word? w) (shapeOf image bindings shape) mode ctx current els place) c current els t v r t₁ v₁
     variant-some d W = walks-by (λ ctx. sym (applied (with-variant image (p .0) w (shapeOf image bindings shape) d) mode ctx current els place)) W

@@ -18,7 +18,6 @@ use Rattle.place.specs.declared.Place.{Place}
 use Rattle.mir.specs.declared.BasicBlockId.{BasicBlockId}
 use Rattle.mir.specs.declared.Counts.{Counts}
 use Rattle.state.specs.Contracts.{Ready}
-use Rattle.lower.specs.declared.temps.DiscrTemp.{DiscrTemp}
 use Rattle.lower.specs.declared.merging.OptBlock.{OptBlock}
 use Rattle.pattern_matching.specs.declared.MatchingMode.{MatchingMode}
 use Rattle.pattern_matching.specs.Modes.{isCheck}
@@ -41,15 +40,15 @@ pub record Walkable (image : List ℕ) (tables : Tables) (bindings : List ℕ) (
   pub placed : Placed image t c place
 
 -- What alternatives promise: t₀ lies in the tables before and t after, v₀ and v in the visits'; what matched goes on at `join`.
-pub record Joins (defined : Ctx → Walk Out) (c : Counts) (discr : DiscrTemp) (current join : BasicBlockId) (els : OptBlock) (t₀ : Lent) (v₀ : List ℕ) (r : Lowered) (t : Lent) (v : List ℕ) : Type 0 where
-  pub answers : (scopes visits : List ℕ) → Ready (bodyOf t₀ scopes) c → Holds v₀ visits → Walked defined c discr current (bodyOf t₀ scopes) visits r (bodyOf t scopes) v
+pub record Joins (defined : Ctx → Walk Out) (c : Counts) (current join : BasicBlockId) (els : OptBlock) (t₀ : Lent) (v₀ : List ℕ) (r : Lowered) (t : Lent) (v : List ℕ) : Type 0 where
+  pub answers : (scopes visits : List ℕ) → Ready (bodyOf t₀ scopes) c → Holds v₀ visits → Walked defined c current (bodyOf t₀ scopes) visits r (bodyOf t scopes) v
   pub leaves : Primed t₀ c → Leaves c current t₀ r t
   pub onward : JoinedBy c join els r
 
 -- what `pattern_match_inner` promises of the pattern p: t lies in the tables before, and v in the visits'
-abbrev pub Inner : List ℕ → List ℕ → PatId → MatchingMode → Counts → DiscrTemp → BasicBlockId → OptBlock → Place → Lent → List ℕ → Lowered → Lent → List ℕ → Type 0
-Inner image bindings p mode c discr current els place t v =
-    Walks (λ ctx. patternMatchInner image bindings (tree image (p .0)) mode ctx current els place) c discr current els t v
+abbrev pub Inner : List ℕ → List ℕ → PatId → MatchingMode → Counts → BasicBlockId → OptBlock → Place → Lent → List ℕ → Lowered → Lent → List ℕ → Type 0
+Inner image bindings p mode c current els place t v =
+    Walks (λ ctx. patternMatchInner image bindings (tree image (p .0)) mode ctx current els place) c current els t v
 
 -- in Check a Bind that has a subpattern does what the subpattern does
 unfoldable pub passesOn : MatchingMode → PatRow → Bool
@@ -61,8 +60,8 @@ pub record Enters (image : List ℕ) (mode : MatchingMode) (p : PatId) (place : 
   pub below : q .0 ≤ p .0
   pub same-length : length v₁ ≡ length v
   pub root : room ≡ true → (to .local ≡ place .local) × (place .len ≤ 16 → to .len ≤ 16)
-  pub stops : room ≡ false → (bindings : List ℕ) (c : Counts) (discr : DiscrTemp) (current : BasicBlockId) (els : OptBlock) (t : Lent) →
-      Inner image bindings p mode c discr current els place t v (Lowered.Refused MirLowerError.Limit q) t v₁
-  pub goes : room ≡ true → (row : PatRow) → row ≡ patAt image (q .0) → (bindings : List ℕ) (c : Counts) (discr : DiscrTemp) (current : BasicBlockId) (els : OptBlock) (t : Lent) {r : Lowered} {t₂ : Lent} {v₂ : List ℕ} →
-      Walks (λ ctx. kindPattern (patKind (row .kind)) image bindings (q .0) row mode ctx current els to) c discr current els t v₁ r t₂ v₂ →
-      Inner image bindings p mode c discr current els place t v r t₂ v₂
+  pub stops : room ≡ false → (bindings : List ℕ) (c : Counts) (current : BasicBlockId) (els : OptBlock) (t : Lent) →
+      Inner image bindings p mode c current els place t v (Lowered.Refused MirLowerError.Limit q) t v₁
+  pub goes : room ≡ true → (row : PatRow) → row ≡ patAt image (q .0) → (bindings : List ℕ) (c : Counts) (current : BasicBlockId) (els : OptBlock) (t : Lent) {r : Lowered} {t₂ : Lent} {v₂ : List ℕ} →
+      Walks (λ ctx. kindPattern (patKind (row .kind)) image bindings (q .0) row mode ctx current els to) c current els t v₁ r t₂ v₂ →
+      Inner image bindings p mode c current els place t v r t₂ v₂

@@ -106,7 +106,7 @@ onward-grown G h = let same = onward-refl h in record { own = same .own; own-els
 
 -- where an answer goes on, one after the other
 pub onward-by : {c c₁ : Counts} {current then : BasicBlockId} {els els₁ : OptBlock} (r : Lowered) → Grown c c₁ → Onward c current els c₁ then els₁ → OnwardBy c₁ then els₁ r → OnwardBy c current els r
-onward-by (Lowered.Done c₂ discr then₂ els₂) G F S = onward-trans G F S
+onward-by (Lowered.Done c₂ then₂ els₂) G F S = onward-trans G F S
 onward-by (Lowered.Refused e p) G F S = tt
 
 -- a new block: its number is the count of those before it, and then there is one more

@@ -13,34 +13,33 @@ use Rattle.mir.specs.declared.BasicBlockId.{BasicBlockId}
 use Rattle.mir.specs.declared.Counts.{Counts}
 use Rattle.state.specs.Contracts.{Grown}
 use Rattle.state.proofs.Answering.{kept-trans}
-use Rattle.lower.specs.declared.temps.DiscrTemp.{DiscrTemp}
 use Rattle.lower.specs.declared.merging.OptBlock.{OptBlock}
 use Rattle.pattern_matching.specs.Walking.{Ctx, Out, Walk, refused, next, out}
 use Rattle.walks.specs.declared.Lowered.{Lowered}
 use Rattle.walks.specs.Answers.{Lent, bodyOf, Primed, Begins, Placed, loweredCounts, Leaves, Lowers, Walks}
 use Rattle.walks.proofs.Following.{goes-on, stays, refuses, answers-by, next-then, next-stops, onward-refl, onward-by}
 
-module _ {defined : Ctx → Walk Out} {c : Counts} {discr : DiscrTemp} {current : BasicBlockId} {els : OptBlock} {t₀ : Lent} where
+module _ {defined : Ctx → Walk Out} {c : Counts} {current : BasicBlockId} {els : OptBlock} {t₀ : Lent} where
   -- a part that does nothing
-  pub lowers-skips : ((ctx : Ctx) → out ctx current els ≡ defined ctx) → Begins c current els → Lowers defined c discr current els t₀ (Lowered.Done c discr current els) t₀
+  pub lowers-skips : ((ctx : Ctx) → out ctx current els ≡ defined ctx) → Begins c current els → Lowers defined c current els t₀ (Lowered.Done c current els) t₀
   lowers-skips same h = record { answers = λ scopes visits R. answers-by (same _) (stays _ R); onward = onward-refl h }
 
   -- a part that refuses before anything is done
-  pub lowers-refuses : {e : MirLowerError} {p : PatId} → ((ctx : Ctx) → refused e (p .0) ≡ defined ctx) → Lowers defined c discr current els t₀ (Lowered.Refused e p) t₀
+  pub lowers-refuses : {e : MirLowerError} {p : PatId} → ((ctx : Ctx) → refused e (p .0) ≡ defined ctx) → Lowers defined c current els t₀ (Lowered.Refused e p) t₀
   lowers-refuses same = record { answers = λ scopes visits R. refuses (same _); onward = tt }
 
-module _ {defined : Ctx → Walk Out} {c : Counts} {discr : DiscrTemp} {current : BasicBlockId} {els : OptBlock} {t₀ t : Lent} where
+module _ {defined : Ctx → Walk Out} {c : Counts} {current : BasicBlockId} {els : OptBlock} {t₀ t : Lent} where
   -- what a step that visits no pattern leaves in the tables
-  pub lowers-leaves : {r : Lowered} → Lowers defined c discr current els t₀ r t → Primed t₀ c → Leaves c current t₀ r t
+  pub lowers-leaves : {r : Lowered} → Lowers defined c current els t₀ r t → Primed t₀ c → Leaves c current t₀ r t
   lowers-leaves L P = let F = L .answers (zeros 32) [] P in (F .goes, F .kept)
 
   -- where it goes on, the next part may begin
-  pub lowers-goes : {c₁ : Counts} {d₁ : DiscrTemp} {then : BasicBlockId} {els₁ : OptBlock} → Lowers defined c discr current els t₀ (Lowered.Done c₁ d₁ then els₁) t → Primed t₀ c →
+  pub lowers-goes : {c₁ : Counts} {then : BasicBlockId} {els₁ : OptBlock} → Lowers defined c current els t₀ (Lowered.Done c₁ then els₁) t → Primed t₀ c →
       Primed t c₁ × Begins c₁ then els₁
   lowers-goes L P = (lowers-leaves L P .0 .0, L .onward .begins)
 
   -- it leaves the visits' table, which holds v
-  pub lowers-walks : {r : Lowered} (v : List ℕ) → Lowers defined c discr current els t₀ r t → Walks defined c discr current els t₀ v r t v
+  pub lowers-walks : {r : Lowered} (v : List ℕ) → Lowers defined c current els t₀ r t → Walks defined c current els t₀ v r t v
   lowers-walks v L =
       record {
         answers = λ scopes visits R H. record { visits′ = visits; holds = H; answers = L .answers scopes visits R };
@@ -49,10 +48,10 @@ module _ {defined : Ctx → Walk Out} {c : Counts} {discr : DiscrTemp} {current 
       }
 
   -- the same by another definition
-  pub lowers-by : {defined₁ : Ctx → Walk Out} {r : Lowered} → ((ctx : Ctx) → defined ctx ≡ defined₁ ctx) → Lowers defined c discr current els t₀ r t → Lowers defined₁ c discr current els t₀ r t
+  pub lowers-by : {defined₁ : Ctx → Walk Out} {r : Lowered} → ((ctx : Ctx) → defined ctx ≡ defined₁ ctx) → Lowers defined c current els t₀ r t → Lowers defined₁ c current els t₀ r t
   lowers-by same L = record { answers = λ scopes visits R. answers-by (same _) (L .answers scopes visits R); onward = L .onward }
 
-  pub walks-by : {defined₁ : Ctx → Walk Out} {r : Lowered} {v₀ v : List ℕ} → ((ctx : Ctx) → defined ctx ≡ defined₁ ctx) → Walks defined c discr current els t₀ v₀ r t v → Walks defined₁ c discr current els t₀ v₀ r t v
+  pub walks-by : {defined₁ : Ctx → Walk Out} {r : Lowered} {v₀ v : List ℕ} → ((ctx : Ctx) → defined ctx ≡ defined₁ ctx) → Walks defined c current els t₀ v₀ r t v → Walks defined₁ c current els t₀ v₀ r t v
   walks-by same W =
       record {
         answers = λ scopes visits R H. let F = W .answers scopes visits R H in record { visits′ = F .visits′; holds = F .holds; answers = answers-by (same _) (F .answers) };
@@ -61,12 +60,12 @@ module _ {defined : Ctx → Walk Out} {c : Counts} {discr : DiscrTemp} {current 
       }
 
   -- a first part that refuses
-  pub lowers-stops : {e : MirLowerError} {p : PatId} (k : Out → Walk Out) → Lowers defined c discr current els t₀ (Lowered.Refused e p) t →
-      Lowers (λ ctx. next (defined ctx) k) c discr current els t₀ (Lowered.Refused e p) t
+  pub lowers-stops : {e : MirLowerError} {p : PatId} (k : Out → Walk Out) → Lowers defined c current els t₀ (Lowered.Refused e p) t →
+      Lowers (λ ctx. next (defined ctx) k) c current els t₀ (Lowered.Refused e p) t
   lowers-stops k L = record { answers = λ scopes visits R. next-stops k (L .answers scopes visits R); onward = tt }
 
-  pub walks-stops : {e : MirLowerError} {p : PatId} {v₀ v : List ℕ} (k : Out → Walk Out) → Walks defined c discr current els t₀ v₀ (Lowered.Refused e p) t v →
-      Walks (λ ctx. next (defined ctx) k) c discr current els t₀ v₀ (Lowered.Refused e p) t v
+  pub walks-stops : {e : MirLowerError} {p : PatId} {v₀ v : List ℕ} (k : Out → Walk Out) → Walks defined c current els t₀ v₀ (Lowered.Refused e p) t v →
+      Walks (λ ctx. next (defined ctx) k) c current els t₀ v₀ (Lowered.Refused e p) t v
   walks-stops k W =
       record {
         answers = λ scopes visits R H. let F = W .answers scopes visits R H in record { visits′ = F .visits′; holds = F .holds; answers = next-stops k (F .answers) };
@@ -74,7 +73,7 @@ module _ {defined : Ctx → Walk Out} {c : Counts} {discr : DiscrTemp} {current 
         onward = tt;
       }
 
-  module _ {c₁ : Counts} {d₁ : DiscrTemp} {then : BasicBlockId} {els₁ : OptBlock} {v₀ v : List ℕ} (W : Walks defined c discr current els t₀ v₀ (Lowered.Done c₁ d₁ then els₁) t v) (P : Primed t₀ c) where
+  module _ {c₁ : Counts} {then : BasicBlockId} {els₁ : OptBlock} {v₀ v : List ℕ} (W : Walks defined c current els t₀ v₀ (Lowered.Done c₁ then els₁) t v) (P : Primed t₀ c) where
     -- where a part goes on, the tables are primed, nothing was taken away, and a place is where it was
     pub primed-after : Primed t c₁
     primed-after = W .leaves P .0 .0
@@ -97,8 +96,8 @@ module _ {defined : Ctx → Walk Out} {c : Counts} {discr : DiscrTemp} {current 
     walks-goes = (primed-after, W .onward .begins)
 
     -- a second part from there
-    pub walks-then : {r : Lowered} {t₂ : Lent} {v₂ : List ℕ} (k : Out → Walk Out) → Walks (λ ctx. k (record { ctx = ctx; then = then; else = els₁ })) c₁ d₁ then els₁ t v r t₂ v₂ →
-        Walks (λ ctx. next (defined ctx) k) c discr current els t₀ v₀ r t₂ v₂
+    pub walks-then : {r : Lowered} {t₂ : Lent} {v₂ : List ℕ} (k : Out → Walk Out) → Walks (λ ctx. k (record { ctx = ctx; then = then; else = els₁ })) c₁ then els₁ t v r t₂ v₂ →
+        Walks (λ ctx. next (defined ctx) k) c current els t₀ v₀ r t₂ v₂
     walks-then {r = r} {t₂ = t₂} k S =
         record {
           answers = λ scopes visits R H.
@@ -110,9 +109,9 @@ module _ {defined : Ctx → Walk Out} {c : Counts} {discr : DiscrTemp} {current 
         }
 
   -- the same where neither part visits a pattern
-  pub lowers-then : {c₁ : Counts} {d₁ : DiscrTemp} {then : BasicBlockId} {els₁ : OptBlock} {r : Lowered} {t₂ : Lent} (k : Out → Walk Out) → Primed t₀ c →
-      Lowers defined c discr current els t₀ (Lowered.Done c₁ d₁ then els₁) t → Lowers (λ ctx. k (record { ctx = ctx; then = then; else = els₁ })) c₁ d₁ then els₁ t r t₂ →
-      Lowers (λ ctx. next (defined ctx) k) c discr current els t₀ r t₂
+  pub lowers-then : {c₁ : Counts} {then : BasicBlockId} {els₁ : OptBlock} {r : Lowered} {t₂ : Lent} (k : Out → Walk Out) → Primed t₀ c →
+      Lowers defined c current els t₀ (Lowered.Done c₁ then els₁) t → Lowers (λ ctx. k (record { ctx = ctx; then = then; else = els₁ })) c₁ then els₁ t r t₂ →
+      Lowers (λ ctx. next (defined ctx) k) c current els t₀ r t₂
   lowers-then {r = r} k P L S =
       record {
         answers = λ scopes visits R. let F = L .answers scopes visits R in next-then k F (L .onward .own) (S .answers scopes visits (F .goes .0));

@@ -15,7 +15,6 @@ use Rattle.mir.specs.declared.Counts.{Counts}
 use Rattle.mir.specs.Locals.{localTy}
 use Rattle.state.specs.State.{Body, body, decode}
 use Rattle.state.specs.Contracts.{Ready, Kept, Own, Goes, Answers}
-use Rattle.lower.specs.declared.temps.DiscrTemp.{DiscrTemp}
 use Rattle.lower.specs.declared.merging.OptBlock.{OptBlock}
 use Rattle.lower.specs.Promises.{Within}
 use Rattle.pattern_matching.specs.Walking.{Ctx, Out, Walk, ok, refused}
@@ -51,16 +50,16 @@ pub record Placed (image : List ℕ) (t : Lent) (c : Counts) (place : Place) : T
   pub within : place .len ≤ 16
 
 -- what the walk carries along
-abbrev pub ctxOf : Body → Counts → DiscrTemp → List ℕ → Ctx
-ctxOf b c discr visits = record { state = decode b c; discr = discr; visits = visits }
+abbrev pub ctxOf : Body → Counts → List ℕ → Ctx
+ctxOf b c visits = record { state = decode b c; visits = visits }
 
 -- an answer, with the tables at exit, as the definitions have it
 abbrev pub walkOf : Lowered → Body → List ℕ → Walk Out
-walkOf (Lowered.Done c discr then els) b visits = ok (record { ctx = ctxOf b c discr visits; then = then; else = els })
+walkOf (Lowered.Done c then els) b visits = ok (record { ctx = ctxOf b c visits; then = then; else = els })
 walkOf (Lowered.Refused e p) b visits = refused e (p .0)
 
 abbrev pub loweredCounts : Lowered → Option Counts
-loweredCounts (Lowered.Done c discr then els) = some c
+loweredCounts (Lowered.Done c then els) = some c
 loweredCounts (Lowered.Refused e p) = none
 
 -- the else that was handed in, or a new block, where there is one
@@ -75,13 +74,13 @@ pub record Onward (c : Counts) (current : BasicBlockId) (els : OptBlock) (c′ :
   pub begins : Begins c′ then els′
 
 abbrev pub OnwardBy : Counts → BasicBlockId → OptBlock → Lowered → Type 0
-OnwardBy c current els (Lowered.Done c′ discr then els′) = Onward c current els c′ then els′
+OnwardBy c current els (Lowered.Done c′ then els′) = Onward c current els c′ then els′
 OnwardBy c current els (Lowered.Refused e p) = Unit
 
 -- What a step of the walk that visits no pattern promises: t₀ lies in the tables before, and t after.
-pub record Lowers (defined : Ctx → Walk Out) (c : Counts) (discr : DiscrTemp) (current : BasicBlockId) (els : OptBlock) (t₀ : Lent) (r : Lowered) (t : Lent) : Type 0 where
+pub record Lowers (defined : Ctx → Walk Out) (c : Counts) (current : BasicBlockId) (els : OptBlock) (t₀ : Lent) (r : Lowered) (t : Lent) : Type 0 where
   pub answers : (scopes visits : List ℕ) → Ready (bodyOf t₀ scopes) c →
-      Answers (bodyOf t₀ scopes) c (current .0) (bodyOf t scopes) (loweredCounts r) (walkOf r (bodyOf t scopes) visits) (defined (ctxOf (bodyOf t₀ scopes) c discr visits))
+      Answers (bodyOf t₀ scopes) c (current .0) (bodyOf t scopes) (loweredCounts r) (walkOf r (bodyOf t scopes) visits) (defined (ctxOf (bodyOf t₀ scopes) c visits))
   pub onward : OnwardBy c current els r
 
 -- what a walk leaves in the tables, whatever was visited: where it goes on they are primed, and what lay below the counts is as it was, but for the terminator
@@ -98,14 +97,14 @@ abbrev pub Holds : List ℕ → List ℕ → Type 0
 Holds table visits = table ≡ map visitWord visits
 
 -- an answer of a walk that began with some counts of visits; the table is v after
-pub record Walked (defined : Ctx → Walk Out) (c : Counts) (discr : DiscrTemp) (current : BasicBlockId) (b : Body) (visits : List ℕ) (r : Lowered) (b′ : Body) (v : List ℕ) : Type 0 where
+pub record Walked (defined : Ctx → Walk Out) (c : Counts) (current : BasicBlockId) (b : Body) (visits : List ℕ) (r : Lowered) (b′ : Body) (v : List ℕ) : Type 0 where
   pub visits′ : List ℕ
   pub holds : Holds v visits′
-  pub answers : Answers b c (current .0) b′ (loweredCounts r) (walkOf r b′ visits′) (defined (ctxOf b c discr visits))
+  pub answers : Answers b c (current .0) b′ (loweredCounts r) (walkOf r b′ visits′) (defined (ctxOf b c visits))
 
 -- What a function of the walk promises: t₀ lies in the tables before and t after, v₀ and v in the visits'.
-pub record Walks (defined : Ctx → Walk Out) (c : Counts) (discr : DiscrTemp) (current : BasicBlockId) (els : OptBlock) (t₀ : Lent) (v₀ : List ℕ) (r : Lowered) (t : Lent) (v : List ℕ) : Type 0 where
-  pub answers : (scopes visits : List ℕ) → Ready (bodyOf t₀ scopes) c → Holds v₀ visits → Walked defined c discr current (bodyOf t₀ scopes) visits r (bodyOf t scopes) v
+pub record Walks (defined : Ctx → Walk Out) (c : Counts) (current : BasicBlockId) (els : OptBlock) (t₀ : Lent) (v₀ : List ℕ) (r : Lowered) (t : Lent) (v : List ℕ) : Type 0 where
+  pub answers : (scopes visits : List ℕ) → Ready (bodyOf t₀ scopes) c → Holds v₀ visits → Walked defined c current (bodyOf t₀ scopes) visits r (bodyOf t scopes) v
   pub leaves : Primed t₀ c → Leaves c current t₀ r t
   pub onward : OnwardBy c current els r
 
@@ -116,5 +115,5 @@ pub record Joined (c : Counts) (join : BasicBlockId) (els : OptBlock) (c′ : Co
   pub begins : Begins c′ then els′
 
 abbrev pub JoinedBy : Counts → BasicBlockId → OptBlock → Lowered → Type 0
-JoinedBy c join els (Lowered.Done c′ discr then els′) = Joined c join els c′ then els′
+JoinedBy c join els (Lowered.Done c′ then els′) = Joined c join els c′ then els′
 JoinedBy c join els (Lowered.Refused e p) = Unit

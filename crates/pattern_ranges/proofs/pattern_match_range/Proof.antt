@@ -13,19 +13,19 @@ use Rattle.walks.proofs.Sequences.{lowers-goes}
 use Rattle.pattern_ranges.proofs.Ends.{range-skips, range-stops, range-both}
 
 returns : tie.Need-returns
-returns c = range-skips _ _ _ _ _ _ _ _ _ _ _ _ _ (sym (c .before .is-check .ensures) ∙ not-true _ (c .if1 .taken)) (c .before .before .before .before .before .before .before .pre .1 .1)
+returns c = range-skips _ _ _ _ _ _ _ _ _ _ _ _ (sym (c .before .is-check .ensures) ∙ not-true _ (c .if1 .taken)) (c .before .before .before .before .before .before .before .pre .1 .1)
 
 range-end-requires-2 : tie.Need-range-end-requires-2
 range-end-requires-2 c κs = ((c .before .before .before .before .before .before .before .before .before .before .before .before .before .before .before .before .before .before .before .before .before .before .before .before .before .before .before .before .pre .0 .0, c .before .before .before .before .before .before .before .before .before .before .before .before .before .before .before .before .before .before .before .before .before .before .before .before .before .before .before .before .pre .0 .1, c .before .before .before .before .before .before .before .before .before .before .before .before .before .before .before .before .before .before .before .before .before .before .before .before .before .before .before .before .pre .0 .2, c .before .before .before .before .before .before .before .before .before .before .before .before .before .before .before .before .before .before .before .before .before .before .before .before .before .before .before .before .pre .0 .4), lowers-goes (rw (c .before .before .before .before .before .before .c1 .given .1) at (c .before .before .before .before .before .before .before .before .before .before .before .before .before .before .before .before .range-end .ensures)) (c .before .before .before .before .before .before .before .before .before .before .before .before .before .before .before .before .before .before .before .before .before .before .before .before .before .before .before .before .pre .1 .0))
 
 returns-2 : tie.Need-returns-2
-returns-2 c = range-stops _ _ _ _ _ _ _ _ _ _ _ _ _ (sym (c .before .before .before .before .before .before .before .before .before .before .before .before .before .before .before .before .before .is-check .ensures) ∙ not-false _ (c .before .before .before .before .before .before .before .before .before .before .before .before .before .before .before .before .if1 .left)) (rw (c .before .e .given .1) at (c .before .before .before .before .before .before .before .before .before .before .before .range-end .ensures))
+returns-2 c = range-stops _ _ _ _ _ _ _ _ _ _ _ _ (sym (c .before .before .before .before .before .before .before .before .before .before .before .before .before .before .before .before .before .is-check .ensures) ∙ not-false _ (c .before .before .before .before .before .before .before .before .before .before .before .before .before .before .before .before .if1 .left)) (rw (c .before .e .given .1) at (c .before .before .before .before .before .before .before .before .before .before .before .range-end .ensures))
 
 same-length-5 : tie.Need-same-length-5
 same-length-5 c = omega (arith, c .before .before .before .before .before .before .before .before .range-end2 .kept, c .before .before .before .before .before .before .before .before .before .before .before .before .before .before .before .before .before .before .before .before .before .before .before .before .before .range-end .kept)
 
 returns-3 : tie.Need-returns-3
-returns-3 c = range-both _ _ _ _ _ _ _ _ _ _ _ _ _ (sym (c .before .before .before .before .before .before .before .before .before .before .before .before .before .before .before .before .before .before .before .before .before .before .before .before .before .before .before .before .before .before .before .is-check .ensures) ∙ not-false _ (c .before .before .before .before .before .before .before .before .before .before .before .before .before .before .before .before .before .before .before .before .before .before .before .before .before .before .before .before .before .before .if1 .left)) (c .before .before .before .before .before .before .before .before .before .before .before .before .before .before .before .before .before .before .before .before .before .before .before .before .before .before .before .before .before .before .before .before .before .before .before .before .before .pre .1 .0) (rw (c .before .before .before .before .before .before .before .before .before .before .before .before .before .before .before .c1 .given .1) at (c .before .before .before .before .before .before .before .before .before .before .before .before .before .before .before .before .before .before .before .before .before .before .before .before .before .range-end .ensures)) (c .before .before .before .before .before .before .before .before .before .end-op .ensures) (c .before .before .before .before .before .before .before .before .range-end2 .ensures)
+returns-3 c = range-both _ _ _ _ _ _ _ _ _ _ _ _ (sym (c .before .before .before .before .before .before .before .before .before .before .before .before .before .before .before .before .before .before .before .before .before .before .before .before .before .before .before .before .before .before .before .is-check .ensures) ∙ not-false _ (c .before .before .before .before .before .before .before .before .before .before .before .before .before .before .before .before .before .before .before .before .before .before .before .before .before .before .before .before .before .before .if1 .left)) (c .before .before .before .before .before .before .before .before .before .before .before .before .before .before .before .before .before .before .before .before .before .before .before .before .before .before .before .before .before .before .before .before .before .before .before .before .before .pre .1 .0) (rw (c .before .before .before .before .before .before .before .before .before .before .before .before .before .before .before .c1 .given .1) at (c .before .before .before .before .before .before .before .before .before .before .before .before .before .before .before .before .before .before .before .before .before .before .before .before .before .range-end .ensures)) (c .before .before .before .before .before .before .before .before .before .end-op .ensures) (c .before .before .before .before .before .before .before .before .range-end2 .ensures)
 
 pub pattern-match-range-spec : {M : Type 1} → statement M
 pattern-match-range-spec =

@@ -8,10 +8,10 @@ use mathlib.Core.Path.{sym, _∙_}
 use Rattle.pattern_leaves.proofs.Checking.{other-refused, other-done}
 
 returns : tie.Need-returns
-returns c = other-refused _ _ _ _ _ _ (sym (c .before .is-check .ensures) ∙ c .if1 .taken)
+returns c = other-refused _ _ _ _ _ (sym (c .before .is-check .ensures) ∙ c .if1 .taken)
 
 returns-2 : tie.Need-returns-2
-returns-2 c = other-done _ _ _ _ _ _ (sym (c .before .is-check .ensures) ∙ c .if1 .left)
+returns-2 c = other-done _ _ _ _ _ (sym (c .before .is-check .ensures) ∙ c .if1 .left)
 
 pub other-path-spec : {M : Type 1} → statement M
 other-path-spec = tie.close (tie.spec (λ c κs. search needs) returns returns-2)

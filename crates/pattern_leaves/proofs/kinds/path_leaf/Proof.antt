@@ -15,7 +15,7 @@ constant-path-requires : tie.Need-constant-path-requires
 constant-path-requires c κs = ((c .before .before .before .before .before .before .before .before .before .before .before .before .pre .0 .0, path-operand _ _ (c .before .before .before .before .before .before .before .before .before .before .before .before .pre .0 .1) (c .before .before .before .before .enum-told4 .given .1), path-constant _ _ (c .before .before .before .before .before .before .before .before .before .before .before .before .pre .0 .1) (c .before .before .before .before .enum-told4 .given .1)), c .before .before .before .before .before .before .before .before .before .before .before .before .pre .1)
 
 returns : tie.Need-returns
-returns c = path-unresolved _ _ _ _ _ _ _ _ _ _ _ _ (c .enum-told .given .1)
+returns c = path-unresolved _ _ _ _ _ _ _ _ _ _ _ (c .enum-told .given .1)
 
 returns-2 : tie.Need-returns-2
 returns-2 c = path-variant _ _ _ _ _ _ _ _ _ _ _ _ (c .enum-told2 .given .1)
@@ -24,13 +24,13 @@ returns-3 : tie.Need-returns-3
 returns-3 c = path-local _ _ _ _ _ _ _ _ _ _ (c .before .before .before .before .enum-told3 .given .1) (c .before .before .local-path .ensures)
 
 returns-4 : tie.Need-returns-4
-returns-4 c = path-compared _ _ _ _ _ _ _ _ _ _ _ _ (c .before .before .before .before .before .before .before .before .before .before .before .before .before .enum-told4 .given .1) (c .before .before .before .before .before .before .before .before .constant-path .ensures)
+returns-4 c = path-compared _ _ _ _ _ _ _ _ _ _ _ (c .before .before .before .before .before .before .before .before .before .before .before .before .before .enum-told4 .given .1) (c .before .before .before .before .before .before .before .before .constant-path .ensures)
 
 returns-5 : tie.Need-returns-5
-returns-5 c = path-other _ _ _ _ _ _ _ _ _ _ _ _ (c .before .enum-told5 .given .1) (c .before .before .before .before .before .before .before .before .before .pre .1 .1) (c .other-path .ensures)
+returns-5 c = path-other _ _ _ _ _ _ _ _ _ _ _ (c .before .enum-told5 .given .1) (c .before .before .before .before .before .before .before .before .before .pre .1 .1) (c .other-path .ensures)
 
 returns-6 : tie.Need-returns-6
-returns-6 c = path-unknown _ _ _ _ _ _ _ _ _ _ _ _ (c .before .enum-told6 .given .1) (c .before .before .before .before .before .before .before .before .before .pre .1 .1) (c .other-path2 .ensures)
+returns-6 c = path-unknown _ _ _ _ _ _ _ _ _ _ _ (c .before .enum-told6 .given .1) (c .before .before .before .before .before .before .before .before .before .pre .1 .1) (c .other-path2 .ensures)
 
 pub path-leaf-spec : {M : Type 1} → statement M
 path-leaf-spec =

@@ -13,13 +13,13 @@ use borrow.Author.Tests.{not-true, not-false}
 use Rattle.pattern_leaves.proofs.Ending.{end-nowhere, end-full, end-elsewhere}
 
 returns : tie.Need-returns
-returns c = end-nowhere _ _ _ _ _ _ _ _ (sym (c .before .before .before .before .before .is-check .ensures) ∙ not-true _ (c .before .before .before .before .if1 .taken)) (c .before .before .set-terminator .ensures) (c .before .before .before .before .before .before .before .pre .2) (c .before .before .before .before .before .before .before .pre .3)
+returns c = end-nowhere _ _ _ _ _ _ _ (sym (c .before .before .before .before .before .is-check .ensures) ∙ not-true _ (c .before .before .before .before .if1 .taken)) (c .before .before .set-terminator .ensures) (c .before .before .before .before .before .before .before .pre .2) (c .before .before .before .before .before .before .before .pre .3)
 
 returns-2 : tie.Need-returns-2
-returns-2 c = end-full _ _ _ _ _ _ _ _ (sym (c .before .before .before .before .is-check .ensures) ∙ not-false _ (c .before .before .before .if1 .left)) (sym (c .enum-told .given .1) ∙ c .before .before .else-block .ensures)
+returns-2 c = end-full _ _ _ _ _ _ _ (sym (c .before .before .before .before .is-check .ensures) ∙ not-false _ (c .before .before .before .if1 .left)) (sym (c .enum-told .given .1) ∙ c .before .before .else-block .ensures)
 
 returns-3 : tie.Need-returns-3
-returns-3 c = end-elsewhere _ _ _ _ _ _ _ _ (sym (c .before .before .before .before .before .before .before .before .before .is-check .ensures) ∙ not-false _ (c .before .before .before .before .before .before .before .before .if1 .left)) (sym (c .before .before .before .before .before .c1 .given .1) ∙ c .before .before .before .before .before .before .before .else-block .ensures) (c .before .before .set-goto .ensures) (c .before .before .before .before .before .before .before .before .before .before .before .pre .2) (c .before .before .before .before .before .before .before .before .before .before .before .pre .3)
+returns-3 c = end-elsewhere _ _ _ _ _ _ _ (sym (c .before .before .before .before .before .before .before .before .before .is-check .ensures) ∙ not-false _ (c .before .before .before .before .before .before .before .before .if1 .left)) (sym (c .before .before .before .before .before .c1 .given .1) ∙ c .before .before .before .before .before .before .before .else-block .ensures) (c .before .before .set-goto .ensures) (c .before .before .before .before .before .before .before .before .before .before .before .pre .2) (c .before .before .before .before .before .before .before .before .before .before .before .pre .3)
 
 pub alternatives-end-spec : {M : Type 1} → statement M
 alternatives-end-spec =

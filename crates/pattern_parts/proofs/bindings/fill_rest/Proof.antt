@@ -10,10 +10,10 @@ use Rattle.pattern_parts.proofs.Visiting.{project-stops, project-goes}
 use Rattle.pattern_parts.proofs.Filling.{rest-stops, rest-filled}
 
 returns : tie.Need-returns
-returns c = rest-stops _ _ _ _ _ _ _ _ _ _ _ _ _ _ (project-stops _ _ (c .before .before .project .ensures) (not-true _ (c .if1 .taken)))
+returns c = rest-stops _ _ _ _ _ _ _ _ _ _ _ _ _ (project-stops _ _ (c .before .before .project .ensures) (not-true _ (c .if1 .taken)))
 
 returns-2 : tie.Need-returns-2
-returns-2 c = rest-filled _ _ _ _ _ _ _ _ _ _ _ _ _ _ (project-goes _ _ (c .before .before .before .before .before .before .before .before .before .project .ensures) (not-false _ (c .before .before .before .before .before .before .before .if1 .left))) (c .before .before .before .before .pattern-match-binding .ensures)
+returns-2 c = rest-filled _ _ _ _ _ _ _ _ _ _ _ _ _ (project-goes _ _ (c .before .before .before .before .before .before .before .before .before .project .ensures) (not-false _ (c .before .before .before .before .before .before .before .if1 .left))) (c .before .before .before .before .pattern-match-binding .ensures)
 
 pub fill-rest-spec : {M : Type 1} → statement M
 fill-rest-spec =

@@ -12,26 +12,25 @@ use mathlib.Core.Path.{sym, _∙_}
 use native.Mathlib.Omega.{arith}
 use borrow.Author.Tests.{not-true, not-false}
 use Rattle.state.proofs.RowLengths.{constant-length}
-use Rattle.lower.specs.declared.temps.DiscrTemp.{DiscrTemp}
 use Rattle.pattern_tests.proofs.Assigning.{making, assign-goes}
 use Rattle.pattern_tests.proofs.Constants.{path-skips, path-no-temp, path-full, path-tests}
 
 returns : tie.Need-returns
-returns c = path-skips _ _ _ _ _ _ _ _ _ _ _ _ _ _ (sym (c .before .is-check .ensures) ∙ not-true _ (c .if1 .taken)) (c .before .before .before .before .before .before .before .pre .1 .1)
+returns c = path-skips _ _ _ _ _ _ _ _ _ _ _ _ _ (sym (c .before .is-check .ensures) ∙ not-true _ (c .if1 .taken)) (c .before .before .before .before .before .before .before .pre .1 .1)
 
 push-constant-assignment-requires : tie.Need-push-constant-assignment-requires
 push-constant-assignment-requires c κs = omega (arith, c .before .before .before .before .before .before .before .before .before .before .before .before .before .before .before .before .before .before .before .before .before .before .pre .1 .0 .statements, c .before .before .before .before .before .before .before .before .before .before .temp .kept)
 
 constant-compared-requires : tie.Need-constant-compared-requires
 constant-compared-requires c κs =
-    let G = assign-goes _ _ (making _ _ DiscrTemp.None (rw (c .before .before .before .before .before .before .before .before .before .before .before .before .c1 .given .1) at (c .before .before .before .before .before .before .before .before .before .before .before .before .before .before .before .before .before .before .before .before .temp .ensures))) (constant-length _ _ _) (c .before .before .before .before .before .before .before .before .before .push-constant-assignment .ensures .1) (sym (c .before .before .before .before .before .c2 .given .1) ∙ c .before .before .before .before .before .before .before .before .before .push-constant-assignment .ensures .0) (c .before .before .before .before .before .before .before .before .before .before .before .before .before .before .before .before .before .before .before .before .before .before .before .before .before .before .before .before .before .before .before .before .pre .1 .0) (c .before .before .before .before .before .before .before .before .before .before .before .before .before .before .before .before .before .before .before .before .before .before .before .before .before .before .before .before .before .before .before .before .pre .1 .1) in
+    let G = assign-goes _ _ (making _ _ (rw (c .before .before .before .before .before .before .before .before .before .before .before .before .c1 .given .1) at (c .before .before .before .before .before .before .before .before .before .before .before .before .before .before .before .before .before .before .before .before .temp .ensures))) (constant-length _ _ _) (c .before .before .before .before .before .before .before .before .before .push-constant-assignment .ensures .1) (sym (c .before .before .before .before .before .c2 .given .1) ∙ c .before .before .before .before .before .before .before .before .before .push-constant-assignment .ensures .0) (c .before .before .before .before .before .before .before .before .before .before .before .before .before .before .before .before .before .before .before .before .before .before .before .before .before .before .before .before .before .before .before .before .pre .1 .0) (c .before .before .before .before .before .before .before .before .before .before .before .before .before .before .before .before .before .before .before .before .before .before .before .before .before .before .before .before .before .before .before .before .pre .1 .1) in
     (c .before .before .before .before .before .before .before .before .before .before .before .before .before .before .before .before .before .before .before .before .before .before .before .before .before .before .before .before .before .before .before .before .pre .0 .0, G .0, G .1)
 
 returns-2 : tie.Need-returns-2
-returns-2 c = path-no-temp _ _ _ _ _ _ _ _ _ _ _ _ _ _ (sym (c .before .before .before .before .before .before .before .before .before .before .before .before .before .before .before .is-check .ensures) ∙ not-false _ (c .before .before .before .before .before .before .before .before .before .before .before .before .before .before .if1 .left)) (c .before .before .before .before .before .before .before .before .before .before .before .before .before .lower-const-to-operand .ensures) (rw (c .before .e .given .1) at (c .before .before .before .before .before .before .before .before .before .temp .ensures))
+returns-2 c = path-no-temp _ _ _ _ _ _ _ _ _ _ _ _ _ (sym (c .before .before .before .before .before .before .before .before .before .before .before .before .before .before .before .is-check .ensures) ∙ not-false _ (c .before .before .before .before .before .before .before .before .before .before .before .before .before .before .if1 .left)) (c .before .before .before .before .before .before .before .before .before .before .before .before .before .lower-const-to-operand .ensures) (rw (c .before .e .given .1) at (c .before .before .before .before .before .before .before .before .before .temp .ensures))
 
 returns-3 : tie.Need-returns-3
-returns-3 c = path-full _ _ _ _ _ _ _ _ _ _ _ _ _ _ (sym (c .before .before .before .before .before .before .before .before .before .before .before .before .before .before .before .before .before .before .before .before .before .is-check .ensures) ∙ not-false _ (c .before .before .before .before .before .before .before .before .before .before .before .before .before .before .before .before .before .before .before .before .if1 .left)) (c .before .before .before .before .before .before .before .before .before .before .before .before .before .before .before .before .before .before .before .lower-const-to-operand .ensures) (rw (c .before .before .before .before .before .before .before .c1 .given .1) at (c .before .before .before .before .before .before .before .before .before .before .before .before .before .before .before .temp .ensures)) (c .before .before .before .before .push-constant-assignment .ensures .1) (sym (c .enum-told .given .1) ∙ c .before .before .before .before .push-constant-assignment .ensures .0)
+returns-3 c = path-full _ _ _ _ _ _ _ _ _ _ _ _ _ (sym (c .before .before .before .before .before .before .before .before .before .before .before .before .before .before .before .before .before .before .before .before .before .is-check .ensures) ∙ not-false _ (c .before .before .before .before .before .before .before .before .before .before .before .before .before .before .before .before .before .before .before .before .if1 .left)) (c .before .before .before .before .before .before .before .before .before .before .before .before .before .before .before .before .before .before .before .lower-const-to-operand .ensures) (rw (c .before .before .before .before .before .before .before .c1 .given .1) at (c .before .before .before .before .before .before .before .before .before .before .before .before .before .before .before .temp .ensures)) (c .before .before .before .before .push-constant-assignment .ensures .1) (sym (c .enum-told .given .1) ∙ c .before .before .before .before .push-constant-assignment .ensures .0)
 
 same-length-8 : tie.Need-same-length-8
 same-length-8 c = omega (arith, c .before .before .before .before .before .before .before .before .before .before .before .before .before .before .before .before .before .before .before .before .before .before .before .before .before .before .before .before .before .temp .kept, c .before .before .before .before .before .before .before .before .before .before .before .before .before .before .before .before .before .before .push-constant-assignment .kept, c .before .before .before .before .before .before .before .before .constant-compared .kept)
@@ -40,7 +39,7 @@ same-length-9 : tie.Need-same-length-9
 same-length-9 c = omega (arith, c .before .before .before .before .before .before .before .before .before .before .before .before .before .before .before .before .before .before .before .before .before .before .before .before .before .before .before .before .before .temp .kept, c .before .before .before .before .before .before .before .before .before .before .before .before .before .before .before .before .before .before .push-constant-assignment .kept, c .before .before .before .before .before .before .before .before .constant-compared .kept)
 
 returns-4 : tie.Need-returns-4
-returns-4 c = path-tests _ _ _ _ _ _ _ _ _ _ _ _ _ _ (sym (c .before .before .before .before .before .before .before .before .before .before .before .before .before .before .before .before .before .before .before .before .before .before .before .before .before .before .before .before .before .before .before .before .before .before .before .is-check .ensures) ∙ not-false _ (c .before .before .before .before .before .before .before .before .before .before .before .before .before .before .before .before .before .before .before .before .before .before .before .before .before .before .before .before .before .before .before .before .before .before .if1 .left)) (c .before .before .before .before .before .before .before .before .before .before .before .before .before .before .before .before .before .before .before .before .before .before .before .before .before .before .before .before .before .before .before .before .before .lower-const-to-operand .ensures) (rw (c .before .before .before .before .before .before .before .before .before .before .before .before .before .before .before .before .before .before .before .before .before .c1 .given .1) at (c .before .before .before .before .before .before .before .before .before .before .before .before .before .before .before .before .before .before .before .before .before .before .before .before .before .before .before .before .before .temp .ensures)) (c .before .before .before .before .before .before .before .before .before .before .before .before .before .before .before .before .before .before .push-constant-assignment .ensures .1) (sym (c .before .before .before .before .before .before .before .before .before .before .before .before .before .before .c2 .given .1) ∙ c .before .before .before .before .before .before .before .before .before .before .before .before .before .before .before .before .before .before .push-constant-assignment .ensures .0) (c .before .before .before .before .before .before .before .before .before .before .before .before .before .before .before .before .before .before .before .before .before .before .before .before .before .before .before .before .before .before .before .before .before .before .before .before .before .before .before .before .before .pre .1 .0) (c .before .before .before .before .before .before .before .before .before .before .before .before .before .before .before .before .before .before .before .before .before .before .before .before .before .before .before .before .before .before .before .before .before .before .before .before .before .before .before .before .before .pre .1 .1) (c .before .before .before .before .before .before .before .before .constant-compared .ensures)
+returns-4 c = path-tests _ _ _ _ _ _ _ _ _ _ _ _ _ (sym (c .before .before .before .before .before .before .before .before .before .before .before .before .before .before .before .before .before .before .before .before .before .before .before .before .before .before .before .before .before .before .before .before .before .before .before .is-check .ensures) ∙ not-false _ (c .before .before .before .before .before .before .before .before .before .before .before .before .before .before .before .before .before .before .before .before .before .before .before .before .before .before .before .before .before .before .before .before .before .before .if1 .left)) (c .before .before .before .before .before .before .before .before .before .before .before .before .before .before .before .before .before .before .before .before .before .before .before .before .before .before .before .before .before .before .before .before .before .lower-const-to-operand .ensures) (rw (c .before .before .before .before .before .before .before .before .before .before .before .before .before .before .before .before .before .before .before .before .before .c1 .given .1) at (c .before .before .before .before .before .before .before .before .before .before .before .before .before .before .before .before .before .before .before .before .before .before .before .before .before .before .before .before .before .temp .ensures)) (c .before .before .before .before .before .before .before .before .before .before .before .before .before .before .before .before .before .before .push-constant-assignment .ensures .1) (sym (c .before .before .before .before .before .before .before .before .before .before .before .before .before .before .c2 .given .1) ∙ c .before .before .before .before .before .before .before .before .before .before .before .before .before .before .before .before .before .before .push-constant-assignment .ensures .0) (c .before .before .before .before .before .before .before .before .before .before .before .before .before .before .before .before .before .before .before .before .before .before .before .before .before .before .before .before .before .before .before .before .before .before .before .before .before .before .before .before .before .pre .1 .0) (c .before .before .before .before .before .before .before .before .before .before .before .before .before .before .before .before .before .before .before .before .before .before .before .before .before .before .before .before .before .before .before .before .before .before .before .before .before .before .before .before .before .pre .1 .1) (c .before .before .before .before .before .before .before .before .constant-compared .ensures)
 
 pub constant-path-spec : {M : Type 1} → statement M
 constant-path-spec =

@@ -20,16 +20,16 @@ operand-at-requires : tie.Need-operand-at-requires
 operand-at-requires c κs = (c .before .before .before .before .before .pre .0 .1, omega (arith, c .before .before .before .before .before .pre .0 .1 .list-count, operand-listed _ _ (c .before .before .before .before .before .pre .0 .3)))
 
 returns : tie.Need-returns
-returns c = lit-not _ _ _ _ _ _ _ _ _ _ _ (kind-of _ _ (c .before .before .before .operand-at .ensures) _ (c .before .before .operand-kind .ensures) refl) (sym (c .before .is-literal .ensures) ∙ not-true _ (c .if1 .taken))
+returns c = lit-not _ _ _ _ _ _ _ _ _ _ (kind-of _ _ (c .before .before .before .operand-at .ensures) _ (c .before .before .operand-kind .ensures) refl) (sym (c .before .is-literal .ensures) ∙ not-true _ (c .if1 .taken))
 
 returns-2 : tie.Need-returns-2
-returns-2 c = lit-skips _ _ _ _ _ _ _ _ _ _ _ (kind-of _ _ (c .before .before .before .before .before .operand-at .ensures) _ (c .before .before .before .before .operand-kind .ensures) refl) (sym (c .before .before .before .is-literal .ensures) ∙ not-false _ (c .before .before .if1 .left)) (sym (c .before .is-check .ensures) ∙ not-true _ (c .if2 .taken)) (c .before .before .before .before .before .before .before .before .before .before .before .pre .1 .1)
+returns-2 c = lit-skips _ _ _ _ _ _ _ _ _ _ (kind-of _ _ (c .before .before .before .before .before .operand-at .ensures) _ (c .before .before .before .before .operand-kind .ensures) refl) (sym (c .before .before .before .is-literal .ensures) ∙ not-false _ (c .before .before .if1 .left)) (sym (c .before .is-check .ensures) ∙ not-true _ (c .if2 .taken)) (c .before .before .before .before .before .before .before .before .before .before .before .pre .1 .1)
 
 returns-3 : tie.Need-returns-3
-returns-3 c = lit-refused _ _ _ _ _ _ _ _ _ _ _ (kind-of _ _ (c .before .before .before .before .before .before .before .before .before .operand-at .ensures) _ (c .before .before .before .before .before .before .before .before .operand-kind .ensures) refl) (sym (c .before .before .before .before .before .before .before .is-literal .ensures) ∙ not-false _ (c .before .before .before .before .before .before .if1 .left)) (sym (c .before .before .before .before .before .is-check .ensures) ∙ not-false _ (c .before .before .before .before .if2 .left)) (rw (c .before .e .given .1) at (c .before .before .before .lower-literal-to-operand .ensures))
+returns-3 c = lit-refused _ _ _ _ _ _ _ _ _ _ (kind-of _ _ (c .before .before .before .before .before .before .before .before .before .operand-at .ensures) _ (c .before .before .before .before .before .before .before .before .operand-kind .ensures) refl) (sym (c .before .before .before .before .before .before .before .is-literal .ensures) ∙ not-false _ (c .before .before .before .before .before .before .if1 .left)) (sym (c .before .before .before .before .before .is-check .ensures) ∙ not-false _ (c .before .before .before .before .if2 .left)) (rw (c .before .e .given .1) at (c .before .before .before .lower-literal-to-operand .ensures))
 
 returns-4 : tie.Need-returns-4
-returns-4 c = lit-tests _ _ _ _ _ _ _ _ _ _ _ (kind-of _ _ (c .before .before .before .before .before .before .before .before .before .before .before .before .before .before .before .before .before .before .before .before .before .before .operand-at .ensures) _ (c .before .before .before .before .before .before .before .before .before .before .before .before .before .before .before .before .before .before .before .before .before .operand-kind .ensures) refl) (sym (c .before .before .before .before .before .before .before .before .before .before .before .before .before .before .before .before .before .before .before .before .is-literal .ensures) ∙ not-false _ (c .before .before .before .before .before .before .before .before .before .before .before .before .before .before .before .before .before .before .before .if1 .left)) (sym (c .before .before .before .before .before .before .before .before .before .before .before .before .before .before .before .before .before .before .is-check .ensures) ∙ not-false _ (c .before .before .before .before .before .before .before .before .before .before .before .before .before .before .before .before .before .if2 .left)) (rw (c .before .before .before .before .before .before .before .before .before .before .before .before .before .before .constant .given .1) at (c .before .before .before .before .before .before .before .before .before .before .before .before .before .before .before .before .lower-literal-to-operand .ensures)) (c .before .before .before .before .before .before .before .before .pattern-match-const .ensures)
+returns-4 c = lit-tests _ _ _ _ _ _ _ _ _ _ (kind-of _ _ (c .before .before .before .before .before .before .before .before .before .before .before .before .before .before .before .before .before .before .before .before .before .before .operand-at .ensures) _ (c .before .before .before .before .before .before .before .before .before .before .before .before .before .before .before .before .before .before .before .before .before .operand-kind .ensures) refl) (sym (c .before .before .before .before .before .before .before .before .before .before .before .before .before .before .before .before .before .before .before .before .is-literal .ensures) ∙ not-false _ (c .before .before .before .before .before .before .before .before .before .before .before .before .before .before .before .before .before .before .before .if1 .left)) (sym (c .before .before .before .before .before .before .before .before .before .before .before .before .before .before .before .before .before .before .is-check .ensures) ∙ not-false _ (c .before .before .before .before .before .before .before .before .before .before .before .before .before .before .before .before .before .if2 .left)) (rw (c .before .before .before .before .before .before .before .before .before .before .before .before .before .before .constant .given .1) at (c .before .before .before .before .before .before .before .before .before .before .before .before .before .before .before .before .lower-literal-to-operand .ensures)) (c .before .before .before .before .before .before .before .before .pattern-match-const .ensures)
 
 pub pattern-match-lit-spec : {M : Type 1} → statement M
 pattern-match-lit-spec =

@@ -33,7 +33,7 @@ abbrev pub μ-loop : lts.MeasureT-loop
 μ-loop image tables bindings blocks₀ statements₀ locals₀ entries₀ visits₀ mode p row from fields count place c₀ d₀ here₀ other₀ i₀ blocks statements locals entries visits c d here other i = count - i
 
 pub loop-holds : (t : ℕ) → lts.Need-loop-holds (calls t) (adt·pattern-match-adt-at t) adt·pattern-match-adt.Post Inv-loop μ-loop
-loop-holds t c = arguments-begin (c .before .before .before .before .before .before .before .args .row) _ _ _ _ _ _ _ _ _ _ _ _ _ _ _ (c .before .before .before .before .before .before .before .pre .1 .0)
+loop-holds t c = arguments-begin (c .before .before .before .before .before .before .before .args .row) _ _ _ _ _ _ _ _ _ _ _ _ _ _ (c .before .before .before .before .before .before .before .pre .1 .0)
 
 pub same-length : (t : ℕ) → lts.Need-same-length (calls t) (adt·pattern-match-adt-at t) adt·pattern-match-adt.Post Inv-loop μ-loop
 same-length t c = c .before .before .before .loop .inv .walkable .primed .blocks ∙ sym (c .before .before .before .before .before .before .before .before .before .before .before .pre .1 .0 .primed .blocks)
@@ -51,7 +51,7 @@ pub same-length-5 : (t : ℕ) → lts.Need-same-length-5 (calls t) (adt·pattern
 same-length-5 t c = c .before .before .before .loop .inv .walkable .visits-sized ∙ sym (c .before .before .before .before .before .before .before .before .before .before .before .pre .1 .0 .visits-sized)
 
 pub returns : (t : ℕ) → lts.Need-returns (calls t) (adt·pattern-match-adt-at t) adt·pattern-match-adt.Post Inv-loop μ-loop
-returns t c = c .before .before .before .loop .inv .rest (argument-full (c .before .before .before .before .before .before .before .before .before .before .before .args .row) (c .before .before .before .before .before .before .before .before .before .before .before .args .image .now) (c .before .before .before .before .before .before .before .before .before .before .before .args .bindings .now) (c .before .before .before .before .before .before .before .before .before .before .before .args .p) (c .before .before .before .before .before .before .before .before .before .before .before .args .from) (c .before .before .before .before .before .before .before .before .before .before .before .args .fields) (c .before .before .before .before .before .before .before .before .before .before .before .args .count) (c .before .before .before .before .before .before .before .before .before .before .before .args .mode) (c .before .before .before .before .before .before .before .before .before .before .before .args .place) (c .before .before .before .loop .i) _ _ _ _ _ _ (c .before .before .loop-test .taken) refl (no-room (c .before .before .before .before .before .before .before .before .before .before .before .args .place) _ (c .if1 .taken)))
+returns t c = c .before .before .before .loop .inv .rest (argument-full (c .before .before .before .before .before .before .before .before .before .before .before .args .row) (c .before .before .before .before .before .before .before .before .before .before .before .args .image .now) (c .before .before .before .before .before .before .before .before .before .before .before .args .bindings .now) (c .before .before .before .before .before .before .before .before .before .before .before .args .p) (c .before .before .before .before .before .before .before .before .before .before .before .args .from) (c .before .before .before .before .before .before .before .before .before .before .before .args .fields) (c .before .before .before .before .before .before .before .before .before .before .before .args .count) (c .before .before .before .before .before .before .before .before .before .before .before .args .mode) (c .before .before .before .before .before .before .before .before .before .before .before .args .place) (c .before .before .before .loop .i) _ _ _ _ _ (c .before .before .loop-test .taken) refl (no-room (c .before .before .before .before .before .before .before .before .before .before .before .args .place) _ (c .if1 .taken)))
 
 pub argument-pat-requires : (t : ℕ) → lts.Need-argument-pat-requires (calls t) (adt·pattern-match-adt-at t) adt·pattern-match-adt.Post Inv-loop μ-loop
 argument-pat-requires t c κs = (c .before .before .before .before .before .before .before .before .before .before .before .pre .1 .0 .image-valid, c .before .before .before .before .before .before .before .before .before .before .before .pre .1 .0 .whole, argument-lies (c .before .before .before .before .before .before .before .before .before .before .before .args .image .now) (c .before .before .before .before .before .before .before .before .before .before .before .args .p .0) (c .before .before .before .before .before .before .before .before .before .before .before .args .from) (c .before .before .before .before .before .before .before .before .before .before .before .args .fields) (c .before .before .before .before .before .before .before .before .before .before .before .args .count) (c .before .before .before .loop .i) (c .before .before .loop-test .taken) (c .before .before .before .before .before .before .before .before .before .before .before .args .row) (c .before .before .before .before .before .before .before .before .before .before .before .pre .1 .1 .1))
@@ -74,7 +74,7 @@ loop-again t c =
     let there = some-room (c .before .before .before .before .before .before .before .before .before .before .before .before .before .before .before .before .before .before .args .place) _ (omega (arith, c .before .before .before .before .before .before .before .if1 .left)) in
     let below : c .before .before .before .before .before .before .argument-pat .result .0 < patternCount (c .before .before .before .before .before .before .before .before .before .before .before .before .before .before .before .before .before .before .args .image .now) = omega (arith, c .before .before .before .before .before .before .argument-pat .ensures, c .before .before .before .before .before .before .before .before .before .before .before .before .before .before .before .before .before .before .pre .1 .1 .0, c .before .before .before .before .before .before .before .before .before .before .before .before .before .before .before .before .before .before .pre .1 .1 .1 .below (c .before .before .before .before .before .before .before .before .before .before .loop .i) (c .before .before .before .before .before .before .before .before .before .loop-test .taken)) in
     arguments-again (c .before .before .before .before .before .before .before .before .before .before .loop .inv) (c .before .before .before .before .before .before .before .before .before .loop-test .taken) refl there q (c .before .before .before .before .before .before .argument-pat .ensures) (c .before .before .visit .kept .0)
-    (idle-walks (c .before .before .before .before .before .before .before .before .before .before .before .before .before .before .before .before .before .before .args .image .now) (c .before .before .before .before .before .before .before .before .before .before .before .before .before .before .before .before .before .before .args .bindings .now) q (c .before .before .before .before .before .before .before .before .before .before .before .before .before .before .before .before .before .before .args .mode) _ _ _ _ _ _ (c .before .before .before .before .before .before .before .before .before .before .before .before .before .before .before .before .before .before .pre .1 .0 .image-valid) below (c .before .before .before .before .before .before .before .before .before .before .loop .inv .walkable .begins) (c .before .before .visit .ensures) (sym (c .before .before .before .before .before .nothing-to-do .ensures) ∙ c .before .before .before .before .if2 .taken) _)
+    (idle-walks (c .before .before .before .before .before .before .before .before .before .before .before .before .before .before .before .before .before .before .args .image .now) (c .before .before .before .before .before .before .before .before .before .before .before .before .before .before .before .before .before .before .args .bindings .now) q (c .before .before .before .before .before .before .before .before .before .before .before .before .before .before .before .before .before .before .args .mode) _ _ _ _ _ (c .before .before .before .before .before .before .before .before .before .before .before .before .before .before .before .before .before .before .pre .1 .0 .image-valid) below (c .before .before .before .before .before .before .before .before .before .before .loop .inv .walkable .begins) (c .before .before .visit .ensures) (sym (c .before .before .before .before .before .nothing-to-do .ensures) ∙ c .before .before .before .before .if2 .taken) _)
 
 pub argument-elem-requires : (t : ℕ) → lts.Need-argument-elem-requires (calls t) (adt·pattern-match-adt-at t) adt·pattern-match-adt.Post Inv-loop μ-loop
 argument-elem-requires t c κs = (c .before .before .before .before .before .before .before .before .before .before .before .before .before .before .pre .1 .0 .image-valid, c .before .before .before .before .before .before .before .before .before .before .before .before .before .before .pre .1 .0 .whole, argument-at (c .before .before .before .before .before .before .before .before .before .before .before .before .before .before .args .image .now) (c .before .before .before .before .before .before .before .before .before .before .before .before .before .before .args .p .0) (c .before .before .before .before .before .before .before .before .before .before .before .before .before .before .args .from) (c .before .before .before .before .before .before .before .before .before .before .before .before .before .before .args .fields) (c .before .before .before .before .before .before .before .before .before .before .before .before .before .before .args .count) (c .before .before .before .before .before .before .loop .i) (c .before .before .before .before .before .loop-test .taken) (c .before .before .before .before .before .before .before .before .before .before .before .before .before .before .args .row) (c .before .before .before .before .before .before .before .before .before .before .before .before .before .before .pre .1 .1 .1))
@@ -109,7 +109,7 @@ same-length-10 t c = c .before .before .before .before .before .before .before .
 pub returns-2 : (t : ℕ) → lts.Need-returns-2 (calls t) (adt·pattern-match-adt-at t) adt·pattern-match-adt.Post Inv-loop μ-loop
 returns-2 t c =
     let there = project-goes _ _ (c .before .before .before .before .before .before .before .before .before .before .before .before .before .before .before .before .before .before .before .project .ensures) (room-taken _ _ (c .before .before .before .before .before .before .before .before .before .before .before .before .before .before .before .before .before .before .before .project .ensures) (omega (arith, c .before .before .before .before .before .before .before .before .before .before .before .before .before .before .before .before .before .before .before .before .before .before .before .before .if1 .left))) in
-    c .before .before .before .before .before .before .before .before .before .before .before .before .before .before .before .before .before .before .before .before .before .before .before .before .before .before .before .loop .inv .rest (argument-stops (c .before .before .before .before .before .before .before .before .before .before .before .before .before .before .before .before .before .before .before .before .before .before .before .before .before .before .before .before .before .before .before .before .before .before .before .args .row) (c .before .before .before .before .before .before .before .before .before .before .before .before .before .before .before .before .before .before .before .before .before .before .before .before .before .before .before .before .before .before .before .before .before .before .before .args .image .now) (c .before .before .before .before .before .before .before .before .before .before .before .before .before .before .before .before .before .before .before .before .before .before .before .before .before .before .before .before .before .before .before .before .before .before .before .args .bindings .now) (c .before .before .before .before .before .before .before .before .before .before .before .before .before .before .before .before .before .before .before .before .before .before .before .before .before .before .before .before .before .before .before .before .before .before .before .args .p) (c .before .before .before .before .before .before .before .before .before .before .before .before .before .before .before .before .before .before .before .before .before .before .before .before .before .before .before .before .before .before .before .before .before .before .before .args .from) (c .before .before .before .before .before .before .before .before .before .before .before .before .before .before .before .before .before .before .before .before .before .before .before .before .before .before .before .before .before .before .before .before .before .before .before .args .fields) (c .before .before .before .before .before .before .before .before .before .before .before .before .before .before .before .before .before .before .before .before .before .before .before .before .before .before .before .before .before .before .before .before .before .before .before .args .count) (c .before .before .before .before .before .before .before .before .before .before .before .before .before .before .before .before .before .before .before .before .before .before .before .before .before .before .before .before .before .before .before .before .before .before .before .args .mode) (c .before .before .before .before .before .before .before .before .before .before .before .before .before .before .before .before .before .before .before .before .before .before .before .before .before .before .before .before .before .before .before .before .before .before .before .args .place) (c .before .before .before .before .before .before .before .before .before .before .before .before .before .before .before .before .before .before .before .before .before .before .before .before .before .before .before .loop .i) (c .before .before .before .before .before .before .before .before .before .before .before .before .before .before .before .before .before .before .before .before .before .before .before .before .before .before .before .loop .c) (c .before .before .before .before .before .before .before .before .before .before .before .before .before .before .before .before .before .before .before .before .before .before .before .before .before .before .before .loop .d) (c .before .before .before .before .before .before .before .before .before .before .before .before .before .before .before .before .before .before .before .before .before .before .before .before .before .before .before .loop .here) (c .before .before .before .before .before .before .before .before .before .before .before .before .before .before .before .before .before .before .before .before .before .before .before .before .before .before .before .loop .other) _ _ (c .before .before .before .before .before .before .before .before .before .before .before .before .before .before .before .before .before .before .before .before .before .before .before .before .before .before .loop-test .taken) (c .before .before .before .before .before .before .before .before .before .before .before .before .before .before .before .before .before .before .before .before .argument-elem .ensures) there (c .before .before .before .before .before .before .before .before .before .before .before .before .before .before .before .before .before .before .before .before .before .before .before .argument-pat .result) (c .before .before .before .before .before .before .before .before .before .before .before .before .before .before .before .before .before .before .before .before .before .before .before .argument-pat .ensures) (rw (c .before .e .given .1) at (c .before .before .before .before .before .before .before .before .before .before .before .before .before .pattern-match-inner .ensures)))
+    c .before .before .before .before .before .before .before .before .before .before .before .before .before .before .before .before .before .before .before .before .before .before .before .before .before .before .before .loop .inv .rest (argument-stops (c .before .before .before .before .before .before .before .before .before .before .before .before .before .before .before .before .before .before .before .before .before .before .before .before .before .before .before .before .before .before .before .before .before .before .before .args .row) (c .before .before .before .before .before .before .before .before .before .before .before .before .before .before .before .before .before .before .before .before .before .before .before .before .before .before .before .before .before .before .before .before .before .before .before .args .image .now) (c .before .before .before .before .before .before .before .before .before .before .before .before .before .before .before .before .before .before .before .before .before .before .before .before .before .before .before .before .before .before .before .before .before .before .before .args .bindings .now) (c .before .before .before .before .before .before .before .before .before .before .before .before .before .before .before .before .before .before .before .before .before .before .before .before .before .before .before .before .before .before .before .before .before .before .before .args .p) (c .before .before .before .before .before .before .before .before .before .before .before .before .before .before .before .before .before .before .before .before .before .before .before .before .before .before .before .before .before .before .before .before .before .before .before .args .from) (c .before .before .before .before .before .before .before .before .before .before .before .before .before .before .before .before .before .before .before .before .before .before .before .before .before .before .before .before .before .before .before .before .before .before .before .args .fields) (c .before .before .before .before .before .before .before .before .before .before .before .before .before .before .before .before .before .before .before .before .before .before .before .before .before .before .before .before .before .before .before .before .before .before .before .args .count) (c .before .before .before .before .before .before .before .before .before .before .before .before .before .before .before .before .before .before .before .before .before .before .before .before .before .before .before .before .before .before .before .before .before .before .before .args .mode) (c .before .before .before .before .before .before .before .before .before .before .before .before .before .before .before .before .before .before .before .before .before .before .before .before .before .before .before .before .before .before .before .before .before .before .before .args .place) (c .before .before .before .before .before .before .before .before .before .before .before .before .before .before .before .before .before .before .before .before .before .before .before .before .before .before .before .loop .i) (c .before .before .before .before .before .before .before .before .before .before .before .before .before .before .before .before .before .before .before .before .before .before .before .before .before .before .before .loop .c) (c .before .before .before .before .before .before .before .before .before .before .before .before .before .before .before .before .before .before .before .before .before .before .before .before .before .before .before .loop .here) (c .before .before .before .before .before .before .before .before .before .before .before .before .before .before .before .before .before .before .before .before .before .before .before .before .before .before .before .loop .other) _ _ (c .before .before .before .before .before .before .before .before .before .before .before .before .before .before .before .before .before .before .before .before .before .before .before .before .before .before .loop-test .taken) (c .before .before .before .before .before .before .before .before .before .before .before .before .before .before .before .before .before .before .before .before .argument-elem .ensures) there (c .before .before .before .before .before .before .before .before .before .before .before .before .before .before .before .before .before .before .before .before .before .before .before .argument-pat .result) (c .before .before .before .before .before .before .before .before .before .before .before .before .before .before .before .before .before .before .before .before .before .before .before .argument-pat .ensures) (rw (c .before .e .given .1) at (c .before .before .before .before .before .before .before .before .before .before .before .before .before .pattern-match-inner .ensures)))
 
 pub enum-known-c1 : (t : ℕ) → lts.Need-enum-known-c1 (calls t) (adt·pattern-match-adt-at t) adt·pattern-match-adt.Post Inv-loop μ-loop
 enum-known-c1 t c = search needs
@@ -141,4 +141,4 @@ pub same-length-15 : (t : ℕ) → lts.Need-same-length-15 (calls t) (adt·patte
 same-length-15 t c = c .before .loop .inv .walkable .visits-sized ∙ sym (c .before .before .before .before .before .before .before .before .before .pre .1 .0 .visits-sized)
 
 pub returns-3 : (t : ℕ) → lts.Need-returns-3 (calls t) (adt·pattern-match-adt-at t) adt·pattern-match-adt.Post Inv-loop μ-loop
-returns-3 t c = c .before .loop .inv .rest (arguments-end (c .before .before .before .before .before .before .before .before .before .args .row) (c .before .before .before .before .before .before .before .before .before .args .image .now) (c .before .before .before .before .before .before .before .before .before .args .bindings .now) (c .before .before .before .before .before .before .before .before .before .args .p) (c .before .before .before .before .before .before .before .before .before .args .from) (c .before .before .before .before .before .before .before .before .before .args .fields) (c .before .before .before .before .before .before .before .before .before .args .count) (c .before .before .before .before .before .before .before .before .before .args .mode) (c .before .before .before .before .before .before .before .before .before .args .place) (c .before .loop .i) (c .before .loop .c) (c .before .loop .d) (c .before .loop .here) (c .before .loop .other) _ _ (c .loop-test .left) (c .before .loop .inv .walkable .begins))
+returns-3 t c = c .before .loop .inv .rest (arguments-end (c .before .before .before .before .before .before .before .before .before .args .row) (c .before .before .before .before .before .before .before .before .before .args .image .now) (c .before .before .before .before .before .before .before .before .before .args .bindings .now) (c .before .before .before .before .before .before .before .before .before .args .p) (c .before .before .before .before .before .before .before .before .before .args .from) (c .before .before .before .before .before .before .before .before .before .args .fields) (c .before .before .before .before .before .before .before .before .before .args .count) (c .before .before .before .before .before .before .before .before .before .args .mode) (c .before .before .before .before .before .before .before .before .before .args .place) (c .before .loop .i) (c .before .loop .c) (c .before .loop .here) (c .before .loop .other) _ _ (c .loop-test .left) (c .before .loop .inv .walkable .begins))
