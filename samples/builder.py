@@ -52,10 +52,14 @@ class Body:
 def type_behind(m, type_, element, variant):
     """The type behind one element and the variant that a Downcast leaves, or None.
 
-    No place whose type is asked for has a Subslice in it.
+    A part of an array is `part` and the type of its elements.
     """
-    kind, a, b, c, _ = m.types[type_]
     word = element[0]
+    if isinstance(type_, str):
+        return None
+    if isinstance(type_, tuple):
+        return {"i": (type_[1], None), "e": (type_[1], None), "s": (type_, None)}.get(word)
+    kind, a, b, c, _ = m.types[type_]
     if word == "v":
         return (type_, element[1]) if variant is None and kind == ADT and c == ENUM \
             and a <= element[1] < a + b else None
@@ -69,7 +73,11 @@ def type_behind(m, type_, element, variant):
         return None
     if word == "deref":
         return (a, None) if kind == REFERENCE else None
-    return (a, None) if kind in (ARRAY, SLICE_TYPE) else None
+    if kind not in (ARRAY, SLICE_TYPE):
+        return None
+    if word == "s":
+        return (type_, None) if kind == SLICE_TYPE else (("part", a), None)
+    return a, None
 
 
 class Builder:
@@ -138,14 +146,14 @@ class Builder:
             raise Refused(11, p)
         return local, before + elements
 
-    def place_type(self, place, p):
-        """The number of a place's type; 12 where an element does not apply."""
+    def place_row(self, place, p):
+        """The row of a place's type, of zeros where that has no number; 12 where an element does not apply."""
         state = self.body.locals[place[0]], None
         for element in place[1]:
             state = type_behind(self.m, state[0], element, state[1])
             if state is None:
                 raise Refused(12, p)
-        return state[0]
+        return self.m.types[state[0]] if isinstance(state[0], int) else [0] * 5
 
     def literal(self, p, start):
         """lower_literal_to_operand"""

@@ -7,6 +7,9 @@ from call_faults import OTHER_IMAGES, body_scripts, call_scripts
 from call_notation import YARD, commands
 from call_scripts import SCRIPTS
 from calls import CALL_RULES, Replay
+from match_chance import match_scripts
+from match_corners import HARBOUR, match_corners
+from readable import damaged
 from records import SCRIPT, record
 
 
@@ -19,7 +22,11 @@ def all_scripts():
         yield name, f"Number 2 for the rule {rule}.", image, commands(script), answers
     for name, text, other, script, answers in OTHER_IMAGES:
         yield name, text, other, commands(script), answers
-    for name, text, other, script in chance_scripts():
+    for name, text, script, answers in match_corners():
+        yield name, text, HARBOUR.encode(), commands(script, HARBOUR), answers
+    yield ("match_damaged", "An image that ends too soon is 1.", damaged(),
+           commands("blocks=1; match 0 0 -; assign 0 0; self 0 0 0"), "refused 1, refused 1, refused 1")
+    for name, text, other, script in (*chance_scripts(), *match_scripts()):
         yield name, text, other, script, None
 
 

@@ -7,10 +7,18 @@ Commands stand one behind the other with `; ` between them; `3 x push` is three 
 - `blocks=2`: the count of a table is set, whatever lies in it.
 - `block 0: 1 0 1` sets words of a row, from its first on; `statement 2.15: 0 16` from its
   word 15 on. Rows are those of docs/BODY.md: block, statement, local, scope, entry.
+- `match seven 0 -`, `assign pair 0`, `self x 0 1`: the calls on patterns, which name patterns
+  and bindings of `match_corners.py`.
+- `binding 0: 1 -` sets bindings' locals, and `bound=2` how many are handed in; `place 1 f0 v2
+  s1-2 deref` the place, all its words; `elements=17` its count alone, `discr=-` the
+  discriminant local, `handed 2: 6` words of table 7 as they stand.
 """
 
 import re
 
+from call_matches import (
+    ASSIGNMENT, BINDINGS, BOUND_AT, DISCR_AT, MATCH, PLACE, SELF_PARAM, place_words,
+)
 from calls import (
     ASSUME, BOOL_WORD, COUNTS, I128_WORD, LIMITS, MERGE, POKE, POP, PUSH, TABLES, TEMP,
     UNTIL, USIZE_WORD, WIDTHS,
@@ -20,7 +28,9 @@ from images import (
 )
 
 CALL_WORDS = {"temp": TEMP, "merge": MERGE, "push": PUSH, "assume": ASSUME, "pop": POP,
-              "until": UNTIL}
+              "until": UNTIL, "match": MATCH, "assign": ASSIGNMENT, "self": SELF_PARAM}
+HANDED_TABLES = {"binding": BINDINGS, "handed": PLACE}
+HANDED_WORDS = {"elements": 1, "bound": BOUND_AT, "discr": DISCR_AT}
 ROW_WORDS = "block", "statement", "local", "scope", "entry"
 COUNT_WORDS = "blocks", "statements", "locals", "scopes", "entries"
 TYPE_WORDS = {"bool": BOOL_WORD, "usize": USIZE_WORD, "i128": I128_WORD}
@@ -47,37 +57,51 @@ def yard():
 YARD = yard()
 
 
-def number(text):
-    """The number that an argument of a call stands for."""
+def number(text, m):
+    """The number that an argument of a call stands for, by the names of an image."""
     if text == "-":
         return ABSENT
-    if text in YARD.names:
-        return YARD.names[text][1]
+    if text in m.names:
+        return m.names[text][1]
     return TYPE_WORDS[text] if text in TYPE_WORDS else int(text)
 
 
-def command(text):
+def place(words):
+    """The commands that set a place, words above its count to 0."""
+    elements = []
+    for word in words[1:]:
+        kind = "deref" if word == "deref" else word[0]
+        elements.append((kind, *map(int, word.removeprefix(kind).split("-") if kind != "deref" else ())))
+    row = place_words((int(words[0]), tuple(elements)))
+    return [(POKE, PLACE, at, word) for at, word in enumerate(row + [0] * (BOUND_AT - len(row)))]
+
+
+def command(text, m):
     """The commands that one part of a script stands for."""
     times = re.fullmatch(r"(\d+) x (.*)", text)
     if times:
-        return command(times[2]) * int(times[1])
-    count = re.fullmatch(r"(\w+)=(\d+)", text)
+        return command(times[2], m) * int(times[1])
+    count = re.fullmatch(r"(\w+)=(\d+|-)", text)
+    if count and count[1] in HANDED_WORDS:
+        return [(POKE, PLACE, HANDED_WORDS[count[1]], number(count[2], m))]
     if count:
         return [(POKE, COUNTS, COUNT_WORDS.index(count[1]), int(count[2]))]
     row = re.fullmatch(r"(\w+) (\d+)(?:\.(\d+))?: (.*)", text)
     if row:
-        table = ROW_WORDS.index(row[1])
-        start = WIDTHS[table] * int(row[2]) + int(row[3] or 0)
-        return [(POKE, table, at, number(word))
+        table = HANDED_TABLES.get(row[1]) or ROW_WORDS.index(row[1])
+        start = (1 if row[1] in HANDED_TABLES else WIDTHS[table]) * int(row[2]) + int(row[3] or 0)
+        return [(POKE, table, at, number(word, m))
                 for at, word in enumerate(row[4].split(), start)]
     name, *words = text.split()
-    a, b = ([number(word) for word in words] + [0, 0])[:2]
-    return [(CALL_WORDS[name], a, b, 0)]
+    if name == "place":
+        return place(words)
+    a, b, c = ([number(word, m) for word in words] + [0, 0, 0])[:3]
+    return [(CALL_WORDS[name], a, b, c)]
 
 
-def commands(text):
+def commands(text, m=YARD):
     """The commands of a script."""
-    return [one for part in text.split("; ") if part for one in command(part)]
+    return [one for part in text.split("; ") if part for one in command(part, m)]
 
 
 def with_counts(counts):

@@ -1,4 +1,4 @@
-"""Judges scripts of calls on a body and its scopes: what crates/replay_calls prints.
+"""Judges scripts of calls on a body, its scopes and patterns: what crates/replay_matches prints.
 
 Written from document 01 and from docs/BODY.md, which has the rows of the five tables. A
 script is an image and commands of four words; `run` answers a line for each call.
@@ -7,6 +7,9 @@ script is an image and commands of four words; `run` answers a line for each cal
 from functools import lru_cache
 
 from builder import MOST_BLOCKS, MOST_ENTRIES, MOST_LOCALS, MOST_STATEMENTS, Refused
+from call_matches import (
+    BINDINGS, MATCH, MATCH_RULES, PLACE, SELF_PARAM, Handed, match_call, match_faults,
+)
 from images import ABSENT, SLICE_TYPE, broken, decode
 
 BLOCKS, STATEMENTS, LOCALS, SCOPES, ENTRIES, COUNTS = range(6)
@@ -33,7 +36,7 @@ CALL_RULES = (
     "operandKindExists", "operandNamesLocal",
     "placeNamesLocal", "placeAtMost16", "elementKindExists", "downcastNamesVariant",
     "localNamesType", "scopeEndsNotBefore", "entriesHaveScope", "entryNamesLocal",
-    "callNamesType", "callNamesBlock",
+    "callNamesType", "callNamesBlock", *MATCH_RULES,
 )
 
 
@@ -273,23 +276,29 @@ class Replay:
 
     def __init__(self, image):
         self.m, self.body = None if broken(image) else decode(image), Body()
-        self.rules = []
+        self.handed, self.rules = Handed(), []
 
-    def faults(self, op=MERGE, a=ABSENT, b=ABSENT):
+    def faults(self, op=MERGE, a=ABSENT, b=ABSENT, c=0):
         """The rules that number 2 is given for, at this call."""
-        return body_faults(self.m, self.body) or call_faults(self.m, self.body, op, a, b)
+        found = body_faults(self.m, self.body)
+        if found or op < MATCH:
+            return found or call_faults(self.m, self.body, op, a, b)
+        return match_faults(self.m, self.body, self.handed, op, a, b, c)
 
-    def call(self, op, a, b):
+    def call(self, op, a, b, c):
         """The answer to a call. The body is the one behind it."""
         if self.m is None:
             return "refused 1 65535 0"
-        self.rules = self.faults(op, a, b)
+        self.rules = self.faults(op, a, b, c)
         if self.rules:
             return "refused 2 65535 0"
         self.body.clear_above()
         after = self.body.copy()
         try:
-            answer = CALLS[op](self.m, after, a, b)
+            if op < MATCH:
+                answer = CALLS[op](self.m, after, a, b)
+            else:
+                answer = match_call(self.m, after, self.handed, op, a, b, c)
         except Refused as refusal:
             return "refused " + " ".join(map(str, refusal.numbers))
         self.body = after
@@ -297,7 +306,12 @@ class Replay:
 
     def line(self, op, a, b, c):
         """Does a command: the line that is printed, nothing for a word that is set."""
+        if op == POKE and a in (BINDINGS, PLACE):
+            self.handed.poke(a, b, c)
+            return ""
         if op == POKE:
             self.body.poke(a, b, c)
             return ""
-        return " ".join([self.call(op, a, b), *map(str, self.body.counts + self.body.sums())])
+        answer = self.call(op, a, b, c)
+        more = self.handed.sums() if MATCH <= op <= SELF_PARAM else []
+        return " ".join([answer, *map(str, self.body.counts + self.body.sums() + more)])

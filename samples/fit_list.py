@@ -11,7 +11,9 @@ from collections import Counter
 from chance import random_image, word_damage
 from corners import CORNERS
 from fits import fits
-from images import ABSENT, broken, decode
+from images import (
+    ABSENT, INTEGER, NAMES_VARIANT, OR, PATH, RECORD, SLICE, STRUCT, TUPLE, UNRESOLVED, WILD, Image, broken, decode,
+)
 from lowering import root_type
 from records import FIT, record
 from typed_chance import typed_image
@@ -61,6 +63,22 @@ def random_questions(rng):
                 yield sure, kept, (p, place_type(m, p), *mixed_locals(rng, m))
 
 
+def unreached_questions():
+    """An Or of a Wild and of a pattern that is refused where it is reached, in either order."""
+    refused = {"variant": (PATH, NAMES_VARIANT, 0), "record": (RECORD, 0, 0, 0), "tuple": (TUPLE, 0, 0, ABSENT),
+               "slice": (SLICE, 0, 0, 0, ABSENT), "ellipsis": (TUPLE, 0, 0, 1), "unresolved": (PATH, UNRESOLVED)}
+    for name, row in refused.items():
+        for order in (0, 1), (1, 0):
+            m = Image()
+            u8 = m.add_type(INTEGER, 1)
+            m.add_adt(STRUCT, m.add_variant([u8]), 1)
+            type_ = m.add_tuple_type() if name == "ellipsis" else u8
+            pair = [m.add_pattern(WILD, type_), m.add_pattern(row[0], type_, *row[1:])]
+            p = m.add_pattern(OR, type_, m.add_words(*(pair[at] for at in order)), 2)
+            where = "behind" if order[0] == 0 else "before"
+            yield f"refused:{name}-{where}-a-wild", m.encode(), (p, type_, *apart(m))
+
+
 def all_questions():
     """Name, image and words of each question."""
     for name, m in CORNERS:
@@ -73,6 +91,7 @@ def all_questions():
     for what, words in (("pattern", (len(m.patterns), 0, *own)), ("type", (0, len(m.types), *own)),
                         ("bindings", (0, 0, *own, 0)), ("words", (0, 0, 0))):
         yield f"names-nothing:{what}", m.encode(), words
+    yield from unreached_questions()
     alike, rng = Counter(), random.Random(SEED)
     for sort, image, words in random_questions(rng):
         kind = (sort, answered(image, words), ABSENT if broken(image) else decode(image).patterns[words[0]][0])

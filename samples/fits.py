@@ -40,10 +40,9 @@ class Fit:
         return kind, bytes(self.m.data[offset:offset + count])
 
     def adt_variants(self, type_):
-        """The variants of an ADT that is no union."""
-        kind, first, count, sort, _ = self.m.types[type_]
-        hold(kind == ADT and sort != UNION)
-        return range(first, first + count)
+        """The variants of an ADT; other types have none."""
+        kind, first, count, _, _ = self.m.types[type_]
+        return range(first, first + count) if kind == ADT else range(0)
 
     def is_enum(self, type_):
         return self.m.types[type_][0] == ADT and self.m.types[type_][3] == ENUM
@@ -53,11 +52,12 @@ class Fit:
         return bytes(self.m.data[offset:offset + 16])
 
     def variant_fields(self, type_, v):
-        """The field types of a variant that the type has; "discriminants differ"."""
+        """The field types of a variant, none where the type has it not; "discriminants differ"."""
         variants = self.adt_variants(type_)
-        hold(v in variants)
         if self.is_enum(type_):
             hold(len({self.discriminant(w) for w in variants}) == len(variants))
+        if v not in variants:
+            return []
         first, count, _ = self.m.variants[v]
         return self.words(first, count)
 
@@ -104,17 +104,19 @@ class Fit:
         if ellipsis == ABSENT:
             hold(len(args) == len(fields))
             return list(zip(args, fields))
-        hold(len(args) <= len(fields) and ellipsis <= len(args))
-        behind = len(args) - ellipsis
+        hold(len(args) <= len(fields))
+        behind = max(0, len(args) - ellipsis)
         return list(zip(args[:ellipsis], fields)) + list(zip(args[ellipsis:], fields[len(fields) - behind:]))
 
     def below(self, p):
-        """The subpatterns directly below, each with the type of its place, but rests; the conditions on p itself hold."""
+        """The subpatterns directly below, each with the type of its place, but rests; the conditions on p itself hold.
+
+        A subpattern whose place has no type, as a field that is not there, does not fit.
+        """
         kind, type_, _, a, b, c, d = self.m.patterns[p]
         sort, first, count = self.m.types[type_][:3]
         if kind == TUPLE:
-            hold(sort == TUPLE_TYPE)
-            return self.row(self.words(a, b), self.words(first, count), c)
+            return self.row(self.words(a, b), self.words(first, count) if sort == TUPLE_TYPE else [], c)
         if kind == OR:
             hold(b > 0)
             return [(q, type_) for q in self.words(a, b)]
@@ -131,7 +133,7 @@ class Fit:
         if kind == BIND:
             return [] if b == ABSENT else [(b, type_)]
         if kind == SLICE:
-            hold(sort in (ARRAY, SLICE_TYPE))
+            hold(sort in (ARRAY, SLICE_TYPE) or b + c == 0)
             if sort == ARRAY:
                 hold(b + c == count if d == ABSENT else b + c <= count)
             if d != ABSENT:
@@ -200,9 +202,15 @@ class Fit:
 
     def reached(self, p):
         """"nothing refused as 3 to 10 or 13 is reached"; what the conditions above shut out is not asked again."""
-        kind, _, _, a, _, _, d = self.m.patterns[p]
+        kind, type_, _, a, b, c, d = self.m.patterns[p]
         hold(kind not in REFUSED)
         hold(kind != PATH or a in (NAMES_VARIANT, NAMES_CONSTANT))
+        hold(kind != TUPLE or self.m.types[type_][0] == TUPLE_TYPE)
+        hold(kind != SLICE or self.m.types[type_][0] in (ARRAY, SLICE_TYPE))
+        hold(kind not in (TUPLE, TUPLE_STRUCT) or c == ABSENT or c <= b)
+        if kind in (RECORD, TUPLE_STRUCT) or kind == PATH and a == NAMES_VARIANT:
+            v = {RECORD: c, TUPLE_STRUCT: d, PATH: b}[kind]
+            hold(v in self.adt_variants(type_) and self.m.types[type_][3] != UNION)
         hold(kind != BIND or self.locals[a] != ABSENT)
         if kind == SLICE and d != ABSENT and self.m.patterns[d][0] == BIND:
             hold(self.locals[self.m.patterns[d][3]] != ABSENT)

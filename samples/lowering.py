@@ -33,8 +33,17 @@ class Walk(Builder):
 
     def match(self, place, p):
         """pattern_match"""
-        current, other = self.inner(0, self.body.other, place, p, CHECK)
+        current, other = self.inner(self.body.then, self.body.other, place, p, CHECK)
         return self.inner(current, other, place, p, BIND_MODE)
+
+    def assign(self, place, p):
+        """pattern_match_assignment; the else is left out"""
+        return self.inner(self.body.then, None, place, p, ASSIGN)[0], None
+
+    def self_param(self, binding, local):
+        """match_self_param"""
+        self.fill(binding, ABSENT, "copy", (local, ()), self.body.then, ABSENT)
+        return self.body.then, None
 
     def inner(self, current, other, place, p, mode):
         """pattern_match_inner"""
@@ -58,7 +67,7 @@ class Walk(Builder):
 
     def tuple(self, current, other, place, p, mode):
         _, _, _, a, b, c, _ = self.m.patterns[p]
-        kind, _, fields, _, _ = self.m.types[self.place_type(place, p)]
+        kind, _, fields, _, _ = self.place_row(place, p)
         if kind != TUPLE_TYPE:
             raise Refused(4, p, 1)
         pairs = tuple_like(p, self.m.list[a:a + b], c, fields)
@@ -201,12 +210,16 @@ class Walk(Builder):
     def binding(self, asker, place, current, p):
         """pattern_match_binding, for the Bind `asker`: the visited pattern or its rest."""
         _, _, _, a, _, c, _ = self.m.patterns[asker]
-        local = self.binding_local(a, asker)
+        self.fill(a, asker, VALUE_WORDS[c], place, current, p)
+
+    def fill(self, binding, asker, word, place, current, p):
+        """A binding's local is live, and is set to what the word makes of a place."""
+        local = self.binding_local(binding, asker)
         self.live(local, current, p)
-        self.set(current, local, (VALUE_WORDS[c], place), p)
+        self.set(current, local, (word, place), p)
 
     def ref(self, current, other, place, p, mode):
-        if self.m.types[self.place_type(place, p)][0] != REFERENCE:
+        if self.place_row(place, p)[0] != REFERENCE:
             raise Refused(4, p, 3)
         at = self.project(place, p, ("deref",))
         return self.inner(current, other, at, self.m.patterns[p][3], mode)
@@ -215,7 +228,7 @@ class Walk(Builder):
         """pattern_matching_variant; `pairs` makes field and pattern from a field count."""
         if v == ABSENT:
             raise Refused(6, p)
-        kind, a, b, c, _ = self.m.types[self.place_type(place, p)]
+        kind, a, b, c, _ = self.place_row(place, p)
         if kind != ADT:
             raise Refused(4, p, 4)
         if not a <= v < a + b:
@@ -294,10 +307,8 @@ def lower(m, p, place_type=None, **handed):
 
 
 def assign(m, p, place_type=None, **handed):
-    """pattern_match_assignment, from the same start; the else is left out."""
-    def call(walk):
-        return walk.inner(0, None, (0, ()), p, ASSIGN)[0], None
-    return run(m, p, call, place_type, handed)
+    """pattern_match_assignment, from the same start."""
+    return run(m, p, lambda walk: walk.assign((0, ()), p), place_type, handed)
 
 
 def place_text(place):

@@ -31,7 +31,7 @@ fn main() {
     for name in ["eval.rs", "monomorphization.rs", "pretty.rs"] {
         write(&out.join("mir").join(name), &stand_in(name));
     }
-    for name in ["as_place.rs", "calls.rs", "entry.rs", "parameters.rs", "replacements.rs"] {
+    for name in ["as_place.rs", "calls.rs", "entry.rs", "parameters.rs", "replacements.rs", "rows.rs"] {
         write(&out.join("mir/lower").join(name), &stand_in(name));
     }
     let root = format!("#[path = {:?}]\npub mod mir;\n", out.join("mir/mod.rs"));

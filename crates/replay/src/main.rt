@@ -1,9 +1,9 @@
 // Replays the stored lists from standard input: for each record, what it has to say is printed. The sorts of records: 1 an image (its counts), 2 an image (its listing),
-// 3 a script of calls on a body, 4 a call on parameters, 5 a question whether a pattern fits.
+// 3 a script of calls on a body and on patterns, 4 a call on parameters, 5 a question whether a pattern fits.
 use image_report::report;
 use listing_report::print_listing;
-use replay_calls::replay_script;
 use replay_fit::replay_fit;
+use replay_matches::replay_script;
 use replay_params::replay_params;
 use stored_records::Entry;
 use stored_records::next_entry;

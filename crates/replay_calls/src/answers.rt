@@ -9,34 +9,34 @@ use mir::Counts;
 use refusals::MirLowerError;
 
 // A number, and a space.
-fn print_number(number: u32) {
+pub fn print_number(number: u32) {
     io::print_decimal(STDOUT_FILENO, number as u64);
     io::write_all(STDOUT_FILENO, b" ");
 }
 
-// A refusal's number, pattern and reason: no call here has a pattern.
-fn print_refusal(number: u32, reason: u16) {
+// A refusal's number, pattern and reason: 65535 where there is no pattern.
+pub fn print_refusal(number: u32, p: u16, reason: u16) {
     io::write_all(STDOUT_FILENO, b"refused ");
     print_number(number);
-    print_number(65535);
+    print_number(p as u32);
     print_number(reason as u32);
 }
 
-// The three numbers of an error.
-fn print_error(e: MirLowerError) {
+// The three numbers of an error, at a pattern.
+pub fn print_error(e: MirLowerError, p: u16) {
     match e {
-        MirLowerError::IncompletePattern => print_refusal(3, 0),
-        MirLowerError::TypeError(reason) => print_refusal(4, reason),
-        MirLowerError::UnresolvedField => print_refusal(5, 0),
-        MirLowerError::NotSupported => print_refusal(6, 0),
-        MirLowerError::Ellipsis => print_refusal(7, 0),
-        MirLowerError::UnsizedTemporary => print_refusal(8, 0),
-        MirLowerError::InaccessibleLocal => print_refusal(9, 0),
-        MirLowerError::Expr => print_refusal(10, 0),
-        MirLowerError::Limit => print_refusal(11, 0),
-        MirLowerError::PlaceType => print_refusal(12, 0),
-        MirLowerError::UnresolvedName => print_refusal(13, 0),
-        MirLowerError::NoScope => print_refusal(14, 0),
+        MirLowerError::IncompletePattern => print_refusal(3, p, 0),
+        MirLowerError::TypeError(reason) => print_refusal(4, p, reason),
+        MirLowerError::UnresolvedField => print_refusal(5, p, 0),
+        MirLowerError::NotSupported => print_refusal(6, p, 0),
+        MirLowerError::Ellipsis => print_refusal(7, p, 0),
+        MirLowerError::UnsizedTemporary => print_refusal(8, p, 0),
+        MirLowerError::InaccessibleLocal => print_refusal(9, p, 0),
+        MirLowerError::Expr => print_refusal(10, p, 0),
+        MirLowerError::Limit => print_refusal(11, p, 0),
+        MirLowerError::PlaceType => print_refusal(12, p, 0),
+        MirLowerError::UnresolvedName => print_refusal(13, p, 0),
+        MirLowerError::NoScope => print_refusal(14, p, 0),
     }
 }
 
@@ -62,9 +62,9 @@ pub fn print_temp(answer: TempCall, before: Counts) -> Counts {
             print_number(l.0 as u32);
             return counts;
         }
-        TempCall::Refused(e) => print_error(e),
-        TempCall::BadCall => print_refusal(2, 0),
-        TempCall::BadImage => print_refusal(1, 0),
+        TempCall::Refused(e) => print_error(e, 65535),
+        TempCall::BadCall => print_refusal(2, 65535, 0),
+        TempCall::BadImage => print_refusal(1, 65535, 0),
     }
     before
 }
@@ -75,9 +75,9 @@ pub fn print_merge(answer: MergeCall, before: Counts) -> Counts {
             print_opt_block(b);
             return counts;
         }
-        MergeCall::Refused(e) => print_error(e),
-        MergeCall::BadCall => print_refusal(2, 0),
-        MergeCall::BadImage => print_refusal(1, 0),
+        MergeCall::Refused(e) => print_error(e, 65535),
+        MergeCall::BadCall => print_refusal(2, 65535, 0),
+        MergeCall::BadImage => print_refusal(1, 65535, 0),
     }
     before
 }
@@ -88,9 +88,9 @@ pub fn print_scope(answer: ScopeCall, before: Counts) -> Counts {
             io::write_all(STDOUT_FILENO, b"now ");
             return counts;
         }
-        ScopeCall::Refused(e) => print_error(e),
-        ScopeCall::BadCall => print_refusal(2, 0),
-        ScopeCall::BadImage => print_refusal(1, 0),
+        ScopeCall::Refused(e) => print_error(e, 65535),
+        ScopeCall::BadCall => print_refusal(2, 65535, 0),
+        ScopeCall::BadImage => print_refusal(1, 65535, 0),
     }
     before
 }
@@ -101,9 +101,9 @@ pub fn print_drop(answer: DropCall, before: Counts) -> Counts {
             print_block(b.0);
             return counts;
         }
-        DropCall::Refused(e) => print_error(e),
-        DropCall::BadCall => print_refusal(2, 0),
-        DropCall::BadImage => print_refusal(1, 0),
+        DropCall::Refused(e) => print_error(e, 65535),
+        DropCall::BadCall => print_refusal(2, 65535, 0),
+        DropCall::BadImage => print_refusal(1, 65535, 0),
     }
     before
 }
@@ -135,12 +135,13 @@ fn checksum(table: &[u16]) -> u32 {
     sum
 }
 
-// The checksums of the five tables, and the line's end.
-pub fn print_sums(blocks: &[u16], stmts: &[u16], locals: &[u16], scopes: &[u16], entries: &[u16]) {
-    print_number(checksum(blocks));
-    print_number(checksum(stmts));
-    print_number(checksum(locals));
-    print_number(checksum(scopes));
-    io::print_decimal(STDOUT_FILENO, checksum(entries) as u64);
+// A table's checksum.
+pub fn print_sum(table: &[u16]) {
+    print_number(checksum(table));
+}
+
+// The last table's, and the line's end.
+pub fn end_line(table: &[u16]) {
+    io::print_decimal(STDOUT_FILENO, checksum(table) as u64);
     io::write_all(STDOUT_FILENO, b"\n");
 }

@@ -14,7 +14,7 @@ use mir::BasicBlockId;
 use mir::Counts;
 
 // A block's number; 65535 is none.
-fn opt_block(word: u16) -> OptBlock {
+pub fn opt_block(word: u16) -> OptBlock {
     if word == 65535 {
         return OptBlock::None;
     }

@@ -1,6 +1,7 @@
 // A command of a script: a call, which prints a line, or a word that is set.
+use super::answers::end_line;
 use super::answers::print_counts;
-use super::answers::print_sums;
+use super::answers::print_sum;
 use super::calls::call_assume;
 use super::calls::call_merge;
 use super::calls::call_pop;
@@ -19,7 +20,7 @@ pub struct Command {
 }
 
 // The word i of a table, where there is one.
-fn poke(table: &mut [u16], i: u16, word: u16) {
+pub fn poke(table: &mut [u16], i: u16, word: u16) {
     let at = i as usize;
     if at < table.len() {
         table[at] = word;
@@ -116,6 +117,10 @@ pub fn run(
         command,
     );
     print_counts(next);
-    print_sums(blocks, stmts, locals, scopes, entries);
+    print_sum(blocks);
+    print_sum(stmts);
+    print_sum(locals);
+    print_sum(scopes);
+    end_line(entries);
     next
 }

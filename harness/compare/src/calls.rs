@@ -1,12 +1,14 @@
-//! Compares the six calls on a body and its scopes: the lines that `replay` prints for a
-//! list of scripts, with what the published text makes of each call. The harness keeps the five
-//! tables itself, as docs/BODY.md has them.
+//! Compares the calls on a body, its scopes and patterns: the lines that `replay` prints for a list
+//! of scripts, with what the published text makes of each call. The harness keeps the tables
+//! itself, as docs/BODY.md has them.
 
 use std::collections::BTreeMap;
 
 use image::{ABSENT, Tables};
-use published::calls::{Call, CallAnswer, Handed, Made, SetTo, call};
+use published::Answer;
+use published::calls::{Call, CallAnswer, Handed, Made, call};
 
+use crate::judge;
 use crate::records::{self, Record};
 
 const LIMITS: [usize; 5] = [512, 1024, 512, 32, 1024];
@@ -17,16 +19,56 @@ const LOCALS: usize = 2;
 const SCOPES: usize = 3;
 const ENTRIES: usize = 4;
 
-const GOTO: u16 = 1;
-const DROP: u16 = 4;
-const LIVE: u16 = 1;
-const DEAD: u16 = 2;
 const SET_WORD: u16 = 6;
+
+/// What a call on a pattern is handed besides the body, as op 6 sets it: the bindings' locals, and
+/// words: the place's local and count, from 2 on its elements of two words, how many of the
+/// bindings' locals are handed in, and the discriminant local.
+const BINDINGS: usize = 256;
+const WORDS: usize = 36;
+const MOST_ELEMENTS: usize = 16;
+const BOUND_AT: usize = 34;
+const DISCR_AT: usize = 35;
+const VISITS: usize = 512;
 
 /// A script: an image, and commands of four words.
 pub struct Script {
     pub image: Vec<u8>,
     pub commands: Vec<[u16; 4]>,
+}
+
+impl Script {
+    /// `pattern_match` of an image's last pattern from block 0, with one scope open and no else: local
+    /// 0 has a type, the bindings' locals follow it, and the elements lead on from local 0.
+    pub fn of_match(m: &Tables, root_type: u16, elements: &[[u16; 3]]) -> Script {
+        let mut commands = Vec::new();
+        let mut set = |table: usize, at: usize, word: usize| {
+            commands.push([SET_WORD, table as u16, at as u16, word as u16]);
+        };
+        let bound = m.bindings.len();
+        set(5, BLOCKS, 1);
+        set(5, LOCALS, 1 + bound);
+        set(5, SCOPES, 1);
+        set(LOCALS, 0, root_type.into());
+        for (binding, row) in m.bindings.iter().enumerate() {
+            set(LOCALS, binding + 1, row[0].into());
+            set(6, binding, binding + 1);
+        }
+        set(7, 1, elements.len());
+        set(7, BOUND_AT, bound);
+        set(7, DISCR_AT, ABSENT.into());
+        for (number, &[kind, a, b]) in elements.iter().enumerate() {
+            set(7, 2 + 2 * number, (kind + 8 * b).into());
+            set(7, 3 + 2 * number, a.into());
+        }
+        commands.push([7, m.patterns.len() as u16 - 1, 0, ABSENT]);
+        Script { image: m.encode(), commands }
+    }
+
+    /// As the other side reads it.
+    pub fn entry(&self) -> Vec<u8> {
+        records::entry_with(records::SCRIPT, &self.image, &self.commands.concat())
+    }
 }
 
 /// The scripts of a list, and how many images before them are answered by a line.
@@ -45,19 +87,31 @@ pub fn scripts(list: &[u8]) -> (Vec<Script>, usize) {
 struct Body {
     tables: [Vec<u16>; 5],
     counts: [usize; 5],
+    bindings: Vec<u16>,
+    words: Vec<u16>,
+    visits: Vec<u16>,
+    /// The listing of what a call on a pattern makes is asked for.
+    listed: bool,
 }
 
 impl Body {
-    fn new() -> Body {
-        Body { tables: std::array::from_fn(|n| vec![0; WIDTHS[n] * LIMITS[n]]), counts: [0; 5] }
+    fn new(listed: bool) -> Body {
+        let tables = std::array::from_fn(|n| vec![0; WIDTHS[n] * LIMITS[n]]);
+        let (bindings, words, visits) = (vec![0; BINDINGS], vec![0; WORDS], vec![0; VISITS]);
+        Body { tables, counts: [0; 5], bindings, words, visits, listed }
     }
 
     fn set_word(&mut self, table: u16, at: u16, word: u16) {
-        let (table, at) = (usize::from(table), usize::from(at));
-        if table == 5 && at < 5 {
-            self.counts[at] = word.into();
-        } else if table < 5 && at < self.tables[table].len() {
-            self.tables[table][at] = word;
+        let at = usize::from(at);
+        let words = match table {
+            5 if at < 5 => return self.counts[at] = word.into(),
+            0..5 => &mut self.tables[usize::from(table)],
+            6 => &mut self.bindings,
+            7 => &mut self.words,
+            _ => return,
+        };
+        if let Some(place) = words.get_mut(at) {
+            *place = word;
         }
     }
 
@@ -75,14 +129,13 @@ impl Body {
         row[..words.len()].copy_from_slice(words);
     }
 
-    /// Counts and sums as a line has them: each word times its place from 1, modulo 2^32.
-    fn told(&self) -> String {
-        let sum = |table: &Vec<u16>| {
-            let products = table.iter().zip(1u64..).map(|(&word, place)| u64::from(word) * place);
-            products.sum::<u64>() % (1 << 32)
-        };
+    /// Counts and sums as a line has them; behind a call on a pattern also those of the visits and
+    /// of the bindings' locals.
+    fn told(&self, on_a_pattern: bool) -> String {
         let counts = self.counts.iter().map(|&count| count as u64);
-        counts.chain(self.tables.iter().map(sum)).map(|number| format!(" {number}")).collect()
+        let more = [&self.visits, &self.bindings];
+        let tables = self.tables.iter().chain(more.into_iter().filter(|_| on_a_pattern));
+        counts.chain(tables.map(sum)).map(|number| format!(" {number}")).collect()
     }
 
     fn handed(&self) -> Handed {
@@ -90,8 +143,19 @@ impl Body {
         let mut edges: Vec<usize> = words(SCOPES).into_iter().map(usize::from).collect();
         edges.push(self.counts[ENTRIES]);
         let entries: Vec<usize> = words(ENTRIES).into_iter().map(usize::from).collect();
-        let scopes = edges.windows(2).map(|edge| entries[edge[0]..edge[1]].to_vec()).collect();
-        Handed { blocks: self.counts[BLOCKS], locals: words(LOCALS), scopes }
+        let bound = usize::from(self.words[BOUND_AT]).min(BINDINGS);
+        let elements = self.words[2..BOUND_AT].chunks(2).take(usize::from(self.words[1]).min(MOST_ELEMENTS));
+        Handed {
+            blocks: self.counts[BLOCKS],
+            statements: self.counts[STATEMENTS],
+            locals: words(LOCALS),
+            scopes: edges.windows(2).map(|edge| entries[edge[0]..edge[1]].to_vec()).collect(),
+            bindings: self.bindings[..bound].iter().map(|&word| number(word)).collect(),
+            root: self.words[0].into(),
+            elements: elements.map(|word| [word[0] % 8, word[1], word[0] / 8]).collect(),
+            discr: number(self.words[DISCR_AT]),
+            listed: self.listed,
+        }
     }
 
     /// Takes over what a call made; no if that passes a limit.
@@ -99,21 +163,14 @@ impl Body {
         let entries: Vec<usize> = made.scopes.concat();
         let statements = self.counts[STATEMENTS] + made.statements.len();
         let counts = [made.blocks, statements, made.locals.len(), made.scopes.len(), entries.len()];
-        if counts.iter().zip(LIMITS).any(|(&count, limit)| count > limit) {
+        let too_long = made.statements.iter().any(|row| row.len() > WIDTHS[STATEMENTS]);
+        if too_long || counts.iter().zip(LIMITS).any(|(&count, limit)| count > limit) {
             return false;
         }
-        for (number, &(block, live, local)) in made.statements.iter().enumerate() {
-            let kind = if live { LIVE } else { DEAD };
-            self.put(STATEMENTS, self.counts[STATEMENTS] + number, &[block as u16, kind, local as u16]);
+        for (number, row) in made.statements.iter().enumerate() {
+            self.put(STATEMENTS, self.counts[STATEMENTS] + number, row);
         }
-        for &(block, set) in &made.terminators {
-            match set {
-                SetTo::Goto(target) => self.put(BLOCKS, block, &[GOTO, 0, target as u16]),
-                SetTo::Drop(local, target) => {
-                    self.put(BLOCKS, block, &[DROP, local as u16, target as u16]);
-                }
-            }
-        }
+        made.terminators.iter().for_each(|(block, row)| self.put(BLOCKS, *block, row));
         made.locals.iter().enumerate().for_each(|(row, &type_)| self.put(LOCALS, row, &[type_]));
         let mut start = 0;
         for (row, scope) in made.scopes.iter().enumerate() {
@@ -127,28 +184,50 @@ impl Body {
     }
 }
 
-fn read_call([op, a, b, _]: [u16; 4]) -> Option<Call> {
-    let block = |word: u16| (word != ABSENT).then_some(usize::from(word));
+/// Each word times its place from 1, modulo 2^32.
+fn sum(table: &Vec<u16>) -> u64 {
+    let products = table.iter().zip(1u64..).map(|(&word, place)| u64::from(word) * place);
+    products.sum::<u64>() % (1 << 32)
+}
+
+/// A number, or none.
+fn number(word: u16) -> Option<usize> {
+    (word != ABSENT).then_some(usize::from(word))
+}
+
+fn read_call([op, a, b, c]: [u16; 4]) -> Option<Call> {
     Some(match op {
         0 => Call::Temp(a, b.into()),
-        1 => Call::MergeBlocks(block(a), block(b)),
+        1 => Call::MergeBlocks(number(a), number(b)),
         2 => Call::PushDropScope,
         3 => Call::PopAssumeDropped,
         4 => Call::PopAndDrop(a.into()),
         5 => Call::DropUntilScope(a.into(), b.into()),
+        7 => Call::PatternMatch(a.into(), b.into(), number(c)),
+        8 => Call::PatternMatchAssignment(a.into(), b.into()),
+        9 => Call::MatchSelfParam(a.into(), b.into(), c.into()),
         _ => return None,
     })
 }
 
-/// The line that is expected for a call, and how it is counted. Whether a body may be handed in at
-/// all, number 2, only document 01 says, and there the other side's answer is taken over; the
-/// tables must then be as they were.
-fn line(tables: Option<&Tables>, body: &mut Body, command: Call, answer: &str) -> (String, &'static str) {
-    let Some(tables) = tables else {
-        return (format!("refused 1 65535 0{}", body.told()), "refused 1 (document 01 alone)");
+/// The lines that are expected for a call, one of them, and how it is counted.
+struct Line {
+    lines: Vec<String>,
+    sort: String,
+    listing: Option<String>,
+}
+
+/// What is expected for a call. Whether a body may be handed in at all, number 2, only document 01
+/// says, and there the other side's answer is taken over; the tables must then be as they were.
+fn line(tables: Option<&Tables>, body: &mut Body, command: Call, answer: &str) -> Line {
+    let told = |number: u16, body: &Body| Line {
+        lines: vec![format!("refused {number} 65535 0{}", body.told(command.on_a_pattern()))],
+        sort: format!("refused {number} (document 01 alone)"),
+        listing: None,
     };
+    let Some(tables) = tables else { return told(1, body) };
     if answer.starts_with("refused 2 ") {
-        return (format!("refused 2 65535 0{}", body.told()), "refused 2 (document 01 alone)");
+        return told(2, body);
     }
     body.clear_above();
     let handed = body.handed();
@@ -156,6 +235,9 @@ fn line(tables: Option<&Tables>, body: &mut Body, command: Call, answer: &str) -
     let mut after = body.clone();
     let within = after.take(&made);
     let no_scope = handed.scopes.is_empty() && matches!(command, Call::PopAssumeDropped);
+    if command.on_a_pattern() {
+        return match_line(tables, body, command, made, after);
+    }
     let (answer, sort) = match made.answer {
         CallAnswer::Unsized => ("refused 8 65535 0".to_owned(), "refused 8"),
         _ if !within => ("refused 11 65535 0".to_owned(), "refused 11 (the Rust goes on)"),
@@ -169,18 +251,58 @@ fn line(tables: Option<&Tables>, body: &mut Body, command: Call, answer: &str) -
     if sort == "accepted" {
         *body = after;
     }
-    (answer + &body.told(), sort)
+    Line { lines: vec![answer + &body.told(false)], sort: sort.to_owned(), listing: None }
+}
+
+/// The same for a call on a pattern: a refusal of the walk leaves the tables, and no visits.
+fn match_line(tables: &Tables, body: &mut Body, command: Call, made: Made, mut after: Body) -> Line {
+    let outcome = made.outcome.expect("a call on a pattern has one");
+    let visits: Vec<u16> = outcome.trace.visits.iter().map(|&count| count as u16).collect();
+    let expected = match outcome.answer {
+        Answer::Stopped([14, ..], _) if outcome.trace.passed.is_none() => {
+            judge::near(tables, 14, outcome.trace.entered, "refused 14 (the Rust panics)")
+        }
+        _ => judge::of_outcome(tables, outcome),
+    };
+    if command.visits() {
+        body.visits.fill(0);
+        after.visits.fill(0);
+        after.visits[..visits.len()].copy_from_slice(&visits);
+    }
+    if expected.sort == "accepted" {
+        *body = after;
+    }
+    let line = |answer: String| answer.trim_end().to_owned() + &body.told(true);
+    let replaced = if expected.replaced { " by document 02's replacements" } else { "" };
+    Line {
+        lines: expected.answers().into_iter().map(line).collect(),
+        sort: format!("{}{replaced} (on a pattern)", expected.sort),
+        listing: made.listing,
+    }
+}
+
+/// Whether the line that a script's only call is answered with is as expected, and the listing of
+/// what the Rust made.
+pub fn of_one_call(script: &Script, answer: &str) -> (bool, Option<String>) {
+    let tables = image::read(&script.image);
+    let mut body = Body::new(true);
+    for &[_, a, b, c] in script.commands.iter().filter(|command| command[0] == SET_WORD) {
+        body.set_word(a, b, c);
+    }
+    let called = script.commands.iter().copied().find_map(read_call).expect("a call");
+    let expected = line(tables.as_ref(), &mut body, called, answer);
+    (expected.lines.iter().any(|line| line == answer), expected.listing)
 }
 
 /// Compares a list of scripts with the lines that the other side printed for it; answers how many
 /// calls differed.
 pub fn compare((scripts, before): &(Vec<Script>, usize), printed: &str) -> usize {
     let mut lines = printed.lines().skip(*before);
-    let mut tally: BTreeMap<&'static str, usize> = BTreeMap::new();
+    let mut tally: BTreeMap<String, usize> = BTreeMap::new();
     let mut differing = 0;
     for (number, script) in scripts.iter().enumerate() {
         let tables = image::read(&script.image);
-        let mut body = Body::new();
+        let mut body = Body::new(false);
         for (place, &command) in script.commands.iter().enumerate() {
             let [op, a, b, c] = command;
             if op == SET_WORD {
@@ -188,14 +310,14 @@ pub fn compare((scripts, before): &(Vec<Script>, usize), printed: &str) -> usize
             }
             let Some(called) = read_call(command) else { continue };
             let answer = lines.next().unwrap_or("nothing");
-            let (expected, sort) = line(tables.as_ref(), &mut body, called, answer);
-            *tally.entry(sort).or_default() += 1;
-            if expected != answer {
+            let expected = line(tables.as_ref(), &mut body, called, answer);
+            *tally.entry(expected.sort).or_default() += 1;
+            if !expected.lines.iter().any(|line| line == answer) {
                 differing += 1;
                 println!("script {} differs at command {place}, {called:?}:", number + 1);
-                println!("  the Rust: {expected}\n  the other side: {answer}");
-                let left = script.commands[place + 1..].iter().filter(|command| command[0] < SET_WORD);
-                lines.by_ref().take(left.count()).for_each(drop);
+                println!("  the Rust: {}\n  the other side: {answer}", expected.lines.join(" or "));
+                let calls = script.commands[place + 1..].iter().filter(|&&next| read_call(next).is_some());
+                lines.by_ref().take(calls.count()).for_each(drop);
                 break;
             }
         }

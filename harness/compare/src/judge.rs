@@ -15,8 +15,8 @@ pub struct Expected {
 enum Rule {
     /// This text, byte for byte.
     Text(String),
-    /// Number 11 at this pattern or one above it.
-    Limit(Vec<u16>),
+    /// This number at one of these patterns.
+    Near(u16, Vec<u16>),
     /// Nothing the other side could say: the published text stopped where document 01 has no number.
     Unknown(String),
 }
@@ -40,9 +40,7 @@ pub fn text(sort: String, text: String) -> Expected {
 /// What must be answered where the published text came to an outcome.
 pub fn of_outcome(tables: &Tables, outcome: Outcome) -> Expected {
     if let Some(entered) = outcome.trace.passed {
-        let patterns = entered.map_or(vec![ABSENT], |entered| with_those_above(tables, entered));
-        let sort = "refused 11 (the Rust goes on)".to_owned();
-        return Expected { sort, replaced: false, rule: Rule::Limit(patterns) };
+        return near(tables, 11, entered, "refused 11 (the Rust goes on)");
     }
     let line = |[number, pattern, reason]: [u16; 3]| format!("refused {number} {pattern} {reason}\n");
     match outcome.answer {
@@ -60,6 +58,12 @@ pub fn of_outcome(tables: &Tables, outcome: Outcome) -> Expected {
     }
 }
 
+/// A number at the pattern that was entered last or at one above it.
+pub fn near(tables: &Tables, number: u16, entered: Option<usize>, sort: &str) -> Expected {
+    let patterns = entered.map_or(vec![ABSENT], |entered| with_those_above(tables, entered));
+    Expected { sort: sort.to_owned(), replaced: false, rule: Rule::Near(number, patterns) }
+}
+
 /// A pattern and all those above it.
 fn with_those_above(tables: &Tables, pattern: usize) -> Vec<u16> {
     let mut found = vec![pattern as u16];
@@ -73,12 +77,17 @@ fn with_those_above(tables: &Tables, pattern: usize) -> Vec<u16> {
 
 impl Expected {
     pub fn agrees(&self, answer: &str) -> bool {
+        self.answers().iter().any(|text| text == answer)
+    }
+
+    /// The answers that agree.
+    pub fn answers(&self) -> Vec<String> {
         match &self.rule {
-            Rule::Text(text) => text == answer,
-            Rule::Limit(patterns) => {
-                patterns.iter().any(|pattern| answer == format!("refused 11 {pattern} 0\n"))
+            Rule::Text(text) => vec![text.clone()],
+            Rule::Near(number, patterns) => {
+                patterns.iter().map(|pattern| format!("refused {number} {pattern} 0\n")).collect()
             }
-            Rule::Unknown(_) => false,
+            Rule::Unknown(_) => Vec::new(),
         }
     }
 
@@ -86,7 +95,7 @@ impl Expected {
     pub fn told(&self) -> String {
         match &self.rule {
             Rule::Text(text) => text.clone(),
-            Rule::Limit(patterns) => format!("refused 11 at one of {patterns:?}\n"),
+            Rule::Near(number, patterns) => format!("refused {number} at one of {patterns:?}\n"),
             Rule::Unknown(said) => format!("stopped: {said}\n"),
         }
     }

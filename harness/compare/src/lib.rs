@@ -1,6 +1,7 @@
 //! What is compared, and how: images and their answers, calls on a body, and what listings mean.
 
 pub mod calls;
+pub mod fits;
 pub mod generate;
 pub mod judge;
 pub mod meaning;

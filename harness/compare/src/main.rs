@@ -1,11 +1,12 @@
 //! Compares listings: the published Rust's, and another side's.
 
+use std::io::{self, Write};
 use std::path::PathBuf;
 use std::process::ExitCode;
 use std::{env, fs};
 
 use compare::other::Other;
-use compare::{calls, judge, meaning, parameters, plan, run, store};
+use compare::{calls, fits, judge, meaning, parameters, plan, run, store};
 use published::How;
 use published::parameters::After;
 
@@ -27,6 +28,7 @@ compare parameters OPTIONS  compares calls of lower_params_and_bindings with ano
   --locals N             so many locals are there before; the other side does the same
   --after drop|pop       drop_until_scope of scope 0, or pop_and_drop, comes after; the same
   --stored FILE          the calls of a stored list too
+compare fits --count N --seed N  prints records of questions whether patterns by chance fit
 compare meaning OPTIONS  compares where listings lead values with what rustc says:
   --other COMMAND, --seed N
   --count N              so many files of 300 patterns, four values each";
@@ -50,6 +52,12 @@ fn main() -> ExitCode {
         }
         Some("calls") => replayed_calls(&arguments[1..]),
         Some("parameters") => of_parameters(&Options::read(&arguments[1..])),
+        Some("fits") => {
+            let options = Options::read(&arguments[1..]);
+            let questions = fits::questions(options.count, options.seed);
+            io::stdout().write_all(&questions).expect("the questions are written");
+            ExitCode::SUCCESS
+        }
         Some("meaning") => meant(&Options::read(&arguments[1..])),
         _ => {
             eprintln!("{USAGE}");

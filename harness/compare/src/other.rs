@@ -41,6 +41,14 @@ impl Other {
         answers
     }
 
+    /// The lines that are printed for a list of records.
+    pub fn lines(&self, list: Vec<u8>) -> Vec<String> {
+        let printed = self.run(list).unwrap_or_else(|error| {
+            panic!("{} could not be run: {error}", self.program);
+        });
+        printed.lines().map(str::to_owned).collect()
+    }
+
     fn run(&self, list: Vec<u8>) -> io::Result<String> {
         let mut child = Command::new(&self.program)
             .args(&self.arguments)

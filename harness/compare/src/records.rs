@@ -28,11 +28,7 @@ pub fn read(mut list: &[u8]) -> Vec<Record> {
         let mut image = list[9..9 + kept].to_vec();
         image.resize(kept + zeros, 0);
         list = &list[9 + kept..];
-        let width = match sort {
-            SCRIPT => 4,
-            PARAMETERS | FIT => 1,
-            _ => 0,
-        };
+        let width = width(sort);
         let mut words = Vec::new();
         if width > 0 {
             let (own, rest) = list[4..].split_at(2 * width * number(list, 0));
@@ -46,6 +42,23 @@ pub fn read(mut list: &[u8]) -> Vec<Record> {
 
 fn number(list: &[u8], at: usize) -> usize {
     u32::from_be_bytes(list[at..at + 4].try_into().expect("four bytes")) as usize
+}
+
+/// How many words each of those that a sort has besides takes.
+fn width(sort: u8) -> usize {
+    match sort {
+        SCRIPT => 4,
+        PARAMETERS | FIT => 1,
+        _ => 0,
+    }
+}
+
+/// A record of an image and words.
+pub fn entry_with(sort: u8, image: &[u8], words: &[u16]) -> Vec<u8> {
+    let mut entry = entry(sort, image);
+    entry.extend(((words.len() / width(sort)) as u32).to_be_bytes());
+    words.iter().for_each(|word| entry.extend(word.to_be_bytes()));
+    entry
 }
 
 /// A record of an image alone.

@@ -134,6 +134,11 @@ fn of_panic(trace: &Trace) -> Answer {
     Answer::Stopped([found, number(trace.entered), 0], said)
 }
 
+/// The panic is that of lower.rs where no scope is open.
+pub(crate) fn needs_scope(said: &str) -> bool {
+    said.contains("mir/lower.rs") && said.contains("`Option::unwrap()` on a `None` value")
+}
+
 thread_local! {
     static LOWERING: Cell<bool> = const { Cell::new(false) };
     static SAID: RefCell<String> = RefCell::default();

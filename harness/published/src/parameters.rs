@@ -6,7 +6,7 @@ use hir_def::hir::{BindingId, PatId};
 use image::kinds::BIND;
 use image::{ABSENT, Tables};
 
-use crate::answer::{Answer, Outcome, of_made, quietly};
+use crate::answer::{Answer, Outcome, needs_scope, of_made, quietly};
 use crate::db::HirDatabase;
 use crate::mir::mir_body_query;
 use crate::next_solver::Ty;
@@ -90,11 +90,6 @@ pub fn lower_parameters(tables: &Tables, parameters: &Parameters, setting: Setti
         _ => {}
     }
     outcome
-}
-
-/// The panic is that of lower.rs where no scope is open.
-fn needs_scope(said: &str) -> bool {
-    said.contains("mir/lower.rs") && said.contains("`Option::unwrap()` on a `None` value")
 }
 
 /// The pattern whose binding has no local: the Bind that was asked for last if it has none, else

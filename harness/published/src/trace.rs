@@ -5,11 +5,12 @@
 use std::any::Any;
 use std::cell::RefCell;
 
-use crate::mir::{BasicBlock, Local};
+use crate::mir::{BasicBlock, Local, StatementKind};
 
 pub const MOST_BLOCKS: usize = 512;
 pub const MOST_STATEMENTS: usize = 1024;
 pub const MOST_LOCALS: usize = 512;
+pub const MOST_ENTRIES: usize = 1024;
 pub const MOST_ELEMENTS: usize = 16;
 
 #[derive(Debug, Clone, Default, PartialEq, Eq)]
@@ -21,6 +22,10 @@ pub struct Trace {
     /// The pattern that was entered last, if there is one, when the first limit was passed.
     pub passed: Option<Option<usize>>,
     pub statements: usize,
+    /// The locals in all scopes: one for each that is marked live.
+    pub entries: usize,
+    /// The block of each statement, in the order in which they were made.
+    pub order: Vec<usize>,
     touched: Touched,
 }
 
@@ -40,6 +45,11 @@ thread_local! {
 pub fn start(patterns: usize) {
     la_arena::probe::listen(changes);
     TRACE.set(Trace { visits: vec![0; patterns], ..Trace::default() });
+}
+
+/// So many statements and entries were there before.
+pub fn found(statements: usize, entries: usize) {
+    TRACE.with_borrow_mut(|trace| (trace.statements, trace.entries) = (statements, entries));
 }
 
 /// What was heard since the start.
@@ -114,10 +124,14 @@ impl Trace {
 
     /// Counts what the touched block got since.
     fn count_pushed(&mut self, blocks: &[BasicBlock]) {
-        let Touched { block, had, entered } = self.touched;
-        let Some(block) = blocks.get(block) else { return };
-        self.statements += block.statements.len() - had;
+        let Touched { block: number, had, entered } = self.touched;
+        let Some(block) = blocks.get(number) else { return };
+        for statement in &block.statements[had..] {
+            self.order.push(number);
+            self.statements += 1;
+            self.entries += usize::from(matches!(statement.kind, StatementKind::StorageLive(_)));
+        }
         self.touched.had = block.statements.len();
-        self.limit(self.statements > MOST_STATEMENTS, entered);
+        self.limit(self.statements > MOST_STATEMENTS || self.entries > MOST_ENTRIES, entered);
     }
 }

@@ -129,7 +129,7 @@ impl DefDatabase for World {
 
 impl HirDatabase for World {
     fn layout_of_ty(&self, ty: StoredTy, _: StoredParamEnvAndCrate) -> Result<Arc<Layout>, LayoutError> {
-        let kept = self.layouts.get(usize::from(ty.as_ref().number()));
+        let kept = self.layouts.get(usize::from(ty.number()));
         kept.and_then(Clone::clone).ok_or(LayoutError::NoInteger)
     }
 

@@ -41,6 +41,7 @@ mod entry;
 mod parameters;
 mod pattern_matching;
 mod replacements;
+mod rows;
 
 pub use calls::lower_body_to_mir;
 pub use entry::{lower_to_mir_with_store, mir_body_for_closure_query};

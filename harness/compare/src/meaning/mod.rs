@@ -6,5 +6,6 @@ mod interpret;
 mod run;
 mod source;
 mod value;
+mod way;
 
 pub use run::{Settings, compare};

@@ -20,18 +20,24 @@ impl<'db> Allocation<'db> {
     }
 
     pub fn store(self) -> StoredAllocation {
-        StoredAllocation { memory: self.0.memory, contents: self.0.memory_map.content() }
+        let (type_, memory) = (self.0.ty.number(), self.0.memory);
+        StoredAllocation { type_, memory, contents: self.0.memory_map.content() }
     }
 }
 
-/// The bytes of a constant, and the memory it points to.
+/// The type and the bytes of a constant, and the memory it points to.
 #[derive(Debug, Clone, PartialEq, Eq)]
 pub struct StoredAllocation {
+    type_: u16,
     memory: Box<[u8]>,
     contents: Option<Box<[u8]>>,
 }
 
 impl StoredAllocation {
+    pub fn type_number(&self) -> u16 {
+        self.type_
+    }
+
     pub fn memory(&self) -> &[u8] {
         &self.memory
     }

@@ -13,7 +13,7 @@ use hir_def::base::Crate;
 
 pub use constants::{Allocation, AllocationData, Const, StoredAllocation, StoredConst, UnevaluatedConst};
 pub(crate) use slices::interned_slice;
-pub use types::{AdtDef, Binder, FieldTypes, StoredTy, Ty, TyKind};
+pub use types::{AdtDef, Binder, FieldTypes, StoredTy, Ty, TyKind, without_types};
 
 use crate::db::HirDatabase;
 use crate::next_solver::infer::InferCtxtBuilder;

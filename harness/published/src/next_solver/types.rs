@@ -1,6 +1,7 @@
-//! Types by their numbers. 0 to 255 are the image's, then come bool, usize, i128, and the type of
-//! what has none.
+//! Types by their numbers. 0 to 255 are the image's, then come bool, usize, i128, the type of what
+//! has none, and for each of the image's the type of a part of an array of it.
 
+use std::cell::Cell;
 use std::marker::PhantomData;
 use std::ops::Index;
 use std::rc::Rc;
@@ -16,6 +17,16 @@ const BOOL: u16 = 256;
 const USIZE: u16 = 257;
 const I128: u16 = 258;
 const ERROR: u16 = 259;
+const PARTS: u16 = 260;
+
+thread_local! {
+    static WITHOUT_TYPES: Cell<bool> = const { Cell::new(false) };
+}
+
+/// From now on it is a panic to ask for a stored type; or no longer.
+pub fn without_types(without: bool) {
+    WITHOUT_TYPES.set(without);
+}
 
 #[derive(Debug, Clone, Copy, PartialEq, Eq, Hash)]
 pub struct Ty<'db> {
@@ -30,7 +41,12 @@ pub struct StoredTy {
 
 impl StoredTy {
     pub fn as_ref<'db>(&self) -> Ty<'db> {
+        assert!(!WITHOUT_TYPES.get(), "the place that is handed in has no type");
         Ty::numbered(self.number)
+    }
+
+    pub fn number(&self) -> u16 {
+        self.number
     }
 }
 
@@ -89,7 +105,11 @@ impl<'db> Ty<'db> {
     }
 
     pub fn kind(self) -> TyKind<'db> {
-        if self.number < BOOL { world::kind(self.number) } else { TyKind::Other }
+        match self.number {
+            0..BOOL => world::kind(self.number),
+            PARTS.. => TyKind::Array(Ty::numbered(self.number - PARTS), 0),
+            _ => TyKind::Other,
+        }
     }
 
     pub fn is_copy(self) -> bool {
@@ -116,9 +136,9 @@ impl<'db> Ty<'db> {
         Ty::error()
     }
 
-    /// A part of an array has no number.
-    pub fn new_array_opt(_: DbInterner<'db>, _: Ty<'db>, _: Option<u128>) -> Self {
-        Ty::error()
+    /// A part of an array; its length is not kept.
+    pub fn new_array_opt(_: DbInterner<'db>, of: Ty<'db>, _: Option<u128>) -> Self {
+        Ty::numbered(PARTS + of.number)
     }
 
     pub fn is_ty_error(self) -> bool {

@@ -1,0 +1,200 @@
+// A command of a script on patterns: a call, which prints a line, or a word that is handed in.
+use super::call_words::binding_words;
+use super::matches::call_assignment;
+use super::matches::call_match;
+use super::matches::call_self;
+use mir::Counts;
+use replay_calls::answers::end_line;
+use replay_calls::answers::print_counts;
+use replay_calls::answers::print_sum;
+use replay_calls::commands::Command;
+use replay_calls::commands::poke;
+use replay_calls::commands::run;
+
+// A call, which prints its answer, and the counts behind it: 7 pattern_match (pattern a, block b, else c or 65535), 8 pattern_match_assignment (pattern a, block b),
+// 9 match_self_param (binding a, block b, local c).
+fn call(
+    image: &[u8],
+    bindings: &[u16],
+    blocks: &mut [u16; 6144],
+    stmts: &mut [u16; 50176],
+    locals: &mut [u16; 512],
+    scopes: &mut [u16; 32],
+    entries: &mut [u16; 1024],
+    visits: &mut [u16; 512],
+    counts: Counts,
+    handed: &[u16; 36],
+    command: Command,
+) -> Counts {
+    let op = command.op;
+    let a = command.a;
+    let b = command.b;
+    let c = command.c;
+    match op {
+        7 => call_match(
+            image,
+            bindings,
+            blocks,
+            stmts,
+            locals,
+            scopes,
+            entries,
+            visits,
+            counts,
+            handed,
+            a,
+            b,
+            c,
+        ),
+        8 => call_assignment(
+            image,
+            bindings,
+            blocks,
+            stmts,
+            locals,
+            scopes,
+            entries,
+            visits,
+            counts,
+            handed,
+            a,
+            b,
+        ),
+        9 => call_self(
+            image,
+            bindings,
+            blocks,
+            stmts,
+            locals,
+            scopes,
+            entries,
+            counts,
+            a,
+            b,
+            c,
+        ),
+        _ => counts,
+    }
+}
+
+// A call with so many of the bindings' words as are handed in: all where that is more than there are.
+fn call_with(
+    image: &[u8],
+    bindings: &[u16; 256],
+    blocks: &mut [u16; 6144],
+    stmts: &mut [u16; 50176],
+    locals: &mut [u16; 512],
+    scopes: &mut [u16; 32],
+    entries: &mut [u16; 1024],
+    visits: &mut [u16; 512],
+    counts: Counts,
+    handed: &[u16; 36],
+    command: Command,
+) -> Counts {
+    let mut n = binding_words(handed) as usize;
+    if 256 < n {
+        n = 256;
+    }
+    call(
+        image,
+        &bindings[..n],
+        blocks,
+        stmts,
+        locals,
+        scopes,
+        entries,
+        visits,
+        counts,
+        handed,
+        command,
+    )
+}
+
+// A call on a pattern, and its line: behind the sums of the body's tables stand those of the visits and of the bindings' locals.
+fn run_match(
+    image: &[u8],
+    bindings: &[u16; 256],
+    blocks: &mut [u16; 6144],
+    stmts: &mut [u16; 50176],
+    locals: &mut [u16; 512],
+    scopes: &mut [u16; 32],
+    entries: &mut [u16; 1024],
+    visits: &mut [u16; 512],
+    counts: Counts,
+    handed: &[u16; 36],
+    command: Command,
+) -> Counts {
+    let next = call_with(
+        image,
+        bindings,
+        blocks,
+        stmts,
+        locals,
+        scopes,
+        entries,
+        visits,
+        counts,
+        handed,
+        command,
+    );
+    print_counts(next);
+    print_sum(blocks);
+    print_sum(stmts);
+    print_sum(locals);
+    print_sum(scopes);
+    print_sum(entries);
+    print_sum(visits);
+    end_line(bindings);
+    next
+}
+
+// A command of either sort, and the counts behind it. Of the tables that op 6 sets words of, 6 is the bindings' locals and 7 the words that are handed in.
+pub fn run_command(
+    image: &[u8],
+    bindings: &mut [u16; 256],
+    blocks: &mut [u16; 6144],
+    stmts: &mut [u16; 50176],
+    locals: &mut [u16; 512],
+    scopes: &mut [u16; 32],
+    entries: &mut [u16; 1024],
+    visits: &mut [u16; 512],
+    counts: Counts,
+    handed: &mut [u16; 36],
+    command: Command,
+) -> Counts {
+    let op = command.op;
+    let table = command.a;
+    if op == 6 && table == 6 {
+        poke(bindings, command.b, command.c);
+        return counts;
+    }
+    if op == 6 && table == 7 {
+        poke(handed, command.b, command.c);
+        return counts;
+    }
+    if op < 7 {
+        return run(
+            image,
+            blocks,
+            stmts,
+            locals,
+            scopes,
+            entries,
+            counts,
+            command,
+        );
+    }
+    run_match(
+        image,
+        bindings,
+        blocks,
+        stmts,
+        locals,
+        scopes,
+        entries,
+        visits,
+        counts,
+        handed,
+        command,
+    )
+}
