@@ -1,7 +1,7 @@
 """The stored questions whether a pattern fits, with their answers, for `crates/replay`.
 
 A question is an image and words: the pattern, the type of its place, the local that is the
-place's root, the discriminant local or 65535, and the bindings' locals, 65535 for none.
+place's root, and the bindings' locals, 65535 for none.
 """
 
 import random
@@ -30,21 +30,20 @@ def place_type(m, p):
 
 
 def apart(m):
-    """Root 0, no discriminant local, and the bindings' locals behind it."""
-    return (0, ABSENT, *range(1, len(m.bindings) + 1))
+    """Root 0, and the bindings' locals behind it."""
+    return tuple(range(len(m.bindings) + 1))
 
 
 def mixed_locals(rng, m):
     """Locals of which one is missing, or stands twice, or is the root, or all differ."""
     words = list(apart(m))
-    words[1] = rng.choice((ABSENT, len(m.bindings) + 1))
     sort = rng.randrange(6)
     if sort == 0 and m.bindings:
-        words[2 + rng.randrange(len(m.bindings))] = ABSENT
-    elif sort == 1:
+        words[1 + rng.randrange(len(m.bindings))] = ABSENT
+    elif sort == 1 and m.bindings:
         words[rng.randrange(1, len(words))] = 0
     elif sort == 2 and len(m.bindings) > 1:
-        words[2] = words[3]
+        words[1] = words[2]
     return tuple(words)
 
 
@@ -54,7 +53,7 @@ def random_questions(rng):
         for sort, image in (("typed", typed_image(rng).encode()), ("any", random_image(rng).encode())):
             changed = word_damage(rng, image)
             if broken(changed):
-                yield "damaged", changed, (0, 0, 0, ABSENT)
+                yield "damaged", changed, (0, 0, 0)
             for kept, sure in ((image, sort), (changed, "changed")):
                 if broken(kept):
                     continue
@@ -89,7 +88,7 @@ def all_questions():
     name, m = CORNERS[0]
     own = apart(m)
     for what, words in (("pattern", (len(m.patterns), 0, *own)), ("type", (0, len(m.types), *own)),
-                        ("bindings", (0, 0, *own, 0)), ("words", (0, 0, 0))):
+                        ("bindings", (0, 0, *own, 0)), ("words", (0, 0))):
         yield f"names-nothing:{what}", m.encode(), words
     yield from unreached_questions()
     alike, rng = Counter(), random.Random(SEED)
@@ -105,10 +104,10 @@ def answered(image, words):
     if broken(image):
         return "refused 1 65535 0"
     m = decode(image)
-    if len(words) != 4 + len(m.bindings) or words[0] >= len(m.patterns) or words[1] >= len(m.types):
+    if len(words) != 3 + len(m.bindings) or words[0] >= len(m.patterns) or words[1] >= len(m.types):
         return "refused 2 65535 0"
-    p, type_, root, discr, *locals_ = words
-    return "fits" if fits(m, p, type_, root, discr, locals_) else "does not fit"
+    p, type_, root, *locals_ = words
+    return "fits" if fits(m, p, type_, root, locals_) else "does not fit"
 
 
 def fit_records():

@@ -1,8 +1,7 @@
 """Judges whether a pattern fits a place, by document 01's paragraph "A pattern fits when" alone.
 
-`fits(m, p, type_, root, discr, locals_)`: the pattern p of the tables m, on a place of a type
-whose root is the local `root`, where `discr` is the discriminant local or ABSENT, and the
-bindings have these locals, ABSENT for none.
+`fits(m, p, type_, root, locals_)`: the pattern p of the tables m, on a place of a type whose
+root is the local `root`, where the bindings have these locals, ABSENT for none.
 """
 
 from images import (
@@ -220,10 +219,10 @@ class Fit:
                 break
 
 
-def fits(m, p, type_, root, discr, locals_):
+def fits(m, p, type_, root, locals_):
     """Whether all conditions hold."""
     fit = Fit(m, locals_)
-    there = [local for local in (root, discr, *locals_) if local != ABSENT]
+    there = [local for local in (root, *locals_) if local != ABSENT]
     try:
         fit.types(p, type_)
         fit.bound(p)

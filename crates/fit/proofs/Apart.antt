@@ -1,7 +1,7 @@
 -- The locals that must differ, by the ways through the code. Assumes nothing.
 use Prim.Native.Nat.{ℕ, _+_, _≤_, _<_}
 use mathlib.Core.Path.{_≡_, refl, sym, ap, _∙_}
-use mathlib.Core.Bool.{Bool, true, false, cond, not, _&&_, _||_, false≢true}
+use mathlib.Core.Bool.{Bool, true, false, cond, false≢true}
 use mathlib.Core.List.{List, [], _∷_}
 use native.Mathlib.Numerals.{add-one}
 use borrow.Author.Tests.{eq-eqb, ne-eqb, eqb-true, eqb-false}
@@ -9,10 +9,8 @@ use lib.Dec.{eqb}
 use lib.ListN.{length, getD, drop, drop-of-length-le}
 use lib.Seq.{drop-cons}
 use Rattle.image.specs.Lists.{member, distinct}
-use Rattle.place.specs.declared.LocalId.{LocalId}
 use Rattle.meaning.specs.Fits.{present, localsDiffer}
 use Rattle.fit_types.proofs.Fielding.{member-here, member-next, distinct-again, distinct-next}
-use Rattle.fit.specs.Calls.{discrApart}
 
 -- `stands_from`: 65535 is no local that is there
 pub no-local : (l : ℕ) → l ≡ 65535 → (xs : List ℕ) → false ≡ member l (present xs)
@@ -75,39 +73,12 @@ module _ (xs : List ℕ) (i : ℕ) where
   unfolding present distinct
   differ-end h = rw (drop-of-length-le xs {i = i} h)
 
--- the clause, in three parts
-parts-none : (m d : Bool) → not m && d ≡ not m && true && d
-parts-none true d = refl
-parts-none false d = refl
-
-parts-some : (e m n d : Bool) → not (e || m) && (not n && d) ≡ not m && (not e && not n) && d
-parts-some true true n d = refl
-parts-some true false n d = refl
-parts-some false true n d = refl
-parts-some false false true d = refl
-parts-some false false false d = refl
-
-parts : (bindings : List ℕ) (root : ℕ) → localsDiffer bindings root discr ≡ not (member root (present bindings)) && discrApart bindings root discr && distinct (present bindings)
-unfolding localsDiffer distinct member
-parts bindings root DiscrTemp.None = parts-none (member root (present bindings)) (distinct (present bindings))
-parts bindings root (DiscrTemp.Some l) = parts-some (eqb root (l .0)) (member root (present bindings)) (member (l .0) (present bindings)) (distinct (present bindings))
-
--- `discr_differs`
-module _ (bindings : List ℕ) (root : ℕ) {l : LocalId} (is : discr ≡ DiscrTemp.Some l) where
-  pub discr-root : root ≡ l .0 → false ≡ discrApart bindings root discr
-  discr-root e = rw (is, eq-eqb root (l .0) e)
-
-  pub discr-other : (root ≡ l .0 → ⊥) → {r : Bool} → r ≡ member (l .0) (present bindings) → not r ≡ discrApart bindings root discr
-  discr-other h e = rw (is, ne-eqb root (l .0) h, e)
-
 -- `locals_differ`
 module _ (bindings : List ℕ) (root : ℕ) {s : Bool} (stands : s ≡ member root (present bindings)) where
-  pub root-again : s ≡ true → false ≡ localsDiffer bindings root discr
-  root-again e = sym (parts bindings root discr ∙ rw (sym stands ∙ e))
+  pub root-again : s ≡ true → false ≡ localsDiffer bindings root
+  unfolding localsDiffer distinct
+  root-again e = rw (sym stands ∙ e)
 
-  module _ (once : s ≡ false) {r : Bool} (differs : r ≡ discrApart bindings root discr) where
-    pub discr-again : r ≡ false → false ≡ localsDiffer bindings root discr
-    discr-again e = sym (parts bindings root discr ∙ rw (sym stands ∙ once, sym differs ∙ e))
-
-    pub all-apart : r ≡ true → {b : Bool} → b ≡ distinct (present bindings) → b ≡ localsDiffer bindings root discr
-    all-apart e h = h ∙ sym (parts bindings root discr ∙ rw (sym stands ∙ once, sym differs ∙ e))
+  pub all-apart : s ≡ false → {b : Bool} → b ≡ distinct (present bindings) → b ≡ localsDiffer bindings root
+  unfolding localsDiffer distinct
+  all-apart once h = rw (sym stands ∙ once) h

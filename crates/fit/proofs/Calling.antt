@@ -62,24 +62,24 @@ somewhere t types typed h = record { place = t; named = h; fits = sym types ∙ 
 
 -- the clauses, one after the other
 module _ (image bindings : List ℕ) (root : ℕ) (t p : ℕ) {a : Bool} (types : a ≡ typesFit image (tree image p) (some t)) where
-  pub types-do-not : a ≡ false → false ≡ fits image bindings root discr t (tree image p)
+  pub types-do-not : a ≡ false → false ≡ fits image bindings root t (tree image p)
   unfolding fits allTrue
   types-do-not e = rw (sym types ∙ e)
 
   module _ (typed : a ≡ true) where
     module _ {b : Bool} (bound : b ≡ bindingsFit image (tree image p)) where
-      pub bindings-do-not : b ≡ false → false ≡ fits image bindings root discr t (tree image p)
+      pub bindings-do-not : b ≡ false → false ≡ fits image bindings root t (tree image p)
       unfolding fits allTrue
       bindings-do-not e = rw (sym types ∙ typed, sym bound ∙ e)
 
       module _ (once : b ≡ true) {c : Bool} (reached : c ≡ nothingRefused image bindings (tree image p)) where
-        pub refused : c ≡ false → false ≡ fits image bindings root discr t (tree image p)
+        pub refused : c ≡ false → false ≡ fits image bindings root t (tree image p)
         unfolding fits allTrue
         refused e = rw (sym types ∙ typed, sym bound ∙ once, sym reached ∙ e)
 
-        pub by-locals : c ≡ true → {d : Bool} → d ≡ localsDiffer bindings root discr → d ≡ fits image bindings root discr t (tree image p)
+        pub by-locals : c ≡ true → {d : Bool} → d ≡ localsDiffer bindings root → d ≡ fits image bindings root t (tree image p)
         unfolding fits allTrue
-        by-locals e h = h ∙ sym (rw (sym types ∙ typed, sym bound ∙ once, sym reached ∙ e) (and-yes (localsDiffer bindings root discr)))
+        by-locals e h = h ∙ sym (rw (sym types ∙ typed, sym bound ∙ once, sym reached ∙ e) (and-yes (localsDiffer bindings root)))
           where
             and-yes : (x : Bool) → x && true ≡ x
             and-yes true = refl
@@ -102,20 +102,20 @@ module _ (image : List ℕ) {tables : Tables} (read : Read.Image tables ≡ read
 
     -- a number that names nothing, and what the test tells
     module _ (root : ℕ) where
-      pub gives-no-number : n ≡ false → Gives (fitCall image bindings root discr t p) FitCall.BadCall
+      pub gives-no-number : n ≡ false → Gives (fitCall image bindings root t p) FitCall.BadCall
       unfolding fitCall
       gives-no-number e = record { reply = rw (is-valid, sym by-image ∙ e); refusal = rw (is-valid, sym by-image ∙ e) }
 
-      module _ (there : n ≡ true) {f : Bool} (told : f ≡ fits image bindings root discr t (tree image p)) where
-        pub gives-no : f ≡ false → Gives (fitCall image bindings root discr t p) FitCall.DoesNot
+      module _ (there : n ≡ true) {f : Bool} (told : f ≡ fits image bindings root t (tree image p)) where
+        pub gives-no : f ≡ false → Gives (fitCall image bindings root t p) FitCall.DoesNot
         unfolding fitCall
         gives-no e = record { reply = rw (is-valid, sym by-image ∙ there, sym told ∙ e); refusal = rw (is-valid, sym by-image ∙ there) }
 
-        pub gives-yes : f ≡ true → Gives (fitCall image bindings root discr t p) FitCall.Fits
+        pub gives-yes : f ≡ true → Gives (fitCall image bindings root t p) FitCall.Fits
         unfolding fitCall
         gives-yes e = record { reply = rw (is-valid, sym by-image ∙ there, sym told ∙ e); refusal = rw (is-valid, sym by-image ∙ there) }
 
 -- an image that is not
-pub gives-no-image : (image bindings : List ℕ) (root : ℕ) (t p : ℕ) → Read.Refused ≡ readOf image → Gives (fitCall image bindings root discr t p) FitCall.BadImage
+pub gives-no-image : (image bindings : List ℕ) (root : ℕ) (t p : ℕ) → Read.Refused ≡ readOf image → Gives (fitCall image bindings root t p) FitCall.BadImage
 unfolding fitCall
-gives-no-image image bindings root discr t p e = let bad = read-refused image e in record { reply = rw bad; refusal = rw bad }
+gives-no-image image bindings root t p e = let bad = read-refused image e in record { reply = rw bad; refusal = rw bad }

@@ -1,17 +1,16 @@
 -- The public fit test: every image and every number is taken, or refused by document 01's number. Assumes nothing: these are definitions.
 use Prim.Native.Nat.{ℕ}
 use mathlib.Core.Path.{_≡_}
-use mathlib.Core.Bool.{Bool, true, false, cond, _&&_, not}
+use mathlib.Core.Bool.{Bool, true, false, cond, _&&_}
 use mathlib.Core.Option.{Option, none, some}
 use mathlib.Core.List.{List}
 use lib.Dec.{eqb, ltb}
 use lib.ListN.{length}
 use Rattle.refusals.specs.Refusals.{Refusal, breaksARule, namesNothing}
 use Rattle.image.specs.Tables.{typeCount, patternCount, bindingCount}
-use Rattle.image.specs.Lists.{member}
 use Rattle.image.specs.Tree.{tree}
 use Rattle.image.specs.Valid.{valid}
-use Rattle.meaning.specs.Fits.{present, fits}
+use Rattle.meaning.specs.Fits.{fits}
 use Rattle.fit.specs.declared.FitCall.{FitCall}
 
 -- what a call gives: the image breaks a rule, a number of the call names nothing, or "a yes or no tells the fit"

@@ -1,5 +1,5 @@
 // The fit test: whether a pattern fits a place, for every image and every number of the call.
-pub mod locals; // locals.rt: the locals of the bindings, the place's root and the discriminant local differ
+pub mod locals; // locals.rt: the locals of the bindings and the place's root differ
 
 use fit_bindings::bindings_fit;
 use fit_reached::nothing_refused;
@@ -52,7 +52,7 @@ fn pattern_fits(
     p: PatId,
 ) -> bool
     requires { ⌜ (valid (now image) ≡ true) × Whole (now image) tables × (length (now bindings) ≡ bindingCount (now image)) × (p .0 < patternCount (now image)) × (t < typeCount (now image)) ⌝ }
-    ensures { λ r. ⌜ r ≡ fits (now (image .entry)) (now (bindings .entry)) (root .0) discr t (tree (now (image .entry)) (p .0)) ⌝ }
+    ensures { λ r. ⌜ r ≡ fits (now (image .entry)) (now (bindings .entry)) (root .0) t (tree (now (image .entry)) (p .0)) ⌝ }
 {
     if !types_fit(image, tables, TypeNumber::Some(t), p) {
         return false;
@@ -63,12 +63,12 @@ fn pattern_fits(
     if !nothing_refused(image, tables, bindings, p) {
         return false;
     }
-    locals_differ(bindings, root, discr)
+    locals_differ(bindings, root)
 }
 
-// Whether the pattern p fits a place of the type t whose root is the local `root`, where the bindings and the discriminants have these locals.
+// Whether the pattern p fits a place of the type t whose root is the local `root`, where the bindings have these locals.
 pub fn fit(image: &[u8], bindings: &[u16], root: LocalId, t: u16, p: PatId) -> FitCall
-    ensures { λ r. ⌜ Gives (fitCall (now (image .entry)) (now (bindings .entry)) (root .0) discr t (p .0)) r ⌝ }
+    ensures { λ r. ⌜ Gives (fitCall (now (image .entry)) (now (bindings .entry)) (root .0) t (p .0)) r ⌝ }
 {
     match read_image(image) {
         Read::Refused => FitCall::BadImage,
@@ -76,7 +76,7 @@ pub fn fit(image: &[u8], bindings: &[u16], root: LocalId, t: u16, p: PatId) -> F
             if !call_names(tables, bindings, t, p) {
                 return FitCall::BadCall;
             }
-            if !pattern_fits(image, tables, bindings, root, discr, t, p) {
+            if !pattern_fits(image, tables, bindings, root, t, p) {
                 return FitCall::DoesNot;
             }
             FitCall::Fits

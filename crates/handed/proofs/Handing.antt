@@ -17,7 +17,7 @@ use Rattle.mir.specs.Blocks.{isOpen}
 use Rattle.check_body.specs.Bodies.{isBlock, isLocal, elemHolds}
 use Rattle.lower.specs.declared.merging.OptBlock.{OptBlock}
 use Rattle.lower.specs.Promises.{Within}
-use Rattle.handed.specs.Handed.{startHolds, elseHolds, placeHolds, bindingHolds, bindingsHold, discrHolds, patternHanded, Named, matchHolds, selfHolds}
+use Rattle.handed.specs.Handed.{startHolds, elseHolds, placeHolds, bindingHolds, bindingsHold, patternHanded, Named, matchHolds, selfHolds}
 
 -- the start is a block that there is
 start-of : (blocks : List ℕ) (c : Counts) (current : BasicBlockId) → startHolds blocks c current ≡ true → current .0 < c .blocks
@@ -45,7 +45,6 @@ module _ (named : Named) (bindings blocks visits : List ℕ) (c : Counts) (p : �
   rules =
       patternHanded (named .patterns) visits p
       ∷ bindingsHold (named .bindings) c bindings
-      ∷ discrHolds c discr
       ∷ startHolds blocks c current
       ∷ elseHolds c current els
       ∷ placeHolds (named .variants) c place
@@ -74,10 +73,10 @@ module _ (named : Named) (bindings blocks visits : List ℕ) (c : Counts) (p : �
   bindings-sized h = bindings-of (named .bindings) c bindings (rule h 1)
 
   pub start-there : Handed → current .0 < c .blocks
-  start-there h = start-of blocks c current (rule h 3)
+  start-there h = start-of blocks c current (rule h 2)
 
   pub else-there : Handed → Within c els
-  else-there h = else-of c current els (rule h 4)
+  else-there h = else-of c current els (rule h 3)
 
   -- the place's root is there
   pub root-there : Handed → place .local .0 < c .locals
@@ -85,7 +84,7 @@ module _ (named : Named) (bindings blocks visits : List ℕ) (c : Counts) (p : �
   root-there h =
       ltb-true _ _
       (and-left (isLocal c (place .local .0)) (leb (place .len) 16)
-      (and-left (isLocal c (place .local .0) && leb (place .len) 16) (elemsHold (named .variants) place) (rule h 5)))
+      (and-left (isLocal c (place .local .0) && leb (place .len) 16) (elemsHold (named .variants) place) (rule h 4)))
 
   -- the place has at most 16 elements
   pub elems-within : Handed → place .len ≤ 16
@@ -93,7 +92,7 @@ module _ (named : Named) (bindings blocks visits : List ℕ) (c : Counts) (p : �
   elems-within h =
       leb-true _ _
       (and-right (isLocal c (place .local .0)) (leb (place .len) 16)
-      (and-left (isLocal c (place .local .0) && leb (place .len) 16) (elemsHold (named .variants) place) (rule h 5)))
+      (and-left (isLocal c (place .local .0) && leb (place .len) 16) (elemsHold (named .variants) place) (rule h 4)))
 
 module _ (named : Named) (bindings blocks : List ℕ) (c : Counts) (b : ℕ) (current : BasicBlockId) (l : ℕ) where
   -- the tests

@@ -13,7 +13,7 @@ use place::elems::elem_of;
 ghost use mathlib.Core.Path.{_≡_};
 ghost use Prim.Native.Nat.{_≤_};
 ghost use lib.ListN.{length};
-ghost use Rattle.handed.specs.Handed.{startHolds, elseHolds, placeHolds, bindingHolds, bindingsHold, discrHolds, patternHanded, matchHolds, selfHolds, isBlockOrNone, mergeHolds};
+ghost use Rattle.handed.specs.Handed.{startHolds, elseHolds, placeHolds, bindingHolds, bindingsHold, patternHanded, matchHolds, selfHolds, isBlockOrNone, mergeHolds};
 
 pub fn start_holds(blocks: &[u16], counts: Counts, current: BasicBlockId) -> bool
     requires { ⌜ (length (now blocks) ≡ 6144) × (counts .blocks ≤ 512) ⌝ }
@@ -85,15 +85,6 @@ pub fn bindings_hold(count: u16, counts: Counts, bindings: &[u16]) -> bool
     true
 }
 
-pub fn discr_holds(counts: Counts, discr: DiscrTemp) -> bool
-    ensures { λ r. ⌜ r ≡ discrHolds counts ⌝ }
-{
-    match discr {
-        DiscrTemp::None => true,
-        DiscrTemp::Some(l) => l.0 < counts.locals,
-    }
-}
-
 fn pattern_handed(count: u16, visits: &[u16], p: PatId) -> bool
     ensures { λ r. ⌜ r ≡ patternHanded count (now (visits .entry)) (p .0) ⌝ }
 {
@@ -122,9 +113,6 @@ pub fn match_holds(
         return false;
     }
     if !bindings_hold(tables.bindings.count, counts, bindings) {
-        return false;
-    }
-    if !discr_holds(counts, discr) {
         return false;
     }
     if !start_holds(blocks, counts, current) {

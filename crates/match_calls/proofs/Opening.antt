@@ -17,9 +17,8 @@ use Rattle.lower_calls.proofs.Prologue.{not-valid, not-taken, taken}
 use Rattle.pattern_matching.specs.Walking.{Out, Walk}
 use Rattle.handed.specs.Handed.{Named, matchHolds, selfHolds}
 use Rattle.match_calls.specs.declared.MatchCall.{MatchCall}
-use Rattle.match_calls.specs.declared.SelfCall.{SelfCall}
-use Rattle.match_calls.specs.Calls.{badImage, badCall, walked, call, namedIn, Visits, GivesSelf}
-use Rattle.match_calls.proofs.Stepping.{visits-by, self-gives, self-gives-by}
+use Rattle.match_calls.specs.Calls.{badImage, badCall, walked, call, namedIn, Gives, Visits}
+use Rattle.match_calls.proofs.Stepping.{gives-by, visits-by}
 
 -- how many variants, patterns and bindings the tables have
 abbrev pub namedBy : Tables → Named
@@ -79,15 +78,15 @@ module _ (image : List ℕ) (b : Body) (c : Counts) (names : Bool) (walk : Walk 
     goes-on e n G = visits-by (walks e n) G
 
   -- the call that visits none
-  pub self-bad-image : Opened.BadImage ≡ openedOf image b c → GivesSelf b c (call image b c names walk) SelfCall.BadImage b
-  self-bad-image e = self-gives MatchCall.BadImage (bad-image {v = []} e .gives)
+  pub self-bad-image : Opened.BadImage ≡ openedOf image b c → Gives b c (call image b c names walk) MatchCall.BadImage b
+  self-bad-image e = bad-image {v = []} e .gives
 
-  pub self-bad-body : Opened.BadCall ≡ openedOf image b c → GivesSelf b c (call image b c names walk) SelfCall.BadCall b
-  self-bad-body e = self-gives MatchCall.BadCall (bad-body {v = []} e .gives)
+  pub self-bad-body : Opened.BadCall ≡ openedOf image b c → Gives b c (call image b c names walk) MatchCall.BadCall b
+  self-bad-body e = bad-body {v = []} e .gives
 
-  pub self-bad-number : {tables : Tables} → Opened.Image tables ≡ openedOf image b c → names ≡ false → GivesSelf b c (call image b c names walk) SelfCall.BadCall b
-  self-bad-number e n = self-gives MatchCall.BadCall (bad-number {v = []} e n .gives)
+  pub self-bad-number : {tables : Tables} → Opened.Image tables ≡ openedOf image b c → names ≡ false → Gives b c (call image b c names walk) MatchCall.BadCall b
+  self-bad-number e n = bad-number {v = []} e n .gives
 
-  pub self-goes-on : {tables : Tables} {r : SelfCall} {b₁ : Body} → Opened.Image tables ≡ openedOf image b c → names ≡ true → GivesSelf b c (walked walk) r b₁ →
-      GivesSelf b c (call image b c names walk) r b₁
-  self-goes-on e n G = self-gives-by (walks e n) G
+  pub self-goes-on : {tables : Tables} {r : MatchCall} {b₁ : Body} → Opened.Image tables ≡ openedOf image b c → names ≡ true → Gives b c (walked walk) r b₁ →
+      Gives b c (call image b c names walk) r b₁
+  self-goes-on e n G = gives-by (walks e n) G

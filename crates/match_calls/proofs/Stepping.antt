@@ -18,36 +18,23 @@ use Rattle.walks.specs.declared.Lowered.{Lowered}
 use Rattle.walks.specs.Answers.{Lent, lent, bodyOf, Lowers, Walks}
 use Rattle.walks.proofs.Sequences.{lowers-walks}
 use Rattle.match_calls.specs.declared.MatchCall.{MatchCall}
-use Rattle.match_calls.specs.declared.SelfCall.{SelfCall}
-use Rattle.match_calls.specs.Calls.{Called, walked, startCtx, numbers, Gives, Visits, withoutDiscr, selfNumbers, GivesSelf}
+use Rattle.match_calls.specs.Calls.{Called, walked, startCtx, Gives, Visits}
 use Rattle.match_calls.proofs.Starting.{no-visits, row-found}
 
 -- the same by another name
 pub visits-by : {b b′ : Body} {v v′ : List ℕ} {c : Counts} {given defined : Called} {r : MatchCall} → given ≡ defined → Visits b v c given r b′ v′ → Visits b v c defined r b′ v′
 visits-by {b = b} {b′ = b′} {v = v} {v′ = v′} {c = c} {r = r} e G = subst (λ x. Visits b v c x r b′ v′) e G
 
-pub self-gives-by : {b b′ : Body} {c : Counts} {given defined : Called} {r : SelfCall} → given ≡ defined → GivesSelf b c given r b′ → GivesSelf b c defined r b′
-self-gives-by {b = b} {b′ = b′} {c = c} {r = r} e G = subst (λ x. GivesSelf b c x r b′) e G
-
--- the numbers do not hang on the discriminant local
-same-numbers : (r : MatchCall) → selfNumbers (withoutDiscr r) ≡ numbers r
-same-numbers (MatchCall.Matched c then els) = refl
-same-numbers (MatchCall.Refused e p) = refl
-same-numbers MatchCall.BadCall = refl
-same-numbers MatchCall.BadImage = refl
-
--- an answer without the discriminant local
-pub self-gives : {b b′ : Body} {c : Counts} {defined : Called} (r : MatchCall) → Gives b c defined r b′ → GivesSelf b c defined (withoutDiscr r) b′
-self-gives r G =
-    record { reply = ap withoutDiscr (G .reply); refusal = same-numbers r ∙ G .refusal; tables = G .tables; reads = G .reads; ready = G .ready }
+pub gives-by : {b b′ : Body} {c : Counts} {given defined : Called} {r : MatchCall} → given ≡ defined → Gives b c given r b′ → Gives b c defined r b′
+gives-by {b = b} {b′ = b′} {c = c} {r = r} e G = subst (λ x. Gives b c x r b′) e G
 
 -- A call that gives `defined`. The tables b and v were found; t₀, scopes and v₁ are those after zeros were written above the counts c, and in the visits'.
 module _ (defined : Ctx → Walk Out) {b : Body} {v v₁ : List ℕ} {c : Counts} {current : BasicBlockId} {els : OptBlock} {t₀ : Lent} {scopes : List ℕ} where
   -- the walk is accepted
   pub accepted : {c′ : Counts} {then : BasicBlockId} {els′ : OptBlock} {t : Lent} {v′ : List ℕ} → Cleared b c (bodyOf t₀ scopes) → v₁ ≡ zeros 512 →
       Walks defined c current els t₀ v₁ (Lowered.Done c′ then els′) t v′ →
-      Visits b v c (walked (defined (startCtx b c discr))) (MatchCall.Matched c′ d then els′) (bodyOf t scopes) v′
-  accepted {c′ = c′} {d = d} {then = then} {els′ = els′} {t = t} C zero W =
+      Visits b v c (walked (defined (startCtx b c))) (MatchCall.Matched c′ then els′) (bodyOf t scopes) v′
+  accepted {c′ = c′} {then = then} {els′ = els′} {t = t} C zero W =
       let A = W .answers scopes (zeros 512) (C .ready) (zero ∙ no-visits) in
       let ready = A .answers .goes .0 in
       let after = bodyOf t scopes in
@@ -55,7 +42,7 @@ module _ (defined : Ctx → Walk Out) {b : Body} {v v₁ : List ℕ} {c : Counts
       (ap walked (A .answers .says ∙ ap (λ (st : State). defined (record { state = st; visits = zeros 512 })) (C .same)))
       (record {
         gives = record {
-          reply = ap (λ (n : Counts). MatchCall.Matched n d then els′) (sym (counted after c′ ready));
+          reply = ap (λ (n : Counts). MatchCall.Matched n then els′) (sym (counted after c′ ready));
           refusal = refl;
           tables = held after c′ ready;
           reads = ap (decode after) (counted after c′ ready);
@@ -67,7 +54,7 @@ module _ (defined : Ctx → Walk Out) {b : Body} {v v₁ : List ℕ} {c : Counts
   -- the walk is refused: b₂ lies in the tables after what changed below the counts was put back, and b₃ after zeros were written again
   stopped : {e : MirLowerError} {q : PatId} {t : Lent} {v′ v₃ : List ℕ} (b₂ : Body) {b₃ : Body} → Cleared b c (bodyOf t₀ scopes) → v₁ ≡ zeros 512 →
       Walks defined c current els t₀ v₁ (Lowered.Refused e q) t v′ → decode b₂ c ≡ decode (bodyOf t₀ scopes) c → b₃ ≡ encode (decode b₂ c) → v₃ ≡ zeros 512 →
-      Visits b v c (walked (defined (startCtx b c discr))) (MatchCall.Refused e q) b₃ v₃
+      Visits b v c (walked (defined (startCtx b c))) (MatchCall.Refused e q) b₃ v₃
   stopped b₂ C zero W back is zero₃ =
       let A = W .answers scopes (zeros 512) (C .ready) (zero ∙ no-visits) in
       visits-by
@@ -81,7 +68,7 @@ module _ (defined : Ctx → Walk Out) {b : Body} {v v₁ : List ℕ} {c : Counts
   pub refused-back : {e : MirLowerError} {q : PatId} {t : Lent} {v′ v₃ row bl₂ : List ℕ} {b₃ : Body} → Cleared b c (bodyOf t₀ scopes) → v₁ ≡ zeros 512 →
       Walks defined c current els t₀ v₁ (Lowered.Refused e q) t v′ → current .0 < c .blocks → length (t .blocks) ≡ length (t₀ .blocks) → row ≡ rowAt 12 (b .blocks) (current .0) →
       bl₂ ≡ stored (t .blocks) (12 * current .0) row → b₃ ≡ encode (decode (body bl₂ (t .statements) (t .locals) scopes (t .entries)) c) → v₃ ≡ zeros 512 →
-      Visits b v c (walked (defined (startCtx b c discr))) (MatchCall.Refused e q) b₃ v₃
+      Visits b v c (walked (defined (startCtx b c))) (MatchCall.Refused e q) b₃ v₃
   refused-back {t = t} {row = row} {bl₂ = bl₂} C zero W start long is-row back is zero₃ =
       let R = C .ready in
       let A = W .answers scopes (zeros 512) R (zero ∙ no-visits) in
@@ -96,14 +83,13 @@ module _ (defined : Ctx → Walk Out) {b : Body} {v v₁ : List ℕ} {c : Counts
 module _ (defined : Ctx → Walk Out) {b : Body} {c : Counts} {current : BasicBlockId} {els : OptBlock} {bl s l scopes e : List ℕ} where
   pub filled : {c′ : Counts} {then : BasicBlockId} {els′ : OptBlock} {s₂ e₂ : List ℕ} → Cleared b c (body bl s l scopes e) →
       Lowers defined c current els (lent bl s l e) (Lowered.Done c′ then els′) (lent bl s₂ l e₂) →
-      GivesSelf b c (walked (defined (startCtx b c discr))) (SelfCall.Matched c′ then els′) (body bl s₂ l scopes e₂)
-  filled {c′ = c′} {d = d} {then = then} {els′ = els′} C L =
-      self-gives (MatchCall.Matched c′ d then els′) (accepted defined {v = []} C refl (lowers-walks (zeros 512) L) .gives)
+      Gives b c (walked (defined (startCtx b c))) (MatchCall.Matched c′ then els′) (body bl s₂ l scopes e₂)
+  filled C L = accepted defined {v = []} C refl (lowers-walks (zeros 512) L) .gives
 
   pub not-filled : {err : MirLowerError} {q : PatId} {s₂ e₂ : List ℕ} {b₃ : Body} → Cleared b c (body bl s l scopes e) →
       Lowers defined c current els (lent bl s l e) (Lowered.Refused err q) (lent bl s₂ l e₂) → b₃ ≡ encode (decode (body bl s₂ l scopes e₂) c) →
-      GivesSelf b c (walked (defined (startCtx b c discr))) (SelfCall.Refused err q) b₃
-  not-filled {err = err} {q = q} {s₂ = s₂} {e₂ = e₂} C L is =
+      Gives b c (walked (defined (startCtx b c))) (MatchCall.Refused err q) b₃
+  not-filled {s₂ = s₂} {e₂ = e₂} C L is =
       let kept = L .answers scopes (zeros 512) (C .ready) .kept in
       let same = kept-below c (current .0) (body bl s l scopes e) (body bl s₂ l scopes e₂) bl kept refl in
-      self-gives (MatchCall.Refused err q) (stopped defined {v = []} (body bl s₂ l scopes e₂) C refl (lowers-walks (zeros 512) L) same is refl .gives)
+      stopped defined {v = []} (body bl s₂ l scopes e₂) C refl (lowers-walks (zeros 512) L) same is refl .gives

@@ -21,7 +21,6 @@ use Rattle.pattern_matching.specs.Walking.{Ctx, Out, Walk, ok, refused}
 use Rattle.pattern_matching.specs.Patterns.{patternMatch, patternMatchAssignment, matchSelfParam}
 use Rattle.walks.specs.Answers.{ctxOf, visitWord}
 use Rattle.match_calls.specs.declared.MatchCall.{MatchCall}
-use Rattle.match_calls.specs.declared.SelfCall.{SelfCall}
 use Rattle.handed.specs.Handed.{Named, matchHolds, selfHolds}
 
 -- what a call gives: the image breaks a rule, the body or a number of the call names nothing, or what the walk gives

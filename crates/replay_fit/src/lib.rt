@@ -1,5 +1,5 @@
-// A stored question whether a pattern fits, whose words stand behind the image: the pattern, the type of its place, the place's root, the discriminant local or 65535, and
-// the bindings' locals. The answer is printed.
+// A stored question whether a pattern fits, whose words stand behind the image: the pattern, the type of its place, the place's root, and the bindings' locals. The answer is
+// printed.
 use fit::FitCall;
 use fit::fit;
 use image::PatId;
@@ -8,23 +8,14 @@ use program_io::write_output;
 use stored_records::Words;
 use stored_records::next_words;
 
-// The discriminant local; 65535 is none.
-fn discr_of(word: u16) -> DiscrTemp {
-    if word == 65535 {
-        return DiscrTemp::None;
-    }
-    DiscrTemp::Some(LocalId(word))
-}
-
-// Prints the answer to a question; fewer than four words name nothing.
+// Prints the answer to a question; fewer than three words name nothing.
 fn print_fit(image: &[u8], words: &[u16]) {
-    if words.len() < 4 {
+    if words.len() < 3 {
         write_output(b"refused 2 65535 0\n");
         return;
     }
     let root = LocalId(words[2]);
-    let discr = discr_of(words[3]);
-    match fit(image, &words[4..], root, discr, words[1], PatId(words[0])) {
+    match fit(image, &words[3..], root, words[1], PatId(words[0])) {
         FitCall::Fits => write_output(b"fits\n"),
         FitCall::DoesNot => write_output(b"does not fit\n"),
         FitCall::BadCall => write_output(b"refused 2 65535 0\n"),

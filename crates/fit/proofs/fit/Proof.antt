@@ -11,7 +11,7 @@ use borrow.Author.Tests.{not-true, not-false}
 use Rattle.fit.proofs.Calling.{is-valid, is-whole, are-handed, gives-no-number, gives-no, gives-yes, gives-no-image}
 
 returns : tie.Need-returns
-returns c = gives-no-number _ (sym (c .before .before .before .tables .given .1) ∙ c .before .before .before .before .before .read-image .ensures .answer) (c .before .before .before .before .before .before .before .before .args .bindings .now) _ _ (c .before .call-names .ensures) _ _ (not-true _ (c .if1 .taken))
+returns c = gives-no-number _ (sym (c .before .before .before .tables .given .1) ∙ c .before .before .before .before .before .read-image .ensures .answer) (c .before .before .before .before .before .before .before .before .args .bindings .now) _ _ (c .before .call-names .ensures) _ (not-true _ (c .if1 .taken))
 
 pattern-fits-requires : tie.Need-pattern-fits-requires
 pattern-fits-requires c κs =
@@ -19,13 +19,13 @@ pattern-fits-requires c κs =
     (is-valid _ (sym (c .before .before .before .tables .given .1) ∙ c .before .before .before .before .before .read-image .ensures .answer), is-whole _ (sym (c .before .before .before .tables .given .1) ∙ c .before .before .before .before .before .read-image .ensures .answer), there .long, there .pattern, there .type)
 
 returns-2 : tie.Need-returns-2
-returns-2 c = gives-no _ (sym (c .before .before .before .before .before .tables .given .1) ∙ c .before .before .before .before .before .before .before .read-image .ensures .answer) (c .before .before .before .before .before .before .before .before .before .before .args .bindings .now) _ _ (c .before .before .before .call-names .ensures) _ _ (not-false _ (c .before .before .if1 .left)) (c .before .pattern-fits .ensures) (not-true _ (c .if2 .taken))
+returns-2 c = gives-no _ (sym (c .before .before .before .before .before .tables .given .1) ∙ c .before .before .before .before .before .before .before .read-image .ensures .answer) (c .before .before .before .before .before .before .before .before .before .before .args .bindings .now) _ _ (c .before .before .before .call-names .ensures) _ (not-false _ (c .before .before .if1 .left)) (c .before .pattern-fits .ensures) (not-true _ (c .if2 .taken))
 
 returns-3 : tie.Need-returns-3
-returns-3 c = gives-no-image _ _ _ _ _ _ (sym (c .enum-told .given .1) ∙ c .before .before .read-image .ensures .answer)
+returns-3 c = gives-no-image _ _ _ _ _ (sym (c .enum-told .given .1) ∙ c .before .before .read-image .ensures .answer)
 
 returns-4 : tie.Need-returns-4
-returns-4 c = gives-yes _ (sym (c .before .before .before .before .before .tables .given .1) ∙ c .before .before .before .before .before .before .before .read-image .ensures .answer) (c .before .before .before .before .before .before .before .before .before .before .args .bindings .now) _ _ (c .before .before .before .call-names .ensures) _ _ (not-false _ (c .before .before .if1 .left)) (c .before .pattern-fits .ensures) (not-false _ (c .if2 .left))
+returns-4 c = gives-yes _ (sym (c .before .before .before .before .before .tables .given .1) ∙ c .before .before .before .before .before .before .before .read-image .ensures .answer) (c .before .before .before .before .before .before .before .before .before .before .args .bindings .now) _ _ (c .before .before .before .call-names .ensures) _ (not-false _ (c .before .before .if1 .left)) (c .before .pattern-fits .ensures) (not-false _ (c .if2 .left))
 
 pub fit-spec : {M : Type 1} → statement M
 fit-spec =

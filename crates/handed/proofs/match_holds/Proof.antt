@@ -4,7 +4,6 @@ use Rattle.handed.proofs.match_holds.Tie as tie
 use Rattle.handed.proofs.match_holds.Reads as reads
 use Rattle.handed.proofs.match_holds.Lts as lts
 use Rattle.handed.proofs.bindings_hold.Reads as bindings-hold-reads
-use Rattle.handed.proofs.discr_holds.Reads as discr-holds-reads
 use Rattle.handed.proofs.else_holds.Reads as else-holds-reads
 use Rattle.handed.proofs.pattern_handed.Reads as pattern-handed-reads
 use Rattle.handed.proofs.place_holds.Reads as place-holds-reads
@@ -24,19 +23,15 @@ returns-2 c = rw (← c .before .before .before .pattern-handed .ensures, not-fa
 
 returns-3 : tie.Need-returns-3
 unfolding matchHolds allTrue
-returns-3 c = rw (← c .before .before .before .before .before .pattern-handed .ensures, not-false (c .before .before .before .before .before .pattern-handed .result) (c .before .before .before .before .if1 .left), ← c .before .before .before .bindings-hold .ensures, not-false (c .before .before .before .bindings-hold .result) (c .before .before .if2 .left), ← c .before .discr-holds .ensures, not-true (c .before .discr-holds .result) (c .if3 .taken))
+returns-3 c = rw (← c .before .before .before .before .before .pattern-handed .ensures, not-false (c .before .before .before .before .before .pattern-handed .result) (c .before .before .before .before .if1 .left), ← c .before .before .before .bindings-hold .ensures, not-false (c .before .before .before .bindings-hold .result) (c .before .before .if2 .left), ← c .before .start-holds .ensures, not-true (c .before .start-holds .result) (c .if3 .taken))
 
 returns-4 : tie.Need-returns-4
 unfolding matchHolds allTrue
-returns-4 c = rw (← c .before .before .before .before .before .before .before .pattern-handed .ensures, not-false (c .before .before .before .before .before .before .before .pattern-handed .result) (c .before .before .before .before .before .before .if1 .left), ← c .before .before .before .before .before .bindings-hold .ensures, not-false (c .before .before .before .before .before .bindings-hold .result) (c .before .before .before .before .if2 .left), ← c .before .before .before .discr-holds .ensures, not-false (c .before .before .before .discr-holds .result) (c .before .before .if3 .left), ← c .before .start-holds .ensures, not-true (c .before .start-holds .result) (c .if4 .taken))
+returns-4 c = rw (← c .before .before .before .before .before .before .before .pattern-handed .ensures, not-false (c .before .before .before .before .before .before .before .pattern-handed .result) (c .before .before .before .before .before .before .if1 .left), ← c .before .before .before .before .before .bindings-hold .ensures, not-false (c .before .before .before .before .before .bindings-hold .result) (c .before .before .before .before .if2 .left), ← c .before .before .before .start-holds .ensures, not-false (c .before .before .before .start-holds .result) (c .before .before .if3 .left), ← c .before .else-holds .ensures, not-true (c .before .else-holds .result) (c .if4 .taken))
 
 returns-5 : tie.Need-returns-5
 unfolding matchHolds allTrue
-returns-5 c = rw (← c .before .before .before .before .before .before .before .before .before .pattern-handed .ensures, not-false (c .before .before .before .before .before .before .before .before .before .pattern-handed .result) (c .before .before .before .before .before .before .before .before .if1 .left), ← c .before .before .before .before .before .before .before .bindings-hold .ensures, not-false (c .before .before .before .before .before .before .before .bindings-hold .result) (c .before .before .before .before .before .before .if2 .left), ← c .before .before .before .before .before .discr-holds .ensures, not-false (c .before .before .before .before .before .discr-holds .result) (c .before .before .before .before .if3 .left), ← c .before .before .before .start-holds .ensures, not-false (c .before .before .before .start-holds .result) (c .before .before .if4 .left), ← c .before .else-holds .ensures, not-true (c .before .else-holds .result) (c .if5 .taken))
-
-returns-6 : tie.Need-returns-6
-unfolding matchHolds allTrue
-returns-6 c = rw (← c .before .before .before .before .before .before .before .before .before .before .pattern-handed .ensures, not-false (c .before .before .before .before .before .before .before .before .before .before .pattern-handed .result) (c .before .before .before .before .before .before .before .before .before .if1 .left), ← c .before .before .before .before .before .before .before .before .bindings-hold .ensures, not-false (c .before .before .before .before .before .before .before .before .bindings-hold .result) (c .before .before .before .before .before .before .before .if2 .left), ← c .before .before .before .before .before .before .discr-holds .ensures, not-false (c .before .before .before .before .before .before .discr-holds .result) (c .before .before .before .before .before .if3 .left), ← c .before .before .before .before .start-holds .ensures, not-false (c .before .before .before .before .start-holds .result) (c .before .before .before .if4 .left), ← c .before .before .else-holds .ensures, not-false (c .before .before .else-holds .result) (c .before .if5 .left), and-true) (c .place-holds .ensures)
+returns-5 c = rw (← c .before .before .before .before .before .before .before .before .pattern-handed .ensures, not-false (c .before .before .before .before .before .before .before .before .pattern-handed .result) (c .before .before .before .before .before .before .before .if1 .left), ← c .before .before .before .before .before .before .bindings-hold .ensures, not-false (c .before .before .before .before .before .before .bindings-hold .result) (c .before .before .before .before .before .if2 .left), ← c .before .before .before .before .start-holds .ensures, not-false (c .before .before .before .before .start-holds .result) (c .before .before .before .if3 .left), ← c .before .before .else-holds .ensures, not-false (c .before .before .else-holds .result) (c .before .if4 .left), and-true) (c .place-holds .ensures)
 
 pub match-holds-spec : {M : Type 1} → statement M
 match-holds-spec =
@@ -51,6 +46,4 @@ match-holds-spec =
     (λ c κs. search needs)
     returns-4
     (λ c κs. search needs)
-    returns-5
-    (λ c κs. search needs)
-    returns-6)
+    returns-5)

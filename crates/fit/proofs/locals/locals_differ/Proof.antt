@@ -4,27 +4,15 @@ use Rattle.fit.proofs.locals.locals_differ.Tie as tie
 use Rattle.fit.proofs.locals.locals_differ.Reads as reads
 use Rattle.fit.proofs.locals.locals_differ.Lts as lts
 use Rattle.fit.proofs.locals.bindings_differ.Reads as bindings-differ-reads
-use Rattle.fit.proofs.locals.discr_differs.Reads as discr-differs-reads
 use Rattle.fit.proofs.locals.stands_from.Reads as stands-from-reads
-use borrow.Author.Tests.{not-true, not-false}
-use Rattle.fit.proofs.Apart.{root-again, discr-again, all-apart}
+use Rattle.fit.proofs.Apart.{root-again, all-apart}
 
 returns : tie.Need-returns
-returns c = root-again (c .before .before .before .args .bindings .now) _ _ (c .before .stands-from .ensures) (c .if1 .taken)
+returns c = root-again (c .before .before .before .args .bindings .now) _ (c .before .stands-from .ensures) (c .if1 .taken)
 
 returns-2 : tie.Need-returns-2
-returns-2 c = discr-again (c .before .before .before .before .before .args .bindings .now) _ _ (c .before .before .before .stands-from .ensures) (c .before .before .if1 .left) (c .before .discr-differs .ensures) (not-true _ (c .if2 .taken))
-
-returns-3 : tie.Need-returns-3
-returns-3 c = all-apart (c .before .before .before .before .before .before .args .bindings .now) _ _ (c .before .before .before .before .stands-from .ensures) (c .before .before .before .if1 .left) (c .before .before .discr-differs .ensures) (not-false _ (c .before .if2 .left)) (c .bindings-differ .ensures)
+returns-2 c = all-apart (c .before .before .before .before .args .bindings .now) _ (c .before .before .stands-from .ensures) (c .before .if1 .left) (c .bindings-differ .ensures)
 
 pub locals-differ-spec : {M : Type 1} → statement M
 locals-differ-spec =
-    tie.close
-    (tie.spec
-    (λ c κs. search needs)
-    returns
-    (λ c κs. search needs)
-    returns-2
-    (λ c κs. search needs)
-    returns-3)
+    tie.close (tie.spec (λ c κs. search needs) returns (λ c κs. search needs) returns-2)
