@@ -44,7 +44,7 @@ MODULES = [
     ("state", "Steps", "newBlock setTerminator pushStatement newLocal pushScope pushEntry tryBlock tryStatement tryLocal tryScope tryEntry"),
     ("literals", "Literals", "constantOf stringConstant integerConstant literalBy lowerLiteralToOperand lowerConstToOperand literalOrConstBy "
      "lowerLiteralOrConstToOperand"),
-    ("lower", "Temps", "isSlice pushStorageLiveForLocal temp bindingLocal discrTempPlace discrLocal"),
+    ("lower", "Temps", "isSlice pushStorageLiveForLocal temp bindingLocal"),
     ("views", "Views", "terminatorOf elemsAt pathOf constantAt leftOf lineOf mirOf"),
     ("refusals", "Refusals", "numberOf reasonOf refusalAt"),
     ("pattern_matching", "Walking", "visited project localPlace elseState elseBlock derefed entered"),
@@ -272,8 +272,7 @@ def judged_rows(rows_):
     """A declaration for each row on fit, meaning and run."""
     for row in rows_:
         label = row.name.replace("_", "-") + "-row"
-        discr = "DiscrTemp.None" if row.discr is None else f"DiscrTemp.Some {number(row.discr)}"
-        print(f"abbrev {label} : Judgement\n{label} = record {{ image = {byte_list(row.image.encode())}; holds = true; ty = {row.place}; locals = {row_of(row.locals)}; discr = {discr}; "
+        print(f"abbrev {label} : Judgement\n{label} = record {{ image = {byte_list(row.image.encode())}; holds = true; ty = {row.place}; locals = {row_of(row.locals)}; "
               f"fit = {str(row.fit).lower()}; tried = {row_of(tried(row, *of) for of in row.tried)} }}\n")
 
 
@@ -371,7 +370,6 @@ use mathlib.Core.Bool.{{true, false}}
 use mathlib.Core.List.{{List, [], _∷_, map}}
 use lib.IntN.{{pos, negsuc}}
 use Rattle.place.specs.declared.elems.ProjectionElem.{{ProjectionElem}}
-use Rattle.lower.specs.declared.temps.DiscrTemp.{{DiscrTemp}}
 use Rattle.meaning.specs.Values.{{Value, Int, Bool′, Char, Str, Tuple, Variant, Reference, Array, Slice, nil, cons}}
 use Rattle.meaning.specs.Running.{{Held, value, refersTo}}
 use Rattle.meaning.specs.Matching.{{Bound}}

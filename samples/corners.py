@@ -81,12 +81,14 @@ def check_document():
 
 
 def check_variants():
-    """Enum tests share one discriminant local, made at the first."""
+    """Each test of an enum has a discriminant local of its own, live in the test's block."""
     body = lowered(on.enum_twice)
-    assert (body.discriminant, body.locals) == (1, [1, "i128"])
-    assert statements(body) == ["live 1"] + ["set 1 discr 0"] * 4
+    assert body.locals == [1] + ["i128"] * 4
+    assert statements(body) == [
+        line for local in range(1, 5) for line in (f"live {local}", f"set {local} discr 0")]
+    assert [body.scopes, body.visits] == [[[1, 2, 3, 4]], [3, 3, 3, 2]]
     assert ends(on.enum_twice)[0] == "switch 1 1 2 3"
-    assert ends(on.enum_twice)[3] == "switch 1 0 4 5"
+    assert ends(on.enum_twice)[3] == "switch 2 0 4 5"
     body = lowered(on.bind_some)
     assert body.statements == [[("live", 2), ("set", 2, ("discr", (0, ())))],
                                [("live", 1), ("set", 1, ("copy", (0, ())))], []]
@@ -114,6 +116,8 @@ def check_others():
     assert len(lowered(on.blocks_512).terminators) == 512
     assert len(lowered(on.locals_512).locals) == 512
     assert len(lowered(on.statements_1024).created) == 1024
+    assert len(lowered(on.test_locals_512).locals) == 512
+    assert len(lowered(on.test_statements_1024).created) == 1024
 
 
 def tests(make):

@@ -31,12 +31,11 @@ TEXT = ("ref", "str")
 
 
 class Row:
-    """An image, the type of local 0, the bindings' locals and the discriminant's, the fit, the values."""
+    """An image, the type of local 0, the bindings' locals, the fit, the values."""
 
-    def __init__(self, name, image, place, fit, tried, locals_=None, discr=None):
+    def __init__(self, name, image, place, fit, tried, locals_=None):
         self.name, self.image, self.place, self.fit, self.tried = name, image, place, fit, tried
         self.locals = list(range(1, len(image.bindings) + 1)) if locals_ is None else locals_
-        self.discr = discr
 
 
 def yes(value, *bound):
@@ -295,7 +294,4 @@ CLAUSES = [
     unfit("local_is_the_root", U8, bind(U8, 0), bindings=[U8], locals_=[0]),
     unfit("one_local_for_two", PAIR, row(PAIR, bind(U8, 0), bind(U8, 1)), bindings=[U8, U8],
           locals_=[1, 1]),
-    unfit("local_is_the_discriminant", U8, bind(U8, 0), bindings=[U8], discr=1),
-    unfit("root_is_the_discriminant", U8, wild(U8), discr=0),
-    on("discriminant_apart", U8, wild(U8), yes(1), discr=1),
 ]

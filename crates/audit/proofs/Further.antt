@@ -26,7 +26,7 @@ use Rattle.mir.specs.Locals.{localTy}
 use Rattle.mir.specs.Rvalues.{constantWords, leftWords, placeRvalueKind, binaryKind, liveRow, deadRow, placeRvalueRow, constantRow, binaryRow}
 use Rattle.state.specs.Steps.{newBlock, setTerminator, pushStatement, newLocal, pushScope, pushEntry, tryBlock, tryStatement, tryLocal, tryScope, tryEntry}
 use Rattle.literals.specs.Literals.{constantOf, stringConstant, integerConstant, literalBy, lowerLiteralToOperand, lowerConstToOperand, literalOrConstBy, lowerLiteralOrConstToOperand}
-use Rattle.lower.specs.Temps.{isSlice, pushStorageLiveForLocal, temp, bindingLocal, discrTempPlace, discrLocal}
+use Rattle.lower.specs.Temps.{isSlice, pushStorageLiveForLocal, temp, bindingLocal}
 use Rattle.views.specs.Views.{terminatorOf, elemsAt, pathOf, constantAt, leftOf, lineOf, mirOf}
 use Rattle.refusals.specs.Refusals.{numberOf, reasonOf, refusalAt}
 use Rattle.pattern_matching.specs.Walking.{visited, project, localPlace, elseState, elseBlock, derefed, entered}
@@ -41,7 +41,7 @@ abbrev surplus-row : Row
 surplus-row = record { image = 0 ∷ 0 ∷ 0 ∷ 143 ∷ 1 ∷ 0 ∷ 2 ∷ 0 ∷ 0 ∷ 0 ∷ 4 ∷ 0 ∷ 0 ∷ 0 ∷ 11 ∷ 0 ∷ 32 ∷ 0 ∷ 1 ∷ 0 ∷ 1 ∷ 0 ∷ 0 ∷ 0 ∷ 0 ∷ 0 ∷ 1 ∷ 0 ∷ 5 ∷ 0 ∷ 0 ∷ 0 ∷ 2 ∷ 0 ∷ 0 ∷ 0 ∷ 1 ∷ 0 ∷ 3 ∷ 0 ∷ 0 ∷ 0 ∷ 0 ∷ 0 ∷ 0 ∷ 0 ∷ 0 ∷ 0 ∷ 0 ∷ 0 ∷ 0 ∷ 0 ∷ 10 ∷ 0 ∷ 0 ∷ 0 ∷ 0 ∷ 0 ∷ 2 ∷ 0 ∷ 0 ∷ 0 ∷ 0 ∷ 0 ∷ 0 ∷ 0 ∷ 10 ∷ 0 ∷ 0 ∷ 0 ∷ 0 ∷ 0 ∷ 5 ∷ 0 ∷ 0 ∷ 0 ∷ 0 ∷ 0 ∷ 0 ∷ 0 ∷ 4 ∷ 0 ∷ 1 ∷ 0 ∷ 0 ∷ 0 ∷ 8 ∷ 0 ∷ 3 ∷ 255 ∷ 255 ∷ 0 ∷ 0 ∷ 0 ∷ 0 ∷ 0 ∷ 0 ∷ 0 ∷ 1 ∷ 0 ∷ 0 ∷ 0 ∷ 16 ∷ 0 ∷ 1 ∷ 0 ∷ 16 ∷ 0 ∷ 16 ∷ 0 ∷ 0 ∷ 0 ∷ 1 ∷ 0 ∷ 2 ∷ 1 ∷ 0 ∷ 0 ∷ 0 ∷ 0 ∷ 0 ∷ 0 ∷ 0 ∷ 0 ∷ 0 ∷ 0 ∷ 0 ∷ 0 ∷ 0 ∷ 0 ∷ 0 ∷ 2 ∷ 0 ∷ 0 ∷ 0 ∷ 0 ∷ 0 ∷ 0 ∷ 0 ∷ 0 ∷ 0 ∷ 0 ∷ 0 ∷ 0 ∷ 0 ∷ 0 ∷ 0 ∷ []; ty = 1; wanted = accepted (record { 0 = 1 }) (OptBlock.Some (record { 0 = 2 })) (record { terminators = (Terminator.Switch (record { 0 = 1 }) 1 0 (record { 0 = 1 }) (record { 0 = 2 }) ∷ Terminator.Open ∷ Terminator.Open ∷ []); lines = (record { block = 0; statement = live 1 } ∷ record { block = 0; statement = set 1 (binary BinOp.Eq (Left.Constant (record { count = 1; ty = 0; offset = 0; low = 1; high = 0 })) (record { local = 0; elems = ((ProjectionElem.Field 1) ∷ []) })) } ∷ []); locals = (1 ∷ 256 ∷ []) }) (2 ∷ 2 ∷ 0 ∷ 2 ∷ []) }
 
 abbrev enum-twice-row : Row
-enum-twice-row = record { image = 0 ∷ 0 ∷ 0 ∷ 141 ∷ 1 ∷ 0 ∷ 2 ∷ 0 ∷ 2 ∷ 0 ∷ 4 ∷ 0 ∷ 0 ∷ 0 ∷ 4 ∷ 0 ∷ 32 ∷ 0 ∷ 1 ∷ 0 ∷ 1 ∷ 0 ∷ 0 ∷ 0 ∷ 0 ∷ 0 ∷ 1 ∷ 0 ∷ 6 ∷ 0 ∷ 0 ∷ 0 ∷ 2 ∷ 0 ∷ 1 ∷ 0 ∷ 0 ∷ 0 ∷ 0 ∷ 0 ∷ 1 ∷ 0 ∷ 0 ∷ 0 ∷ 1 ∷ 0 ∷ 0 ∷ 0 ∷ 16 ∷ 0 ∷ 3 ∷ 0 ∷ 0 ∷ 0 ∷ 0 ∷ 0 ∷ 0 ∷ 0 ∷ 0 ∷ 0 ∷ 0 ∷ 0 ∷ 0 ∷ 0 ∷ 12 ∷ 0 ∷ 1 ∷ 0 ∷ 0 ∷ 0 ∷ 1 ∷ 0 ∷ 1 ∷ 255 ∷ 255 ∷ 0 ∷ 0 ∷ 0 ∷ 9 ∷ 0 ∷ 1 ∷ 0 ∷ 0 ∷ 0 ∷ 1 ∷ 0 ∷ 1 ∷ 0 ∷ 0 ∷ 0 ∷ 0 ∷ 0 ∷ 5 ∷ 0 ∷ 1 ∷ 0 ∷ 0 ∷ 0 ∷ 2 ∷ 0 ∷ 2 ∷ 0 ∷ 0 ∷ 0 ∷ 0 ∷ 0 ∷ 0 ∷ 0 ∷ 0 ∷ 0 ∷ 1 ∷ 0 ∷ 2 ∷ 1 ∷ 0 ∷ 0 ∷ 0 ∷ 0 ∷ 0 ∷ 0 ∷ 0 ∷ 0 ∷ 0 ∷ 0 ∷ 0 ∷ 0 ∷ 0 ∷ 0 ∷ 0 ∷ 0 ∷ 0 ∷ 0 ∷ 0 ∷ 0 ∷ 0 ∷ 0 ∷ 0 ∷ 0 ∷ 0 ∷ 0 ∷ 0 ∷ 0 ∷ 0 ∷ 0 ∷ 0 ∷ []; ty = 1; wanted = accepted (record { 0 = 7 }) (OptBlock.Some (record { 0 = 6 })) (record { terminators = (Terminator.Switch (record { 0 = 1 }) 1 0 (record { 0 = 2 }) (record { 0 = 3 }) ∷ Terminator.Switch (record { 0 = 1 }) 1 0 (record { 0 = 8 }) (record { 0 = 9 }) ∷ Terminator.Goto (record { 0 = 1 }) ∷ Terminator.Switch (record { 0 = 1 }) 0 0 (record { 0 = 4 }) (record { 0 = 5 }) ∷ Terminator.Goto (record { 0 = 1 }) ∷ Terminator.Goto (record { 0 = 6 }) ∷ Terminator.Open ∷ Terminator.Open ∷ Terminator.Goto (record { 0 = 7 }) ∷ Terminator.Switch (record { 0 = 1 }) 0 0 (record { 0 = 10 }) (record { 0 = 11 }) ∷ Terminator.Goto (record { 0 = 7 }) ∷ Terminator.Unreachable ∷ []); lines = (record { block = 0; statement = live 1 } ∷ record { block = 0; statement = set 1 (ofPlace PlaceRvalue.Discr (record { local = 0; elems = ([]) })) } ∷ record { block = 3; statement = set 1 (ofPlace PlaceRvalue.Discr (record { local = 0; elems = ([]) })) } ∷ record { block = 1; statement = set 1 (ofPlace PlaceRvalue.Discr (record { local = 0; elems = ([]) })) } ∷ record { block = 9; statement = set 1 (ofPlace PlaceRvalue.Discr (record { local = 0; elems = ([]) })) } ∷ []); locals = (1 ∷ 258 ∷ []) }) (3 ∷ 3 ∷ 3 ∷ 2 ∷ []) }
+enum-twice-row = record { image = 0 ∷ 0 ∷ 0 ∷ 141 ∷ 1 ∷ 0 ∷ 2 ∷ 0 ∷ 2 ∷ 0 ∷ 4 ∷ 0 ∷ 0 ∷ 0 ∷ 4 ∷ 0 ∷ 32 ∷ 0 ∷ 1 ∷ 0 ∷ 1 ∷ 0 ∷ 0 ∷ 0 ∷ 0 ∷ 0 ∷ 1 ∷ 0 ∷ 6 ∷ 0 ∷ 0 ∷ 0 ∷ 2 ∷ 0 ∷ 1 ∷ 0 ∷ 0 ∷ 0 ∷ 0 ∷ 0 ∷ 1 ∷ 0 ∷ 0 ∷ 0 ∷ 1 ∷ 0 ∷ 0 ∷ 0 ∷ 16 ∷ 0 ∷ 3 ∷ 0 ∷ 0 ∷ 0 ∷ 0 ∷ 0 ∷ 0 ∷ 0 ∷ 0 ∷ 0 ∷ 0 ∷ 0 ∷ 0 ∷ 0 ∷ 12 ∷ 0 ∷ 1 ∷ 0 ∷ 0 ∷ 0 ∷ 1 ∷ 0 ∷ 1 ∷ 255 ∷ 255 ∷ 0 ∷ 0 ∷ 0 ∷ 9 ∷ 0 ∷ 1 ∷ 0 ∷ 0 ∷ 0 ∷ 1 ∷ 0 ∷ 1 ∷ 0 ∷ 0 ∷ 0 ∷ 0 ∷ 0 ∷ 5 ∷ 0 ∷ 1 ∷ 0 ∷ 0 ∷ 0 ∷ 2 ∷ 0 ∷ 2 ∷ 0 ∷ 0 ∷ 0 ∷ 0 ∷ 0 ∷ 0 ∷ 0 ∷ 0 ∷ 0 ∷ 1 ∷ 0 ∷ 2 ∷ 1 ∷ 0 ∷ 0 ∷ 0 ∷ 0 ∷ 0 ∷ 0 ∷ 0 ∷ 0 ∷ 0 ∷ 0 ∷ 0 ∷ 0 ∷ 0 ∷ 0 ∷ 0 ∷ 0 ∷ 0 ∷ 0 ∷ 0 ∷ 0 ∷ 0 ∷ 0 ∷ 0 ∷ 0 ∷ 0 ∷ 0 ∷ 0 ∷ 0 ∷ 0 ∷ 0 ∷ 0 ∷ []; ty = 1; wanted = accepted (record { 0 = 7 }) (OptBlock.Some (record { 0 = 6 })) (record { terminators = (Terminator.Switch (record { 0 = 1 }) 1 0 (record { 0 = 2 }) (record { 0 = 3 }) ∷ Terminator.Switch (record { 0 = 3 }) 1 0 (record { 0 = 8 }) (record { 0 = 9 }) ∷ Terminator.Goto (record { 0 = 1 }) ∷ Terminator.Switch (record { 0 = 2 }) 0 0 (record { 0 = 4 }) (record { 0 = 5 }) ∷ Terminator.Goto (record { 0 = 1 }) ∷ Terminator.Goto (record { 0 = 6 }) ∷ Terminator.Open ∷ Terminator.Open ∷ Terminator.Goto (record { 0 = 7 }) ∷ Terminator.Switch (record { 0 = 4 }) 0 0 (record { 0 = 10 }) (record { 0 = 11 }) ∷ Terminator.Goto (record { 0 = 7 }) ∷ Terminator.Unreachable ∷ []); lines = (record { block = 0; statement = live 1 } ∷ record { block = 0; statement = set 1 (ofPlace PlaceRvalue.Discr (record { local = 0; elems = ([]) })) } ∷ record { block = 3; statement = live 2 } ∷ record { block = 3; statement = set 2 (ofPlace PlaceRvalue.Discr (record { local = 0; elems = ([]) })) } ∷ record { block = 1; statement = live 3 } ∷ record { block = 1; statement = set 3 (ofPlace PlaceRvalue.Discr (record { local = 0; elems = ([]) })) } ∷ record { block = 9; statement = live 4 } ∷ record { block = 9; statement = set 4 (ofPlace PlaceRvalue.Discr (record { local = 0; elems = ([]) })) } ∷ []); locals = (1 ∷ 258 ∷ 258 ∷ 258 ∷ 258 ∷ []) }) (3 ∷ 3 ∷ 3 ∷ 2 ∷ []) }
 
 abbrev bind-some-row : Row
 bind-some-row = record { image = 0 ∷ 0 ∷ 0 ∷ 127 ∷ 1 ∷ 0 ∷ 2 ∷ 0 ∷ 2 ∷ 0 ∷ 3 ∷ 0 ∷ 1 ∷ 0 ∷ 2 ∷ 0 ∷ 32 ∷ 0 ∷ 1 ∷ 0 ∷ 1 ∷ 0 ∷ 0 ∷ 0 ∷ 0 ∷ 0 ∷ 1 ∷ 0 ∷ 6 ∷ 0 ∷ 0 ∷ 0 ∷ 2 ∷ 0 ∷ 1 ∷ 0 ∷ 0 ∷ 0 ∷ 0 ∷ 0 ∷ 1 ∷ 0 ∷ 0 ∷ 0 ∷ 1 ∷ 0 ∷ 0 ∷ 0 ∷ 16 ∷ 0 ∷ 3 ∷ 0 ∷ 0 ∷ 0 ∷ 0 ∷ 0 ∷ 0 ∷ 0 ∷ 0 ∷ 0 ∷ 0 ∷ 0 ∷ 0 ∷ 0 ∷ 12 ∷ 0 ∷ 1 ∷ 0 ∷ 0 ∷ 0 ∷ 1 ∷ 0 ∷ 1 ∷ 255 ∷ 255 ∷ 0 ∷ 0 ∷ 0 ∷ 11 ∷ 0 ∷ 1 ∷ 0 ∷ 0 ∷ 0 ∷ 0 ∷ 0 ∷ 1 ∷ 0 ∷ 0 ∷ 0 ∷ 0 ∷ 0 ∷ 1 ∷ 0 ∷ 1 ∷ 0 ∷ 0 ∷ 0 ∷ 0 ∷ 1 ∷ 0 ∷ 0 ∷ 0 ∷ 0 ∷ 0 ∷ 0 ∷ 0 ∷ 0 ∷ 0 ∷ 0 ∷ 0 ∷ 0 ∷ 0 ∷ 0 ∷ 0 ∷ 0 ∷ 0 ∷ 0 ∷ 0 ∷ 0 ∷ 0 ∷ 0 ∷ 0 ∷ 0 ∷ 0 ∷ 0 ∷ 0 ∷ 0 ∷ 0 ∷ 0 ∷ 0 ∷ []; ty = 1; wanted = accepted (record { 0 = 1 }) (OptBlock.Some (record { 0 = 2 })) (record { terminators = (Terminator.Switch (record { 0 = 2 }) 1 0 (record { 0 = 1 }) (record { 0 = 2 }) ∷ Terminator.Open ∷ Terminator.Open ∷ []); lines = (record { block = 0; statement = live 2 } ∷ record { block = 0; statement = set 2 (ofPlace PlaceRvalue.Discr (record { local = 0; elems = ([]) })) } ∷ record { block = 1; statement = live 1 } ∷ record { block = 1; statement = set 1 (ofPlace PlaceRvalue.Copy (record { local = 0; elems = ([]) })) } ∷ []); locals = (1 ∷ 1 ∷ 258 ∷ []) }) (2 ∷ 2 ∷ 2 ∷ []) }
@@ -228,5 +228,5 @@ rows = surplus-row ∷ enum-twice-row ∷ bind-some-row ∷ nested-or-row ∷ or
 
 -- each row's image comes to the answer that is wanted
 pub as-wanted : map (λ (row : Row). answerBy lowering (row .image) (row .ty)) rows ≡ map (λ (row : Row). row .wanted) rows
-unfolding wordAt littleEndian tablesOf typeAt variantAt patAt bindingAt listAt operandAt operandBytes member upFrom listed shapeBy tyOf variantOf bindingOf operandOf word? operand? trees tree? target nodeBy node treeOf tree elemOf wordOf projectionOf fieldOf derefTy adtFieldTy fieldTy elementTy subsliceTy adtDowncastTy downcastTy tyProjection variantProjection partProjection projectionTy multiProjectionTy termRow halves placeWords localTy constantWords leftWords placeRvalueKind binaryKind liveRow deadRow placeRvalueRow constantRow binaryRow newBlock setTerminator pushStatement newLocal pushScope pushEntry tryBlock tryStatement tryLocal tryScope tryEntry constantOf stringConstant integerConstant literalBy lowerLiteralToOperand lowerConstToOperand literalOrConstBy lowerLiteralOrConstToOperand isSlice pushStorageLiveForLocal temp bindingLocal discrTempPlace discrLocal terminatorOf elemsAt pathOf constantAt leftOf lineOf mirOf numberOf reasonOf refusalAt visited project localPlace elseState elseBlock derefed entered compare patternMatchConst literal litBy constantPath rangeEnd rangeEnd? bindingRvalue patternMatchBinding localPath placeTy shapeOf patternMatchAdt patternMatchTupleLike ellipsisAt tupleOn tuplePattern refOn refPattern resolved recordFields variantFields discriminantTest variantOn adtOn patternMatchingVariant variantPattern lengthConstant lengthCompared lengthTest restBound sliceItems sliceOn alternatives alternativesEnd orPattern endOp rangePattern pathPattern bindPattern restBy restOf patternMatchInner lowerings lowering? patternMatch startState start answerBy
+unfolding wordAt littleEndian tablesOf typeAt variantAt patAt bindingAt listAt operandAt operandBytes member upFrom listed shapeBy tyOf variantOf bindingOf operandOf word? operand? trees tree? target nodeBy node treeOf tree elemOf wordOf projectionOf fieldOf derefTy adtFieldTy fieldTy elementTy subsliceTy adtDowncastTy downcastTy tyProjection variantProjection partProjection projectionTy multiProjectionTy termRow halves placeWords localTy constantWords leftWords placeRvalueKind binaryKind liveRow deadRow placeRvalueRow constantRow binaryRow newBlock setTerminator pushStatement newLocal pushScope pushEntry tryBlock tryStatement tryLocal tryScope tryEntry constantOf stringConstant integerConstant literalBy lowerLiteralToOperand lowerConstToOperand literalOrConstBy lowerLiteralOrConstToOperand isSlice pushStorageLiveForLocal temp bindingLocal terminatorOf elemsAt pathOf constantAt leftOf lineOf mirOf numberOf reasonOf refusalAt visited project localPlace elseState elseBlock derefed entered compare patternMatchConst literal litBy constantPath rangeEnd rangeEnd? bindingRvalue patternMatchBinding localPath placeTy shapeOf patternMatchAdt patternMatchTupleLike ellipsisAt tupleOn tuplePattern refOn refPattern resolved recordFields variantFields discriminantTest variantOn adtOn patternMatchingVariant variantPattern lengthConstant lengthCompared lengthTest restBound sliceItems sliceOn alternatives alternativesEnd orPattern endOp rangePattern pathPattern bindPattern restBy restOf patternMatchInner lowerings lowering? patternMatch startState start answerBy
 as-wanted = refl

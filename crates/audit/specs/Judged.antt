@@ -35,7 +35,7 @@ triedValue (notOfType v) = v
 triedValue (unmatched v came) = v
 triedValue (matched v bound came) = v
 
--- an image, whether it is valid, the type of local 0, against which its last pattern is taken, the bindings' locals, the discriminant's local if there is one, whether
+-- an image, whether it is valid, the type of local 0, against which its last pattern is taken, the bindings' locals, whether
 -- the pattern fits, and values
 pub record Judgement : Type 0 where
   pub image : List ℕ
