@@ -1,7 +1,6 @@
 -- Patterns in a row, each on its part of a place, add what each of them adds. Assumes nothing.
-use mathlib.Core.Path.{subst}
 use mathlib.Core.Bool.{Bool, false}
-use mathlib.Core.List.{List, [], _∷_, _++_, map, reverse, reverseAux}
+use mathlib.Core.List.{List, [], _∷_, map, reverse, reverseAux}
 use Prim.Native.Nat.{ℕ, zero, suc}
 use lib.ListN.{take, drop}
 use Rattle.place.specs.declared.Place.{Place}
@@ -14,15 +13,14 @@ use Rattle.lower.specs.declared.merging.OptBlock.{OptBlock}
 use Rattle.pattern_matching.specs.Walking.{Ctx, Out, Walk, Lowering, next, project}
 use Rattle.pattern_matching.specs.Variants.{patternMatchAdt}
 use Rattle.counting.specs.Reaching.{zip, someArgument, Reaching, Reached, throughArguments}
-use Rattle.counting.specs.Counting.{someEnum}
 use Rattle.counting.proofs.Holding.{Holds, holds, holds-next, holds-step, holds-as}
 use Rattle.counting.proofs.Typed.{On, on-went, on-project}
-use Rattle.counting.proofs.Passing.{Pass, modeOf, After, Before, before-first, before-second, some-append, after-none, after-more}
+use Rattle.counting.proofs.Passing.{Pass, modeOf, After, after-none, after-more}
 
 -- a lowering adds what is counted of the patterns that it reaches
 pub record Counts (image : List ℕ) (l : Lowering) (fails : PlaceTy → Bool) (reach : Reaching) : Type 0 where
   pub goes : (pass : Pass) (c : Ctx) (current : BasicBlockId) (els : OptBlock) (place : Place) (ty : PlaceTy) (k : ℕ) (f : Bool) → On image c place ty →
-      Before pass (someEnum (reach ty k f)) → Holds (After pass c els (fails ty) k f (reach ty k f)) (l (modeOf pass) c current els place)
+      Holds (After pass c els (fails ty) k f (reach ty k f)) (l (modeOf pass) c current els place)
 
 -- each of a row of lowerings does
 pub data Each (image : List ℕ) : List Lowering → List (PlaceTy → Bool) → List Reaching → Type 0 where
@@ -76,30 +74,17 @@ pub on-after : {image : List ℕ} {pass : Pass} {c : Ctx} {els : OptBlock} {fail
     After pass c els fails k f rs r → On image c place ty → On image (r .ctx) place ty
 on-after a o = on-went (a .steps .went) o
 
--- what comes before the second of two lists
-pub before-rest : {pass : Pass} {c : Ctx} {els : OptBlock} {fails f : Bool} {k : ℕ} {rs : List Reached} {r : Out} (rs′ : List Reached) → After pass c els fails k f rs r →
-    Before pass (someEnum (rs ++ rs′)) → Before pass (someEnum rs′)
-before-rest {pass = pass} {c = c} {rs = rs} {r = r} rs′ a b =
-    before-second pass (someEnum rs) (someEnum rs′) (a .steps .discr) (subst (λ (e : Bool). Before pass e) (some-append rs rs′) b)
-
--- and before the first
-pub before-start : (pass : Pass) (c : Ctx) (rs rs′ : List Reached) → Before pass (someEnum (rs ++ rs′)) → Before pass (someEnum rs)
-before-start pass c rs rs′ b = before-first pass (someEnum rs) (someEnum rs′) (subst (λ (e : Bool). Before pass e) (some-append rs rs′) b)
-
 -- arguments, each on the place one element on
 pub holds-arguments : {image : List ℕ} {ls : List Lowering} {fs : List (PlaceTy → Bool)} {rs : List Reaching} (p : ℕ) (elems : List ProjectionElem) → Each image ls fs rs → AllFit elems →
     (pass : Pass) (c : Ctx) (current : BasicBlockId) (els : OptBlock) (place : Place) (ty : PlaceTy) (k : ℕ) → On image c place ty →
-    Before pass (someEnum (throughArguments image ty k (zip elems rs))) →
     Holds (After pass c els (someArgument image ty (zip elems fs)) k false (throughArguments image ty k (zip elems rs))) (patternMatchAdt p elems ls (modeOf pass) c current els place)
 unfolding patternMatchAdt zip someArgument throughArguments multiProjectionTy
-holds-arguments p [] e fit pass c current els place ty k o b = holds (After pass c els false k false []) _ (after-none pass c current els k)
-holds-arguments p (elem ∷ elems) none-left fit pass c current els place ty k o b = holds (After pass c els false k false []) _ (after-none pass c current els k)
-holds-arguments {image = image} p (elem ∷ elems) (one-more {l = l} {fails = fails} {reach = reach} {ls = ls} {fs = fs} {rs = rs} h e) fit pass c current els place ty k o b =
+holds-arguments p [] e fit pass c current els place ty k o = holds (After pass c els false k false []) _ (after-none pass c current els k)
+holds-arguments p (elem ∷ elems) none-left fit pass c current els place ty k o = holds (After pass c els false k false []) _ (after-none pass c current els k)
+holds-arguments {image = image} p (elem ∷ elems) (one-more {l = l} {fails = fails} {reach = reach} {ls = ls} {fs = fs} {rs = rs} h e) fit pass c current els place ty k o =
     let ty′ = projectionTy ty image elem in
-    let first = reach ty′ k false in
-    let others = throughArguments image ty k (zip elems rs) in
     let rest : Out → Walk Out = λ r. patternMatchAdt p elems ls (modeOf pass) (r .ctx) (r .then) (r .else) place in
     holds-step p (project place elem) (λ place′. next (l (modeOf pass) c current els place′) rest) (on-project elem (fit .0) o) (λ place′ o′.
-    holds-next (l (modeOf pass) c current els place′) rest (h .goes pass c current els place′ ty′ k false o′ (before-start pass c first others b)) (λ r a.
+    holds-next (l (modeOf pass) c current els place′) rest (h .goes pass c current els place′ ty′ k false o′) (λ r a.
     holds-as (λ r′ a′. after-more a a′)
-    (holds-arguments p elems e (fit .1) pass (r .ctx) (r .then) (r .else) place ty k (on-after a o) (before-rest others a b))))
+    (holds-arguments p elems e (fit .1) pass (r .ctx) (r .then) (r .else) place ty k (on-after a o))))

@@ -27,30 +27,29 @@ use Rattle.pattern_matching.specs.Variants.{patternMatchAdt}
 use Rattle.pattern_matching.specs.Slices.{RestOf, lengthTest, restBound, sliceItems, sliceOn, suffixItems}
 use Rattle.pattern_matching.specs.Patterns.{bindPattern}
 use Rattle.counting.specs.Reaching.{Argument, zip, items, someArgument, isSliceShape, lengthStatements, restBinds, binding, Reaching, Reached, throughArguments}
-use Rattle.counting.specs.Counting.{someEnum}
 use Rattle.counting.proofs.Holding.{Holds, holds, refuses, holds-next, holds-step, holds-as}
 use Rattle.counting.proofs.Going.{built-on, built-none, went-built, nothing, made}
 use Rattle.counting.proofs.Building.{gives-live, gives-statement}
 use Rattle.counting.proofs.Stepping.{Steps, steps-plain}
-use Rattle.counting.proofs.Passing.{Pass, checks, binds, modeOf, Small, After, Before, lateIn, after-more, after-head, after-plain, after-late}
+use Rattle.counting.proofs.Passing.{Pass, checks, binds, modeOf, Small, After, lateIn, after-more, after-head, after-plain, after-late}
 use Rattle.counting.proofs.Typed.{On, on-went, on-unvisited}
 use Rattle.counting.proofs.Testing.{anything, holds-length}
-use Rattle.counting.proofs.Arguments.{Each, none-left, one-more, fit-all, on-after, before-rest, before-start, holds-arguments}
+use Rattle.counting.proofs.Arguments.{Each, none-left, one-more, fit-all, on-after, holds-arguments}
 use Rattle.counting.proofs.Rows.{AfterArguments, through-append, some-argument-append}
 
 -- nothing is added
-steps-none : (c : Ctx) (current : BasicBlockId) (els : OptBlock) → Steps c els (record { ctx = c; then = current; else = els }) false false nothing (made 0 0)
-steps-none c current els = steps-plain current els refl (went-built (built-none _) refl)
+steps-none : (c : Ctx) (current : BasicBlockId) (els : OptBlock) → Steps c els (record { ctx = c; then = current; else = els }) false nothing (made 0 0)
+steps-none c current els = steps-plain current els (went-built (built-none _) refl)
 
 -- a binding is filled: two statements
 pub holds-binding : (bindings : List ℕ) (p q b : ℕ) (how : BindingMode) (c : Ctx) (current : BasicBlockId) (els : OptBlock) (place : Place) →
-    Holds (λ r. Steps c els r false false nothing (made 0 2)) (patternMatchBinding bindings p q b how c current els place)
+    Holds (λ r. Steps c els r false nothing (made 0 2)) (patternMatchBinding bindings p q b how c current els place)
 unfolding patternMatchBinding
 holds-binding bindings p q b how c current els place =
     holds-step q (bindingLocal bindings b) k₁ (anything (bindingLocal bindings b)) (λ l _.
     holds-step p (pushStorageLiveForLocal (c .state) l current) (k₂ l) (gives-live (c .state) l current) (λ st₁ g₁.
     holds-step p (tryStatement st₁ (row l)) k₃ (gives-statement st₁ (row l)) (λ st₂ g₂.
-    holds (λ r. Steps c els r false false nothing (made 0 2)) _ (steps-plain current els refl (went-built (built-on g₁ g₂) refl)))))
+    holds (λ r. Steps c els r false nothing (made 0 2)) _ (steps-plain current els (went-built (built-on g₁ g₂) refl)))))
   where
     row : LocalId → List ℕ
     row l = placeRvalueRow current l (bindingRvalue how) place
@@ -76,20 +75,20 @@ holds-bind bindings h b how subpattern pass c current els place fails k f rs bel
     last : Out → Walk Out
     last r = inCheck (modeOf pass) (ok r) (patternMatchBinding bindings (h .number) (h .number) b how (r .ctx) (r .then) (r .else) place)
 
-    late : (pass : Pass) (r : Out) → Holds (λ r′. Steps (r .ctx) (r .else) r′ false false nothing (made 0 (lateIn pass 2)))
+    late : (pass : Pass) (r : Out) → Holds (λ r′. Steps (r .ctx) (r .else) r′ false nothing (made 0 (lateIn pass 2)))
         (inCheck (modeOf pass) (ok r) (patternMatchBinding bindings (h .number) (h .number) b how (r .ctx) (r .then) (r .else) place))
-    late checks r = holds (λ r′. Steps (r .ctx) (r .else) r′ false false nothing (made 0 0)) r (steps-none (r .ctx) (r .then) (r .else))
+    late checks r = holds (λ r′. Steps (r .ctx) (r .else) r′ false nothing (made 0 0)) r (steps-none (r .ctx) (r .then) (r .else))
     late binds r = holds-binding bindings (h .number) (h .number) b how (r .ctx) (r .then) (r .else) place
 
 -- a rest that binds is filled in Bind
 holds-rest : (rest : RestOf) (bindings : List ℕ) (p front end : ℕ) (pass : Pass) (c : Ctx) (current : BasicBlockId) (els : OptBlock) (place : Place) →
-    Holds (λ r. Steps c els r false false nothing (made 0 (lateIn pass (restBinds rest)))) (restBound rest bindings p front end (modeOf pass) c current els place)
+    Holds (λ r. Steps c els r false nothing (made 0 (lateIn pass (restBinds rest)))) (restBound rest bindings p front end (modeOf pass) c current els place)
 unfolding restBound restBinds
-holds-rest RestOf.none bindings p front end checks c current els place = holds (λ r. Steps c els r false false nothing (made 0 0)) _ (steps-none c current els)
-holds-rest RestOf.none bindings p front end binds c current els place = holds (λ r. Steps c els r false false nothing (made 0 0)) _ (steps-none c current els)
-holds-rest RestOf.ignores bindings p front end checks c current els place = holds (λ r. Steps c els r false false nothing (made 0 0)) _ (steps-none c current els)
-holds-rest RestOf.ignores bindings p front end binds c current els place = holds (λ r. Steps c els r false false nothing (made 0 0)) _ (steps-none c current els)
-holds-rest (RestOf.binds q b how) bindings p front end checks c current els place = holds (λ r. Steps c els r false false nothing (made 0 0)) _ (steps-none c current els)
+holds-rest RestOf.none bindings p front end checks c current els place = holds (λ r. Steps c els r false nothing (made 0 0)) _ (steps-none c current els)
+holds-rest RestOf.none bindings p front end binds c current els place = holds (λ r. Steps c els r false nothing (made 0 0)) _ (steps-none c current els)
+holds-rest RestOf.ignores bindings p front end checks c current els place = holds (λ r. Steps c els r false nothing (made 0 0)) _ (steps-none c current els)
+holds-rest RestOf.ignores bindings p front end binds c current els place = holds (λ r. Steps c els r false nothing (made 0 0)) _ (steps-none c current els)
+holds-rest (RestOf.binds q b how) bindings p front end checks c current els place = holds (λ r. Steps c els r false nothing (made 0 0)) _ (steps-none c current els)
 holds-rest (RestOf.binds q b how) bindings p front end binds c current els place =
     holds-step p (project place (ProjectionElem.Subslice front end)) (λ place′. patternMatchBinding bindings p q b how c current els place′)
     (anything (project place (ProjectionElem.Subslice front end))) (λ place′ _. holds-binding bindings p q b how c current els place′)
@@ -114,14 +113,12 @@ each-reach (one-more h e) = ap suc (each-reach e)
 -- items of a Slice, each at its index
 holds-indexed : {image : List ℕ} {ls : List Lowering} {fs : List (PlaceTy → Bool)} {rs : List Reaching} (p : ℕ) (index : ℕ → ℕ → ProjectionElem) → ((n i : ℕ) → Fits (index n i)) →
     Each image ls fs rs → (pass : Pass) (c : Ctx) (current : BasicBlockId) (els : OptBlock) (place : Place) (ty : PlaceTy) (k : ℕ) → On image c place ty →
-    Before pass (someEnum (throughArguments image ty k (zip (map (index (length rs)) (upFrom 0 (length rs))) rs))) →
     Holds (AfterArguments image pass c els ty k (zip (map (index (length fs)) (upFrom 0 (length fs))) fs) (zip (map (index (length rs)) (upFrom 0 (length rs))) rs))
     (patternMatchAdt p (map (index (length ls)) (upFrom 0 (length ls))) ls (modeOf pass) c current els place)
-holds-indexed {image = image} {ls = ls} {fs = fs} {rs = rs} p index fit e pass c current els place ty k o b =
+holds-indexed {image = image} {ls = ls} {fs = fs} {rs = rs} p index fit e pass c current els place ty k o =
     subst (λ (n : ℕ). Holds (AfterArguments image pass c els ty k (zip (map (index n) (upFrom 0 n)) fs) (zip (map (index (length rs)) (upFrom 0 (length rs))) rs)) (patternMatchAdt p (map (index (length ls)) (upFrom 0 (length ls))) ls (modeOf pass) c current els place)) (each-fails e)
     (subst (λ (n : ℕ). Holds (AfterArguments image pass c els ty k (zip (map (index (length ls)) (upFrom 0 (length ls))) fs) (zip (map (index n) (upFrom 0 n)) rs)) (patternMatchAdt p (map (index (length ls)) (upFrom 0 (length ls))) ls (modeOf pass) c current els place)) (each-reach e)
-    (holds-arguments p (map (index (length ls)) (upFrom 0 (length ls))) e (fit-all (index (length ls)) (fit (length ls)) (upFrom 0 (length ls))) pass c current els place ty k o
-    (subst (λ (n : ℕ). Before pass (someEnum (throughArguments image ty k (zip (map (index n) (upFrom 0 n)) rs)))) (sym (each-reach e)) b)))
+    (holds-arguments p (map (index (length ls)) (upFrom 0 (length ls))) e (fit-all (index (length ls)) (fit (length ls)) (upFrom 0 (length ls))) pass c current els place ty k o))
 
 module _ {image : List ℕ} {ls ls′ : List Lowering} {fs fs′ : List (PlaceTy → Bool)} {rs rs′ : List Reaching} (front : Each image ls fs rs) (back : Each image ls′ fs′ rs′) (bindings : List ℕ) (h : Head)
     (rest : RestOf) (pass : Pass) (c : Ctx) (els : OptBlock) (place : Place) (ty : PlaceTy) (k : ℕ) (f : Bool) where
@@ -135,23 +132,17 @@ module _ {image : List ℕ} {ls ls′ : List Lowering} {fs fs′ : List (PlaceTy
 
   -- the items in front, the rest, and the items at the end, behind the pattern's own visit
   holds-items : (fails : Bool) (t s : ℕ) (r : Out) → After pass c els fails k f (binding h k f t s 0 ∷ []) r → On image (r .ctx) place ty →
-      Before pass (someEnum (throughArguments image ty k (items rs rs′))) →
       Holds (After pass c els (fails || someArgument image ty (items fs fs′)) k f (binding h k f t s (restBinds rest) ∷ throughArguments image ty k (items rs rs′)))
       (sliceItems bindings (h .number) ls rest ls′ (modeOf pass) (r .ctx) (r .then) (r .else) place)
-  unfolding sliceItems items someEnum
-  holds-items fails t s r a o before =
-      let R = throughArguments image ty k (frontOf rs) in
-      let R′ = throughArguments image ty k (backOf rs′) in
-      let b : Before pass (someEnum (R ++ R′)) = subst (λ (l : List Reached). Before pass (someEnum l)) (through-append image ty k (frontOf rs) (backOf rs′)) before in
-      let b₁ : Before pass (someEnum (R ++ R′)) = before-rest (R ++ R′) a b in
+  unfolding sliceItems items
+  holds-items fails t s r a o =
       holds-next (patternMatchAdt (h .number) (map (λ i. ProjectionElem.Index i) (upFrom 0 (length ls))) ls (modeOf pass) (r .ctx) (r .then) (r .else) place) k₁
-      (holds-indexed (h .number) (λ n i. ProjectionElem.Index i) (λ n i. tt) front pass (r .ctx) (r .then) (r .else) place ty k o (before-start pass (r .ctx) R R′ b₁)) (λ r₁ a₁.
+      (holds-indexed (h .number) (λ n i. ProjectionElem.Index i) (λ n i. tt) front pass (r .ctx) (r .then) (r .else) place ty k o) (λ r₁ a₁.
       holds-next (restBound rest bindings (h .number) (length ls) (length ls′) (modeOf pass) (r₁ .ctx) (r₁ .then) (r₁ .else) place) k₂
       (holds-rest rest bindings (h .number) (length ls) (length ls′) pass (r₁ .ctx) (r₁ .then) (r₁ .else) place) (λ r₂ s₂.
       let x = after-late h t s (restBinds rest) (rest-small rest) (after-more a a₁) s₂ in
       holds-as (λ r₃ a₃. whole r₃ (after-more x a₃))
-      (holds-indexed (h .number) (λ n i. ProjectionElem.IndexFromEnd (n - 1 - i)) (λ n i. tt) back pass (r₂ .ctx) (r₂ .then) (r₂ .else) place ty k (on-went (s₂ .went) (on-after a₁ o))
-      (before-rest R′ x b))))
+      (holds-indexed (h .number) (λ n i. ProjectionElem.IndexFromEnd (n - 1 - i)) (λ n i. tt) back pass (r₂ .ctx) (r₂ .then) (r₂ .else) place ty k (on-went (s₂ .went) (on-after a₁ o)))))
     where
       k₂ : Out → Walk Out
       k₂ r₂ = patternMatchAdt (h .number) (suffixItems (length ls′)) ls′ (modeOf pass) (r₂ .ctx) (r₂ .then) (r₂ .else) place
@@ -197,19 +188,18 @@ module _ {image : List ℕ} {ls ls′ : List Lowering} {fs fs′ : List (PlaceTy
       by binds = holds (After binds c els true k f (x ∷ [])) _ (after-head binds x small (steps-none (visited c (h .number)) current els))
 
   -- a Slice pattern by its own type
-  pub holds-slice : (shape : Shape) (current : BasicBlockId) → On image (visited c (h .number)) place ty → Before pass (someEnum (throughArguments image ty k (items rs rs′))) →
-      Holds (Slices (isSliceShape shape)) (sliceOn shape image bindings (h .number) ls rest ls′ (modeOf pass) (visited c (h .number)) current els place)
+  pub holds-slice : (shape : Shape) (current : BasicBlockId) → On image (visited c (h .number)) place ty → Holds (Slices (isSliceShape shape)) (sliceOn shape image bindings (h .number) ls rest ls′ (modeOf pass) (visited c (h .number)) current els place)
   unfolding sliceOn isSliceShape
-  holds-slice (integer size signed) current o b = refuses (Slices false) (MirLowerError.TypeError 2) (h .number)
-  holds-slice bool current o b = refuses (Slices false) (MirLowerError.TypeError 2) (h .number)
-  holds-slice char current o b = refuses (Slices false) (MirLowerError.TypeError 2) (h .number)
-  holds-slice str current o b = refuses (Slices false) (MirLowerError.TypeError 2) (h .number)
-  holds-slice (tuple fields) current o b = refuses (Slices false) (MirLowerError.TypeError 2) (h .number)
-  holds-slice (adt kind variants) current o b = refuses (Slices false) (MirLowerError.TypeError 2) (h .number)
-  holds-slice (reference t) current o b = refuses (Slices false) (MirLowerError.TypeError 2) (h .number)
-  holds-slice (array t n) current o b = holds-items false 0 0 _ (after-plain pass h k f c current els) o b
-  holds-slice (slice t) current o b =
+  holds-slice (integer size signed) current o = refuses (Slices false) (MirLowerError.TypeError 2) (h .number)
+  holds-slice bool current o = refuses (Slices false) (MirLowerError.TypeError 2) (h .number)
+  holds-slice char current o = refuses (Slices false) (MirLowerError.TypeError 2) (h .number)
+  holds-slice str current o = refuses (Slices false) (MirLowerError.TypeError 2) (h .number)
+  holds-slice (tuple fields) current o = refuses (Slices false) (MirLowerError.TypeError 2) (h .number)
+  holds-slice (adt kind variants) current o = refuses (Slices false) (MirLowerError.TypeError 2) (h .number)
+  holds-slice (reference t) current o = refuses (Slices false) (MirLowerError.TypeError 2) (h .number)
+  holds-slice (array t n) current o = holds-items false 0 0 _ (after-plain pass h k f c current els) o
+  holds-slice (slice t) current o =
       holds-next (inCheck (modeOf pass) (lengthTest rest image (h .number) (length ls + length ls′) (visited c (h .number)) current els place) (out (visited c (h .number)) current els))
       (λ r. sliceItems bindings (h .number) ls rest ls′ (modeOf pass) (r .ctx) (r .then) (r .else) place) (length-tested current (length ls + length ls′)) (λ r a.
-      holds-items true 1 (lengthStatements rest) r a (on-after a (on-unvisited (h .number) o)) b)
-  holds-slice unknown current o b = refuses (Slices false) (MirLowerError.TypeError 2) (h .number)
+      holds-items true 1 (lengthStatements rest) r a (on-after a (on-unvisited (h .number) o)))
+  holds-slice unknown current o = refuses (Slices false) (MirLowerError.TypeError 2) (h .number)

@@ -11,7 +11,7 @@ use Rattle.image.specs.Tree.{Pat}
 use Rattle.place.specs.declared.place_ty.PlaceTy.{PlaceTy}
 use Rattle.lower.specs.declared.merging.OptBlock.{OptBlock}
 use Rattle.counting.specs.Reaching.{Reached, reached}
-use Rattle.counting.specs.Counting.{one, total, checkVisits, visitsOf, blocksOf, statementsOf, elseMade, discrMade, mostOrs}
+use Rattle.counting.specs.Counting.{one, total, checkVisits, visitsOf, blocksOf, statementsOf, elseMade, mostOrs}
 use Rattle.counting.proofs.Going.{block, statement, visit}
 use Rattle.counting.proofs.Passing.{tested, bound, Small, AllSmall}
 
@@ -91,13 +91,9 @@ blocks-bound rs fails els small some = bounded blocksOf 3 (elseMade fails els) e
     each r s = by r (r .isOr) (r .tests) (r .failingAlternative) (s .tests)
 
 -- "and 4n(d + 2) statements"
-pub statements-bound : (rs : List Reached) (enum : Bool) → AllSmall rs → 1 ≤ length rs → total statementsOf rs + discrMade enum d ≤ 4 * length rs * (mostOrs rs + 2)
-statements-bound rs enum d small some = bounded statementsOf 4 (discrMade enum d) each rs small some (few enum d)
+pub statements-bound : (rs : List Reached) → AllSmall rs → 1 ≤ length rs → total statementsOf rs ≤ 4 * length rs * (mostOrs rs + 2)
+statements-bound rs small some = let b = bounded statementsOf 4 0 each rs small some (omega arith) in omega (arith, b)
   where
-    few : (enum : Bool) → discrMade enum d ≤ 1
-    few enum DiscrTemp.None = at-most-one enum
-    few enum (DiscrTemp.Some l) = omega arith
-
     each : (r : Reached) → Small r → statementsOf r + 1 ≤ 4 * (r .ors + 2)
     each r s = let b = mul-le-mul-left (checkVisits r) (s .testStatements) in let c = s .bindStatements in omega (arith, b, c)
 

@@ -21,9 +21,9 @@ use Rattle.mir.specs.Rvalues.{liveRow}
 use Rattle.state.specs.State.{State}
 use Rattle.state.specs.Steps.{newBlock, setTerminator, pushStatement, newLocal, pushEntry, within, tryBlock, tryStatement, tryLocal, tryEntry, nextLocal}
 use Rattle.lower.specs.declared.merging.OptBlock.{OptBlock}
-use Rattle.lower.specs.Temps.{isSlice, temp, pushStorageLiveForLocal, discrTempPlace}
+use Rattle.lower.specs.Temps.{isSlice, temp, pushStorageLiveForLocal}
 use Rattle.pattern_matching.specs.Walking.{elseState}
-use Rattle.counting.specs.Counting.{elseMade, discrMade}
+use Rattle.counting.specs.Counting.{elseMade}
 use Rattle.counting.proofs.Holding.{Gives, gives, stops, gives-then}
 use Rattle.counting.proofs.Going.{Built, built-on, built-none}
 
@@ -98,12 +98,6 @@ gives-temp image st word block =
     guarded (isSlice image word) MirLowerError.UnsizedTemporary (andThen (tryLocal st word) (λ st₁. pushStorageLiveForLocal st₁ (nextLocal st) block))
     (gives-then {Q = λ st₁. Built st st₁ 0 1} (tryLocal st word) (λ st₁. pushStorageLiveForLocal st₁ (nextLocal st) block) (room (λ st₁. Built st st₁ 0 0) (ltb (length (st .locals)) localLimit) (newLocal st word) (built-local st word)) (λ st₁ g.
     record { at = λ st₂ e. built-on g (gives-live st₁ (nextLocal st) block .at st₂ e) }))
-
--- the discriminant local, where there is none
-pub gives-discr : (image : List ℕ) (st : State) (block : BasicBlockId) → Gives (λ st₁. Built st st₁ 0 (discrMade true d)) (discrTempPlace image st d block)
-unfolding discrTempPlace
-gives-discr image st DiscrTemp.None block = gives-temp image st 258 block
-gives-discr image st (DiscrTemp.Some l) block = gives (λ st₁. Built st st₁ 0 0) st (built-none st)
 
 -- an else, where there is none
 pub gives-else : (st : State) (els : OptBlock) → Gives (λ st₁. Built st st₁ (elseMade true els) 0) (elseState st els)

@@ -21,11 +21,10 @@ use Rattle.pattern_matching.specs.Tests.{patternMatchConst, literal, litBy, con
 use Rattle.pattern_matching.specs.Variants.{shapeOf, needed, AdtPatternShape, patternMatchingVariant, variantPattern, adtOn}
 use Rattle.pattern_matching.specs.Patterns.{endOp, rangePattern, pathPattern}
 use Rattle.counting.specs.Reaching.{Argument, isEnum, downcast, ofVariant, someArgument, endCount, positive, pathTests, Reached, Reaching, testing, naming, pathReached, throughArguments}
-use Rattle.counting.specs.Counting.{someEnum}
 use Rattle.counting.proofs.Holding.{Holds, holds, refuses, holds-next, holds-step, holds-as}
 use Rattle.counting.proofs.Going.{What, block, statement, visit, built-none, went-built, nothing, made}
 use Rattle.counting.proofs.Stepping.{Steps, steps-on, steps-as, steps-plain}
-use Rattle.counting.proofs.Passing.{Pass, checks, binds, modeOf, Small, After, Before, after-head, after-plain}
+use Rattle.counting.proofs.Passing.{Pass, checks, binds, modeOf, Small, After, after-head, after-plain}
 use Rattle.counting.proofs.Typed.{On}
 use Rattle.counting.proofs.Testing.{anything, holds-const, holds-constant-path, holds-range-end?}
 use Rattle.counting.proofs.Naming.{Fielded, fielded-unit, holds-variant}
@@ -33,7 +32,7 @@ use Rattle.counting.proofs.Inside.{Inside}
 
 -- a leaf whose tests are made in Check, and which does nothing in Bind
 holds-leaf : (pass : Pass) (h : Head) (t s k : ℕ) (f fails : Bool) (c : Ctx) (current : BasicBlockId) (els : OptBlock) (l : MatchingMode → Walk Out) → t ≤ 2 → s ≤ 4 →
-    Holds (λ r. Steps (visited c (h .number)) els r fails false nothing (made t s)) (l MatchingMode.Check) →
+    Holds (λ r. Steps (visited c (h .number)) els r fails nothing (made t s)) (l MatchingMode.Check) →
     l MatchingMode.Bind ≡ out (visited c (h .number)) current els →
     Holds (After pass c els fails k f (testing h k f t s ∷ [])) (l (modeOf pass))
 holds-leaf pass h t s k f fails c current els l lt ls test skip = by pass
@@ -53,7 +52,7 @@ holds-leaf pass h t s k f fails c current els l lt ls test skip = by pass
         same (visit n) = refl
     by binds =
         subst (λ (w : Walk Out). Holds (After binds c els fails k f (x ∷ [])) w) (sym skip)
-        (holds (After binds c els fails k f (x ∷ [])) _ (after-head binds x small (steps-plain current els refl (went-built (built-none _) refl))))
+        (holds (After binds c els fails k f (x ∷ [])) _ (after-head binds x small (steps-plain current els (went-built (built-none _) refl))))
 
 -- a Range: one test for each end
 pub inside-range : (image : List ℕ) (h : Head) (start end : Option Operand) (halfOpen : Bool) →
@@ -62,7 +61,7 @@ pub inside-range : (image : List ℕ) (h : Head) (start end : Option Operand) (h
 unfolding rangePattern
 inside-range image h start end halfOpen =
     record {
-      goes = λ pass c current els place ty k f o b.
+      goes = λ pass c current els place ty k f o.
           holds-leaf pass h (endCount start + endCount end) (endCount start + endCount end + (endCount start + endCount end)) k f (positive (endCount start + endCount end)) c current els
           (λ mode. rangePattern image (h .number) (h .ty) start end halfOpen mode (visited c (h .number)) current els place) (few start end) (few-statements start end) (both c current els place) refl;
     }
@@ -84,14 +83,14 @@ inside-range image h start end halfOpen =
     some-end (some x) (some y) = refl
 
     both : (c : Ctx) (current : BasicBlockId) (els : OptBlock) (place : Place) →
-        Holds (λ r. Steps (visited c (h .number)) els r (positive (endCount start + endCount end)) false nothing (made (endCount start + endCount end) (endCount start + endCount end + (endCount start + endCount end))))
+        Holds (λ r. Steps (visited c (h .number)) els r (positive (endCount start + endCount end)) nothing (made (endCount start + endCount end) (endCount start + endCount end + (endCount start + endCount end))))
         (rangePattern image (h .number) (h .ty) start end halfOpen MatchingMode.Check (visited c (h .number)) current els place)
     both c current els place =
         holds-next (rangeEnd? image (h .number) (h .ty) BinOp.Le start (visited c (h .number)) current els place)
         (λ r. rangeEnd? image (h .number) (h .ty) (endOp halfOpen) end (r .ctx) (r .then) (r .else) place)
         (holds-range-end? image (h .number) (h .ty) BinOp.Le start (visited c (h .number)) current els place) (λ r a.
         holds-as (λ r′ a′. subst
-        (λ (x : Bool). Steps (visited c (h .number)) els r′ x false nothing (made (endCount start + endCount end) (endCount start + endCount end + (endCount start + endCount end))))
+        (λ (x : Bool). Steps (visited c (h .number)) els r′ x nothing (made (endCount start + endCount end) (endCount start + endCount end + (endCount start + endCount end))))
         (some-end start end) (steps-as sum (steps-on a a′)))
         (holds-range-end? image (h .number) (h .ty) (endOp halfOpen) end (r .ctx) (r .then) (r .else) place))
       where
@@ -104,7 +103,7 @@ inside-range image h start end halfOpen =
 -- a Lit: one test of two statements
 pub inside-lit : (image : List ℕ) (h : Head) (operand : Operand) → Inside image h (litBy (operand .kind) image (h .number) (h .ty) operand) (λ ty. true) (λ ty k f. testing h k f 1 2 ∷ [])
 unfolding litBy literal
-inside-lit image h operand = record { goes = λ pass c current els place ty k f o b. by (operand .kind) pass c current els place k f }
+inside-lit image h operand = record { goes = λ pass c current els place ty k f o. by (operand .kind) pass c current els place k f }
   where
     lit : (pass : Pass) (c : Ctx) (current : BasicBlockId) (els : OptBlock) (place : Place) (k : ℕ) (f : Bool) →
         Holds (After pass c els true k f (testing h k f 1 2 ∷ [])) (literal image (h .number) (h .ty) operand (modeOf pass) (visited c (h .number)) current els place)
@@ -130,14 +129,13 @@ inside-lit image h operand = record { goes = λ pass c current els place ty k f 
 -- a pattern that names a variant, with the type of its place at hand
 holds-named : {image : List ℕ} {shape : AdtPatternShape} {fs : ℕ → List (Argument (PlaceTy → Bool))} {rs : ℕ → List (Argument Reaching)} → Fielded image shape fs rs → (h : Head) (v : ℕ) (pass : Pass)
     (c : Ctx) (current : BasicBlockId) (els : OptBlock) (place : Place) (ty : PlaceTy) (k : ℕ) (f : Bool) → On image (visited c (h .number)) place ty →
-    Before pass (someEnum (naming h k f (isEnum (shapeOf image ty)) ∷ throughArguments image ty k (ofVariant image ty (some v) rs))) →
     Holds (After pass c els (isEnum (shapeOf image ty) || someArgument image ty (ofVariant image ty (some v) fs)) k f
     (naming h k f (isEnum (shapeOf image ty)) ∷ throughArguments image ty k (ofVariant image ty (some v) rs)))
     (patternMatchingVariant image (h .number) v shape (modeOf pass) (visited c (h .number)) current els place)
 unfolding patternMatchingVariant ofVariant
-holds-named {image = image} {shape = shape} {fs = fs} {rs = rs} fielded h v pass c current els place ty k f o b =
+holds-named {image = image} {shape = shape} {fs = fs} {rs = rs} fielded h v pass c current els place ty k f o =
     subst (λ (t : PlaceTy). Holds Named (needed (h .number) (shapeOf image t) (λ s. adtOn s image (h .number) v shape (modeOf pass) (visited c (h .number)) current els place))) (sym (o .typed))
-    (holds-variant fielded h v pass c current els place ty k f o (shapeOf image ty) b)
+    (holds-variant fielded h v pass c current els place ty k f o (shapeOf image ty))
   where
     Named : Out → Type 0
     Named r =
@@ -151,26 +149,26 @@ pub inside-variant : {image : List ℕ} {shape : AdtPatternShape} {fs : ℕ → 
 unfolding variantPattern
 inside-variant {image = image} {fs = fs} {rs = rs} h none fielded =
     record {
-      goes = λ pass c current els place ty k f o b.
+      goes = λ pass c current els place ty k f o.
           refuses (After pass c els (isEnum (shapeOf image ty) || someArgument image ty (ofVariant image ty none fs)) k f (naming h k f (isEnum (shapeOf image ty)) ∷ throughArguments image ty k (ofVariant image ty none rs)))
           MirLowerError.NotSupported (h .number);
     }
-inside-variant h (some v) fielded = record { goes = λ pass c current els place ty k f o b. holds-named fielded h v pass c current els place ty k f o b }
+inside-variant h (some v) fielded = record { goes = λ pass c current els place ty k f o. holds-named fielded h v pass c current els place ty k f o }
 
 -- a Path by what it names
 pub inside-path : (image bindings : List ℕ) (h : Head) (target : Target) →
     Inside image h (pathPattern target image bindings (h .number) (h .ty)) (λ ty. positive (pathTests image ty target)) (λ ty k f. pathReached image ty target h k f ∷ [])
 unfolding pathPattern pathTests pathReached localPath constantPath ofVariant someArgument throughArguments downcast
 inside-path image bindings h unresolved =
-    record { goes = λ pass c current els place ty k f o b. refuses (After pass c els false k f (testing h k f 0 0 ∷ [])) MirLowerError.UnresolvedName (h .number) }
+    record { goes = λ pass c current els place ty k f o. refuses (After pass c els false k f (testing h k f 0 0 ∷ [])) MirLowerError.UnresolvedName (h .number) }
 inside-path image bindings h (variant v) =
     record {
-      goes = λ pass c current els place ty k f o b.
+      goes = λ pass c current els place ty k f o.
           let e = isEnum (shapeOf image ty) in
           subst (λ (x : Bool). Holds (After pass c els x k f (naming h k f e ∷ [])) (patternMatchingVariant image (h .number) v AdtPatternShape.Unit (modeOf pass) (visited c (h .number)) current els place)) (fails ty e)
           (subst (λ (l : List Reached). Holds (After pass c els (e || someArgument image ty (downcast e v [])) k f (naming h k f e ∷ l)) (patternMatchingVariant image (h .number) v AdtPatternShape.Unit (modeOf pass) (visited c (h .number)) current els place))
           (below ty k e)
-          (holds-named (fielded-unit image) h v pass c current els place ty k f o (subst (λ (l : List Reached). Before pass (someEnum (naming h k f e ∷ l))) (sym (below ty k e)) b)));
+          (holds-named (fielded-unit image) h v pass c current els place ty k f o));
     }
   where
     fails : (ty : PlaceTy) (e : Bool) → (e || someArgument image ty (downcast e v [])) ≡ positive (cond e 1 0)
@@ -180,7 +178,7 @@ inside-path image bindings h (variant v) =
     below : (ty : PlaceTy) (k : ℕ) (e : Bool) → throughArguments image ty k (downcast e v []) ≡ []
     below ty k true = refl
     below ty k false = refl
-inside-path image bindings h (local b) = record { goes = λ pass c current els place ty k f o _. by pass c current els place k f }
+inside-path image bindings h (local b) = record { goes = λ pass c current els place ty k f o. by pass c current els place k f }
   where
     by : (pass : Pass) (c : Ctx) (current : BasicBlockId) (els : OptBlock) (place : Place) (k : ℕ) (f : Bool) →
         Holds (After pass c els false k f (testing h k f 0 0 ∷ [])) (localPath bindings (h .number) b (modeOf pass) (visited c (h .number)) current els place)
@@ -188,11 +186,11 @@ inside-path image bindings h (local b) = record { goes = λ pass c current els p
     by binds c current els place k f = holds (After binds c els false k f (testing h k f 0 0 ∷ [])) _ (after-plain binds h k f c current els)
 inside-path image bindings h (constant operand) =
     record {
-      goes = λ pass c current els place ty k f o b.
+      goes = λ pass c current els place ty k f o.
           holds-leaf pass h 1 4 k f true c current els (λ mode. constantPath image (h .number) (h .ty) operand mode (visited c (h .number)) current els place) (omega arith) (omega arith)
           (holds-constant-path image (h .number) (h .ty) operand (visited c (h .number)) current els place) refl;
     }
-inside-path image bindings h other = record { goes = λ pass c current els place ty k f o b. by pass c current els place k f }
+inside-path image bindings h other = record { goes = λ pass c current els place ty k f o. by pass c current els place k f }
   where
     by : (pass : Pass) (c : Ctx) (current : BasicBlockId) (els : OptBlock) (place : Place) (k : ℕ) (f : Bool) →
         Holds (After pass c els false k f (testing h k f 0 0 ∷ [])) (pathPattern other image bindings (h .number) (h .ty) (modeOf pass) (visited c (h .number)) current els place)

@@ -1,5 +1,5 @@
 -- Patterns that name a variant add what is counted of them. Assumes nothing.
-use mathlib.Core.Path.{_≡_, refl, sym, ap, subst}
+use mathlib.Core.Path.{_≡_, refl, ap, subst}
 use mathlib.Core.Bool.{Bool, true, false, cond, _||_}
 use mathlib.Core.Option.{Option, none, some}
 use mathlib.Core.List.{List, [], _∷_, _++_}
@@ -20,38 +20,36 @@ use Rattle.lower.specs.declared.merging.OptBlock.{OptBlock}
 use Rattle.pattern_matching.specs.Walking.{Ctx, Out, Walk, refused, Lowering, step, out, project, visited, inCheck}
 use Rattle.pattern_matching.specs.Variants.{AdtPatternShape, needed, variantFields, discriminantTest, variantOn, adtOn}
 use Rattle.counting.specs.Reaching.{Argument, isEnum, downcast, inARow, byFields, someArgument, Reaching, Reached, naming, throughArguments}
-use Rattle.counting.specs.Counting.{someEnum}
 use Rattle.counting.proofs.Holding.{Holds, holds, refuses, holds-next, holds-step, holds-as}
 use Rattle.counting.proofs.Going.{built-none, went-built}
 use Rattle.counting.proofs.Stepping.{steps-plain}
-use Rattle.counting.proofs.Passing.{Pass, checks, binds, modeOf, Small, After, Before, after-none, after-more, after-head, after-plain}
+use Rattle.counting.proofs.Passing.{Pass, checks, binds, modeOf, Small, After, after-none, after-more, after-head, after-plain}
 use Rattle.counting.proofs.Typed.{On, on-project, on-unvisited}
 use Rattle.counting.proofs.Testing.{holds-discriminant}
-use Rattle.counting.proofs.Arguments.{Each, on-after, before-rest}
+use Rattle.counting.proofs.Arguments.{Each, on-after}
 use Rattle.counting.proofs.Rows.{AfterArguments, holds-row, holds-fields}
 
 -- the fields of a variant with n add what their patterns add
 pub record Fielded (image : List ℕ) (shape : AdtPatternShape) (fs : ℕ → List (Argument (PlaceTy → Bool))) (rs : ℕ → List (Argument Reaching)) : Type 0 where
   pub goes : (p n : ℕ) (pass : Pass) (c : Ctx) (current : BasicBlockId) (els : OptBlock) (place : Place) (ty : PlaceTy) (k : ℕ) → On image c place ty →
-      Before pass (someEnum (throughArguments image ty k (rs n))) →
       Holds (AfterArguments image pass c els ty k (fs n) (rs n)) (variantFields shape p n (modeOf pass) c current els place)
 
 -- arguments in a row
 pub fielded-row : {image : List ℕ} {ls : List Lowering} {fs : List (PlaceTy → Bool)} {rs : List Reaching} (ellipsis : Option ℕ) → Each image ls fs rs →
     Fielded image (AdtPatternShape.Tuple ls ellipsis) (λ n. inARow ellipsis n fs) (λ n. inARow ellipsis n rs)
 unfolding variantFields
-fielded-row {image = image} ellipsis e = record { goes = λ p n pass c current els place ty k o b. holds-row image p n pass c current els place ty k ellipsis e o b }
+fielded-row {image = image} ellipsis e = record { goes = λ p n pass c current els place ty k o. holds-row image p n pass c current els place ty k ellipsis e o }
 
 -- arguments by fields
 pub fielded-record : {image : List ℕ} {ls : List Lowering} {fs : List (PlaceTy → Bool)} {rs : List Reaching} (fields : List (Option ℕ)) → Each image ls fs rs →
     Fielded image (AdtPatternShape.Record fields ls) (λ n. byFields fields fs) (λ n. byFields fields rs)
 unfolding variantFields
-fielded-record fields e = record { goes = λ p n pass c current els place ty k o b. holds-fields p n pass c current els place ty k fields e o b }
+fielded-record fields e = record { goes = λ p n pass c current els place ty k o. holds-fields p n pass c current els place ty k fields e o }
 
 -- no arguments
 pub fielded-unit : (image : List ℕ) → Fielded image AdtPatternShape.Unit (λ n. []) (λ n. [])
 unfolding variantFields throughArguments someArgument
-fielded-unit image = record { goes = λ p n pass c current els place ty k o b. holds (After pass c els false k false []) _ (after-none pass c current els k) }
+fielded-unit image = record { goes = λ p n pass c current els place ty k o. holds (After pass c els false k false []) _ (after-none pass c current els k) }
 
 -- behind a Downcast
 pub through-downcast : (image : List ℕ) (ty : PlaceTy) (k v : ℕ) (args : List (Argument Reaching)) →
@@ -84,11 +82,11 @@ module _ {image : List ℕ} {shape : AdtPatternShape} {fs : ℕ → List (Argume
   Names enum r = After pass c els (enum || someArgument image ty (downcast enum v (fs count))) k f (reachedBy enum) r
 
   -- on a struct nothing is tested
-  named-struct : Before pass (someEnum (reachedBy false)) → Holds (Names false) (variantFields shape (h .number) count (modeOf pass) (visited c (h .number)) current els place)
+  named-struct : Holds (Names false) (variantFields shape (h .number) count (modeOf pass) (visited c (h .number)) current els place)
   unfolding downcast
-  named-struct b =
+  named-struct =
       let visit = after-plain pass h k f c current els in
-      holds-as (λ r a. after-more visit a) (fielded .goes (h .number) count pass (visited c (h .number)) current els place ty k on (before-rest (throughArguments image ty k (rs count)) visit b))
+      holds-as (λ r a. after-more visit a) (fielded .goes (h .number) count pass (visited c (h .number)) current els place ty k on)
 
   -- the test of an enum
   enum-tested : Holds (After pass c els true k f (naming h k f true ∷ []))
@@ -101,20 +99,18 @@ module _ {image : List ℕ} {shape : AdtPatternShape} {fs : ℕ → List (Argume
       by : (pass : Pass) → Holds (After pass c els true k f (naming h k f true ∷ []))
           (inCheck (modeOf pass) (discriminantTest image (h .number) v (visited c (h .number)) current els place) (out (visited c (h .number)) current els))
       by checks = holds-as (λ r s. after-head checks (naming h k f true) small s) (holds-discriminant image (h .number) v (visited c (h .number)) current els place)
-      by binds = holds (After binds c els true k f (naming h k f true ∷ [])) _ (after-head binds (naming h k f true) small (steps-plain current els refl (went-built (built-none _) refl)))
+      by binds = holds (After binds c els true k f (naming h k f true ∷ [])) _ (after-head binds (naming h k f true) small (steps-plain current els (went-built (built-none _) refl)))
 
   -- an enum: the test, and then the fields behind a Downcast
-  named-enum : Before pass (someEnum (reachedBy true)) → Holds (Names true) (variantOn AdtKind.Enum image (h .number) v shape (modeOf pass) (visited c (h .number)) current els place)
+  named-enum : Holds (Names true) (variantOn AdtKind.Enum image (h .number) v shape (modeOf pass) (visited c (h .number)) current els place)
   unfolding variantOn
-  named-enum b =
+  named-enum =
       let p = h .number in
       let ty′ = projectionTy ty image (ProjectionElem.Downcast v) in
-      let same = through-downcast image ty k v (rs count) in
       holds-next {Q = Names true} (inCheck (modeOf pass) (discriminantTest image p v (visited c p) current els place) (out (visited c p) current els)) behind enum-tested (λ r a.
       holds-step {Q = Names true} p (project place (ProjectionElem.Downcast v)) (fields r) (on-project (ProjectionElem.Downcast v) tt (kept r a)) (λ place′ o′.
       holds-as (λ r′ a′. join r r′ a a′)
-      (fielded .goes p count pass (r .ctx) (r .then) (r .else) place′ ty′ k o′
-      (subst (λ (l : List Reached). Before pass (someEnum l)) (sym same) (before-rest (throughArguments image ty k (downcast true v (rs count))) a b)))))
+      (fielded .goes p count pass (r .ctx) (r .then) (r .else) place′ ty′ k o′)))
     where
       fields : Out → Place → Walk Out
       fields r place′ = variantFields shape (h .number) count (modeOf pass) (r .ctx) (r .then) (r .else) place′
@@ -133,33 +129,30 @@ module _ {image : List ℕ} {shape : AdtPatternShape} {fs : ℕ → List (Argume
           (subst (λ (x : Bool). After pass (r .ctx) (r .else) x k false (throughArguments image (projectionTy ty image (ProjectionElem.Downcast v)) k (rs count)) r′) (some-downcast image ty v (fs count)) a′))
 
   -- an ADT by its kind
-  named-kind : (kind : AdtKind) (variants : List ℕ) → Before pass (someEnum (reachedBy (isEnum (some (adt kind variants))))) →
-      Holds (Names (isEnum (some (adt kind variants)))) (variantOn kind image (h .number) v shape (modeOf pass) (visited c (h .number)) current els place)
+  named-kind : (kind : AdtKind) (variants : List ℕ) → Holds (Names (isEnum (some (adt kind variants)))) (variantOn kind image (h .number) v shape (modeOf pass) (visited c (h .number)) current els place)
   unfolding variantOn isEnum
-  named-kind AdtKind.Struct variants b = named-struct b
-  named-kind AdtKind.Enum variants b = named-enum b
-  named-kind AdtKind.Union variants b = refuses (Names false) (MirLowerError.TypeError 6) (h .number)
-  named-kind AdtKind.Unknown variants b = refuses (Names false) (MirLowerError.TypeError 6) (h .number)
+  named-kind AdtKind.Struct variants = named-struct
+  named-kind AdtKind.Enum variants = named-enum
+  named-kind AdtKind.Union variants = refuses (Names false) (MirLowerError.TypeError 6) (h .number)
+  named-kind AdtKind.Unknown variants = refuses (Names false) (MirLowerError.TypeError 6) (h .number)
 
   -- one that has the variant
-  named-member : (kind : AdtKind) (variants : List ℕ) (has : Bool) → Before pass (someEnum (reachedBy (isEnum (some (adt kind variants))))) →
-      Holds (Names (isEnum (some (adt kind variants))))
+  named-member : (kind : AdtKind) (variants : List ℕ) (has : Bool) → Holds (Names (isEnum (some (adt kind variants))))
       (cond has (variantOn kind image (h .number) v shape (modeOf pass) (visited c (h .number)) current els place) (refused (MirLowerError.TypeError 5) (h .number)))
-  named-member kind variants true b = named-kind kind variants b
-  named-member kind variants false b = refuses (Names (isEnum (some (adt kind variants)))) (MirLowerError.TypeError 5) (h .number)
+  named-member kind variants true = named-kind kind variants
+  named-member kind variants false = refuses (Names (isEnum (some (adt kind variants)))) (MirLowerError.TypeError 5) (h .number)
 
   -- a pattern that names a variant, by what the type of its place is
-  pub holds-variant : (o : Option Shape) → Before pass (someEnum (reachedBy (isEnum o))) →
-      Holds (Names (isEnum o)) (needed (h .number) o (λ s. adtOn s image (h .number) v shape (modeOf pass) (visited c (h .number)) current els place))
+  pub holds-variant : (o : Option Shape) → Holds (Names (isEnum o)) (needed (h .number) o (λ s. adtOn s image (h .number) v shape (modeOf pass) (visited c (h .number)) current els place))
   unfolding adtOn
-  holds-variant none b = refuses (Names (isEnum none)) MirLowerError.PlaceType (h .number)
-  holds-variant (some (integer size signed)) b = refuses (Names (isEnum (some (integer size signed)))) (MirLowerError.TypeError 4) (h .number)
-  holds-variant (some bool) b = refuses (Names (isEnum (some bool))) (MirLowerError.TypeError 4) (h .number)
-  holds-variant (some char) b = refuses (Names (isEnum (some char))) (MirLowerError.TypeError 4) (h .number)
-  holds-variant (some str) b = refuses (Names (isEnum (some str))) (MirLowerError.TypeError 4) (h .number)
-  holds-variant (some (tuple fields)) b = refuses (Names (isEnum (some (tuple fields)))) (MirLowerError.TypeError 4) (h .number)
-  holds-variant (some (adt kind variants)) b = named-member kind variants (member v variants) b
-  holds-variant (some (reference t)) b = refuses (Names (isEnum (some (reference t)))) (MirLowerError.TypeError 4) (h .number)
-  holds-variant (some (array t n)) b = refuses (Names (isEnum (some (array t n)))) (MirLowerError.TypeError 4) (h .number)
-  holds-variant (some (slice t)) b = refuses (Names (isEnum (some (slice t)))) (MirLowerError.TypeError 4) (h .number)
-  holds-variant (some unknown) b = refuses (Names (isEnum (some unknown))) (MirLowerError.TypeError 4) (h .number)
+  holds-variant none = refuses (Names (isEnum none)) MirLowerError.PlaceType (h .number)
+  holds-variant (some (integer size signed)) = refuses (Names (isEnum (some (integer size signed)))) (MirLowerError.TypeError 4) (h .number)
+  holds-variant (some bool) = refuses (Names (isEnum (some bool))) (MirLowerError.TypeError 4) (h .number)
+  holds-variant (some char) = refuses (Names (isEnum (some char))) (MirLowerError.TypeError 4) (h .number)
+  holds-variant (some str) = refuses (Names (isEnum (some str))) (MirLowerError.TypeError 4) (h .number)
+  holds-variant (some (tuple fields)) = refuses (Names (isEnum (some (tuple fields)))) (MirLowerError.TypeError 4) (h .number)
+  holds-variant (some (adt kind variants)) = named-member kind variants (member v variants)
+  holds-variant (some (reference t)) = refuses (Names (isEnum (some (reference t)))) (MirLowerError.TypeError 4) (h .number)
+  holds-variant (some (array t n)) = refuses (Names (isEnum (some (array t n)))) (MirLowerError.TypeError 4) (h .number)
+  holds-variant (some (slice t)) = refuses (Names (isEnum (some (slice t)))) (MirLowerError.TypeError 4) (h .number)
+  holds-variant (some unknown) = refuses (Names (isEnum (some unknown))) (MirLowerError.TypeError 4) (h .number)

@@ -1,6 +1,6 @@
 -- The two passes over a pattern, and what each adds for a list of reached patterns. Assumes nothing.
-use mathlib.Core.Path.{_≡_, refl, sym, ap, subst, _∙_}
-use mathlib.Core.Bool.{Bool, true, false, cond, _||_, true≢false, false≢true, or-assoc, or-false}
+use mathlib.Core.Path.{_≡_, refl, ap, subst, _∙_}
+use mathlib.Core.Bool.{Bool, false, cond, _||_, or-false}
 use mathlib.Core.List.{List, [], _∷_, _++_, append-nil}
 use Prim.Native.Nat.{ℕ, _+_, _*_, _≤_}
 use native.Mathlib.Nat.{mul-add, mul-zero, add-zero}
@@ -12,9 +12,9 @@ use Rattle.lower.specs.declared.merging.OptBlock.{OptBlock}
 use Rattle.pattern_matching.specs.declared.MatchingMode.{MatchingMode}
 use Rattle.pattern_matching.specs.Walking.{Ctx, Out, visited}
 use Rattle.counting.specs.Reaching.{Reached, testing, binding}
-use Rattle.counting.specs.Counting.{one, total, someEnum}
+use Rattle.counting.specs.Counting.{one, total}
 use Rattle.counting.proofs.Going.{What, block, statement, visit, nothing, made, Built, built-none, went-built, seen, went-visited}
-use Rattle.counting.proofs.Stepping.{has, Steps, steps-on, steps-as, steps-plain}
+use Rattle.counting.proofs.Stepping.{Steps, steps-on, steps-as, steps-plain}
 
 -- the pass in Check, and that in Bind
 pub data Pass : Type 0 where
@@ -76,41 +76,14 @@ AllSmall (r ∷ rs) = Small r × AllSmall rs
 
 -- a pass has gone from c to r over patterns under k Ors; f says whether the first of them is an alternative that can fail
 pub record After (pass : Pass) (c : Ctx) (els : OptBlock) (fails : Bool) (k : ℕ) (f : Bool) (rs : List Reached) (r : Out) : Type 0 where
-  pub steps : Steps c els r (inChecks pass fails) (inChecks pass (someEnum rs)) (minusOf pass k f rs) (plusOf pass rs)
+  pub steps : Steps c els r (inChecks pass fails) (minusOf pass k f rs) (plusOf pass rs)
   pub small : AllSmall rs
-
--- in Bind a discriminant local that is needed is there
-abbrev pub Before : Pass → Bool → DiscrTemp → Type 0
-Before checks enum d = Unit {0}
-Before binds enum d = (has d || enum) ≡ has d
-
--- so it is for the first of two lists
-pub before-first : (pass : Pass) (a b : Bool) → Before pass (a || b) d → Before pass a d
-before-first checks a b d h = tt
-before-first binds a b (DiscrTemp.Some l) h = refl
-before-first binds true b DiscrTemp.None h = absurd (true≢false h)
-before-first binds false b DiscrTemp.None h = refl
-
--- and for the second, after the first
-pub before-second : (pass : Pass) (a b : Bool) (d d₁ : DiscrTemp) → has d₁ ≡ (has d || inChecks pass a) → Before pass (a || b) d → Before pass b d₁
-before-second checks a b d d₁ e h = tt
-before-second binds a b (DiscrTemp.Some l) (DiscrTemp.Some m) e h = refl
-before-second binds a b (DiscrTemp.Some l) DiscrTemp.None e h = absurd (false≢true e)
-before-second binds a b DiscrTemp.None (DiscrTemp.Some m) e h = refl
-before-second binds true b DiscrTemp.None DiscrTemp.None e h = absurd (true≢false h)
-before-second binds false b DiscrTemp.None DiscrTemp.None e h = h
 
 -- the sum over two lists
 pub total-append : (g : Reached → ℕ) (xs ys : List Reached) → total g (xs ++ ys) ≡ total g xs + total g ys
 unfolding total
 total-append g [] ys = omega arith
 total-append g (x ∷ xs) ys = let e = total-append g xs ys in omega (arith, e)
-
--- an enum is tested in one of two lists
-pub some-append : (xs ys : List Reached) → someEnum (xs ++ ys) ≡ (someEnum xs || someEnum ys)
-unfolding someEnum
-some-append [] ys = refl
-some-append (x ∷ xs) ys = ap (λ (b : Bool). x .testsEnum || b) (some-append xs ys) ∙ sym (or-assoc (x .testsEnum) (someEnum xs) (someEnum ys))
 
 -- both lists keep to the bounds
 small-append : (xs ys : List Reached) → AllSmall xs → AllSmall ys → AllSmall (xs ++ ys)
@@ -130,19 +103,19 @@ none-made statement = refl
 none-made (visit n) = refl
 
 -- nothing is reached, and nothing is counted
-pub after-same : (pass : Pass) {c c′ : Ctx} (current : BasicBlockId) (els : OptBlock) (k : ℕ) → Built (c .state) (c′ .state) 0 0 → c′ .visits ≡ c .visits → c′ .discr ≡ c .discr →
+pub after-same : (pass : Pass) {c c′ : Ctx} (current : BasicBlockId) (els : OptBlock) (k : ℕ) → Built (c .state) (c′ .state) 0 0 → c′ .visits ≡ c .visits →
     After pass c els false k false [] (record { ctx = c′; then = current; else = els })
-unfolding total someEnum
-after-same pass {c = c} {c′ = c′} current els k g v d =
+unfolding total
+after-same pass {c = c} {c′ = c′} current els k g v =
     record { steps = by pass; small = tt }
   where
-    by : (pass : Pass) → Steps c els (record { ctx = c′; then = current; else = els }) (inChecks pass false) (inChecks pass false) (minusOf pass k false []) (plusOf pass [])
-    by checks = steps-as (λ w. let e = none-made w in let n = no-flag w in omega (arith, e, n)) (steps-plain current els d (went-built g v))
-    by binds = steps-as (λ w. let e = none-made w in let n = mul-zero k in omega (arith, e, n)) (steps-plain current els d (went-built g v))
+    by : (pass : Pass) → Steps c els (record { ctx = c′; then = current; else = els }) (inChecks pass false) (minusOf pass k false []) (plusOf pass [])
+    by checks = steps-as (λ w. let e = none-made w in let n = no-flag w in omega (arith, e, n)) (steps-plain current els (went-built g v))
+    by binds = steps-as (λ w. let e = none-made w in let n = mul-zero k in omega (arith, e, n)) (steps-plain current els (went-built g v))
 
 -- nothing is done
 pub after-none : (pass : Pass) (c : Ctx) (current : BasicBlockId) (els : OptBlock) (k : ℕ) → After pass c els false k false [] (record { ctx = c; then = current; else = els })
-after-none pass c current els k = after-same pass current els k (built-none (c .state)) refl refl
+after-none pass c current els k = after-same pass current els k (built-none (c .state)) refl
 
 -- one list, and then another
 pub after-more : {pass : Pass} {c : Ctx} {els : OptBlock} {fails fails′ : Bool} {k : ℕ} {f : Bool} {rs rs′ : List Reached} {r r′ : Out} →
@@ -150,12 +123,11 @@ pub after-more : {pass : Pass} {c : Ctx} {els : OptBlock} {fails fails′ : Bool
 after-more {pass = pass} {c = c} {els = els} {fails = fails} {fails′ = fails′} {k = k} {f = f} {rs = rs} {rs′ = rs′} {r = r} {r′ = r′} g h =
     record { steps = by pass (g .steps) (h .steps); small = small-append rs rs′ (g .small) (h .small) }
   where
-    by : (pass : Pass) → Steps c els r (inChecks pass fails) (inChecks pass (someEnum rs)) (minusOf pass k f rs) (plusOf pass rs) →
-        Steps (r .ctx) (r .else) r′ (inChecks pass fails′) (inChecks pass (someEnum rs′)) (minusOf pass k false rs′) (plusOf pass rs′) →
-        Steps c els r′ (inChecks pass (fails || fails′)) (inChecks pass (someEnum (rs ++ rs′))) (minusOf pass k f (rs ++ rs′)) (plusOf pass (rs ++ rs′))
+    by : (pass : Pass) → Steps c els r (inChecks pass fails) (minusOf pass k f rs) (plusOf pass rs) →
+        Steps (r .ctx) (r .else) r′ (inChecks pass fails′) (minusOf pass k false rs′) (plusOf pass rs′) →
+        Steps c els r′ (inChecks pass (fails || fails′)) (minusOf pass k f (rs ++ rs′)) (plusOf pass (rs ++ rs′))
     by checks a b =
-        rw (some-append rs rs′)
-        (steps-as (λ w. let e = total-append (tested w) rs rs′ in let n = no-flag w in omega (arith, e, n)) (steps-on a b))
+        steps-as (λ w. let e = total-append (tested w) rs rs′ in let n = no-flag w in omega (arith, e, n)) (steps-on a b)
     by binds a b =
         steps-as
         (λ w.
@@ -182,9 +154,9 @@ ownStatements binds x = x .bindStatements
 
 -- a pattern's own visit
 pub after-head : (pass : Pass) (x : Reached) {c : Ctx} {els : OptBlock} {fails : Bool} {r : Out} → Small x →
-    Steps (visited c (x .number)) els r (inChecks pass fails) (inChecks pass (x .testsEnum)) nothing (made (ownBlocks pass x) (ownStatements pass x)) →
+    Steps (visited c (x .number)) els r (inChecks pass fails) nothing (made (ownBlocks pass x) (ownStatements pass x)) →
     After pass c els fails (x .ors) (x .failingAlternative) (x ∷ []) r
-unfolding total someEnum visited
+unfolding total visited
 after-head pass x {c = c} {els = els} {fails = fails} {r = r} small steps =
     record { steps = by pass steps; small = (small, tt) }
   where
@@ -201,10 +173,10 @@ after-head pass x {c = c} {els = els} {fails = fails} {r = r} small steps =
     again : (w : What) → 0 + 0 + (bound w x + 0) ≡ x .ors * (tested w x + 0) + (seen (x .number) w + made (ownBlocks binds x) (ownStatements binds x) w)
     again w = let e : x .ors * (tested w x + 0) ≡ x .ors * tested w x = ap (λ (n : ℕ). x .ors * n) (add-zero (tested w x)) in let i = its w in omega (arith, e, i)
 
-    by : (pass : Pass) → Steps (visited c (x .number)) els r (inChecks pass fails) (inChecks pass (x .testsEnum)) nothing (made (ownBlocks pass x) (ownStatements pass x)) →
-        Steps c els r (inChecks pass fails) (inChecks pass (someEnum (x ∷ []))) (minusOf pass (x .ors) (x .failingAlternative) (x ∷ [])) (plusOf pass (x ∷ []))
-    by checks s = rw (or-false (x .testsEnum)) (steps-as once (steps-on (steps-plain (r .then) els refl (went-visited c (x .number))) s))
-    by binds s = steps-as again (steps-on (steps-plain (r .then) els refl (went-visited c (x .number))) s)
+    by : (pass : Pass) → Steps (visited c (x .number)) els r (inChecks pass fails) nothing (made (ownBlocks pass x) (ownStatements pass x)) →
+        Steps c els r (inChecks pass fails) (minusOf pass (x .ors) (x .failingAlternative) (x ∷ [])) (plusOf pass (x ∷ []))
+    by checks s = steps-as once (steps-on (steps-plain (r .then) els (went-visited c (x .number))) s)
+    by binds s = steps-as again (steps-on (steps-plain (r .then) els (went-visited c (x .number))) s)
 
 -- what a pass in Bind makes late
 abbrev pub lateIn : Pass → ℕ → ℕ
@@ -213,9 +185,9 @@ lateIn binds n = n
 
 -- a pattern that binds, and only after others are walked
 pub after-late : {pass : Pass} {c : Ctx} {els : OptBlock} {fails : Bool} {k : ℕ} {f : Bool} {rs : List Reached} {r r′ : Out} (h : Head) (t s n : ℕ) → n ≤ 2 →
-    After pass c els fails k f (binding h k f t s 0 ∷ rs) r → Steps (r .ctx) (r .else) r′ false false nothing (made 0 (lateIn pass n)) →
+    After pass c els fails k f (binding h k f t s 0 ∷ rs) r → Steps (r .ctx) (r .else) r′ false nothing (made 0 (lateIn pass n)) →
     After pass c els fails k f (binding h k f t s n ∷ rs) r′
-unfolding total someEnum
+unfolding total
 after-late {pass = pass} {c = c} {els = els} {fails = fails} {k = k} {f = f} {rs = rs} {r = r} {r′ = r′} h t s n l g o =
     record {
       steps = by pass (g .steps) o;
@@ -245,12 +217,11 @@ after-late {pass = pass} {c = c} {els = els} {fails = fails} {k = k} {f = f} {rs
         k * (tested w x + total (tested w) rs) + (k * tested w x₀ + own w x₀ + total (bound w) rs + made 0 n w)
     again w = rw (same w) (let a = its w in omega (arith, a))
 
-    by : (pass : Pass) → Steps c els r (inChecks pass fails) (inChecks pass (someEnum (x₀ ∷ rs))) (minusOf pass k f (x₀ ∷ rs)) (plusOf pass (x₀ ∷ rs)) →
-        Steps (r .ctx) (r .else) r′ false false nothing (made 0 (lateIn pass n)) →
-        Steps c els r′ (inChecks pass fails) (inChecks pass (someEnum (x ∷ rs))) (minusOf pass k f (x ∷ rs)) (plusOf pass (x ∷ rs))
+    by : (pass : Pass) → Steps c els r (inChecks pass fails) (minusOf pass k f (x₀ ∷ rs)) (plusOf pass (x₀ ∷ rs)) →
+        Steps (r .ctx) (r .else) r′ false nothing (made 0 (lateIn pass n)) →
+        Steps c els r′ (inChecks pass fails) (minusOf pass k f (x ∷ rs)) (plusOf pass (x ∷ rs))
     by checks a b =
-        subst (λ (e : Bool). Steps c els r′ fails e (minusOf checks k f (x ∷ rs)) (plusOf checks (x ∷ rs))) (or-false (someEnum rs))
-        (subst (λ (e : Bool). Steps c els r′ e (someEnum rs || false) (minusOf checks k f (x ∷ rs)) (plusOf checks (x ∷ rs))) (or-false fails) (steps-as once (steps-on a b)))
+        subst (λ (e : Bool). Steps c els r′ e (minusOf checks k f (x ∷ rs)) (plusOf checks (x ∷ rs))) (or-false fails) (steps-as once (steps-on a b))
     by binds a b = steps-as again (steps-on a b)
 
 -- a visit that tests nothing and binds nothing
@@ -261,7 +232,7 @@ after-plain pass h k f c current els = after-head pass (testing h k f 0 0) small
     small : Small (testing h k f 0 0)
     small = record { tests = omega arith; testStatements = omega arith; bindStatements = omega arith }
 
-    by : (pass : Pass) → Steps (visited c (h .number)) els (record { ctx = visited c (h .number); then = current; else = els }) (inChecks pass false) (inChecks pass false) nothing
+    by : (pass : Pass) → Steps (visited c (h .number)) els (record { ctx = visited c (h .number); then = current; else = els }) (inChecks pass false) nothing
         (made (ownBlocks pass (testing h k f 0 0)) (ownStatements pass (testing h k f 0 0)))
-    by checks = steps-plain current els refl (went-built (built-none _) refl)
-    by binds = steps-plain current els refl (went-built (built-none _) refl)
+    by checks = steps-plain current els (went-built (built-none _) refl)
+    by binds = steps-plain current els (went-built (built-none _) refl)

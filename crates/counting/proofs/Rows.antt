@@ -20,11 +20,10 @@ use Rattle.lower.specs.declared.merging.OptBlock.{OptBlock}
 use Rattle.pattern_matching.specs.Walking.{Ctx, Out, Walk, refused, Lowering, next}
 use Rattle.pattern_matching.specs.Variants.{patternMatchAdt, fieldsUpTo, patternMatchTupleLike, ellipsisAt, resolved, recordFields}
 use Rattle.counting.specs.Reaching.{Argument, zip, inARow, byFields, someArgument, Reaching, Reached, throughArguments}
-use Rattle.counting.specs.Counting.{someEnum}
 use Rattle.counting.proofs.Holding.{Holds, refuses, holds-next, holds-as}
 use Rattle.counting.proofs.Typed.{On}
-use Rattle.counting.proofs.Passing.{Pass, modeOf, After, Before, after-more}
-use Rattle.counting.proofs.Arguments.{Each, none-left, each-take, each-drop, each-reverse, AllFit, fit-reverse, fit-all, on-after, before-rest, before-start, holds-arguments}
+use Rattle.counting.proofs.Passing.{Pass, modeOf, After, after-more}
+use Rattle.counting.proofs.Arguments.{Each, none-left, each-take, each-drop, each-reverse, AllFit, fit-reverse, fit-all, on-after, holds-arguments}
 
 -- the arguments of one list behind those of another
 pub through-append : (image : List ℕ) (ty : PlaceTy) (k : ℕ) (xs ys : List (Argument Reaching)) → throughArguments image ty k (xs ++ ys) ≡ throughArguments image ty k xs ++ throughArguments image ty k ys
@@ -77,32 +76,28 @@ module _ (image : List ℕ) (p n : ℕ) (pass : Pass) (c : Ctx) (current : Basic
 
   -- both add what their patterns add
   holds-two : {xs ys : List Lowering} {fs gs : List (PlaceTy → Bool)} {rs qs : List Reaching} (b : Bool) → Each image xs fs rs → Each image ys gs qs → On image c place ty →
-      Before pass (someEnum (throughArguments image ty k (zip (fieldsUpTo n) rs ++ zip (reverse (fieldsUpTo n)) (reverse qs)))) →
       Holds (AfterArguments image pass c els ty k (zip (fieldsUpTo n) fs ++ zip (reverse (fieldsUpTo n)) (reverse gs)) (zip (fieldsUpTo n) rs ++ zip (reverse (fieldsUpTo n)) (reverse qs))) (two b xs ys)
-  holds-two {fs = fs} {gs = gs} {rs = rs} {qs = qs} false e e′ o before = refuses (AfterArguments image pass c els ty k (zip (fieldsUpTo n) fs ++ zip (reverse (fieldsUpTo n)) (reverse gs)) (zip (fieldsUpTo n) rs ++ zip (reverse (fieldsUpTo n)) (reverse qs))) MirLowerError.Ellipsis p
-  holds-two {xs = xs} {ys = ys} {fs = fs} {gs = gs} {rs = rs} {qs = qs} true e e′ o before =
+  holds-two {fs = fs} {gs = gs} {rs = rs} {qs = qs} false e e′ o = refuses (AfterArguments image pass c els ty k (zip (fieldsUpTo n) fs ++ zip (reverse (fieldsUpTo n)) (reverse gs)) (zip (fieldsUpTo n) rs ++ zip (reverse (fieldsUpTo n)) (reverse qs))) MirLowerError.Ellipsis p
+  holds-two {xs = xs} {ys = ys} {fs = fs} {gs = gs} {rs = rs} {qs = qs} true e e′ o =
       let first = zip (fieldsUpTo n) rs in
       let last = zip (reverse (fieldsUpTo n)) (reverse qs) in
-      let b = subst (λ (l : List Reached). Before pass (someEnum l)) (through-append image ty k first last) before in
       holds-next (patternMatchAdt p (fieldsUpTo n) xs (modeOf pass) c current els place) (λ r. patternMatchAdt p (reverse (fieldsUpTo n)) (reverse ys) (modeOf pass) (r .ctx) (r .then) (r .else) place)
-      (holds-arguments p (fieldsUpTo n) e fits pass c current els place ty k o (before-start pass c (throughArguments image ty k first) (throughArguments image ty k last) b)) (λ r a.
+      (holds-arguments p (fieldsUpTo n) e fits pass c current els place ty k o) (λ r a.
       holds-as (λ r′ a′. after-both image ty (zip (fieldsUpTo n) fs) (zip (reverse (fieldsUpTo n)) (reverse gs)) first last a a′)
-      (holds-arguments p (reverse (fieldsUpTo n)) (each-reverse e′) (fit-reverse (fieldsUpTo n) fits) pass (r .ctx) (r .then) (r .else) place ty k (on-after a o)
-      (before-rest (throughArguments image ty k last) a b)))
+      (holds-arguments p (reverse (fieldsUpTo n)) (each-reverse e′) (fit-reverse (fieldsUpTo n) fits) pass (r .ctx) (r .then) (r .else) place ty k (on-after a o)))
 
   -- arguments in a row on n fields
   pub holds-row : {ls : List Lowering} {fs : List (PlaceTy → Bool)} {rs : List Reaching} (ellipsis : Option ℕ) → Each image ls fs rs → On image c place ty →
-      Before pass (someEnum (throughArguments image ty k (inARow ellipsis n rs))) →
       Holds (AfterArguments image pass c els ty k (inARow ellipsis n fs) (inARow ellipsis n rs)) (patternMatchTupleLike p ls (ellipsisAt ellipsis ls) n (modeOf pass) c current els place)
   unfolding inARow patternMatchTupleLike ellipsisAt
-  holds-row {ls = ls} {fs = fs} {rs = rs} (some at) e o before = holds-two (leb at (length ls)) (each-take at e) (each-drop at e) o before
-  holds-row {ls = ls} {fs = fs} {rs = rs} none e o before =
+  holds-row {ls = ls} {fs = fs} {rs = rs} (some at) e o = holds-two (leb at (length ls)) (each-take at e) (each-drop at e) o
+  holds-row {ls = ls} {fs = fs} {rs = rs} none e o =
       let F = fieldsUpTo n in
       let same = row-whole F (reverse F) rs in
       subst (λ (l : List (Argument (PlaceTy → Bool))). Holds (AfterArguments image pass c els ty k l (zip F rs)) (two (leb (length ls) (length ls)) (take (length ls) ls) (drop (length ls) ls))) (row-whole F (reverse F) fs)
       (subst (λ (l : List (Argument Reaching)). Holds (AfterArguments image pass c els ty k (zip F fs ++ zip (reverse F) []) l) (two (leb (length ls) (length ls)) (take (length ls) ls) (drop (length ls) ls))) same
       (subst (λ (w : Walk Out). Holds (AfterArguments image pass c els ty k (zip F fs ++ zip (reverse F) []) (zip F rs ++ zip (reverse F) [])) w) (sym whole)
-      (holds-two true e none-left o (subst (λ (l : List (Argument Reaching)). Before pass (someEnum (throughArguments image ty k l))) (sym same) before))))
+      (holds-two true e none-left o)))
     where
       whole : two (leb (length ls) (length ls)) (take (length ls) ls) (drop (length ls) ls) ≡ two true ls []
       whole =
@@ -134,10 +129,9 @@ resolves A count (some i ∷ fields) = by (ltb i count) refl (resolved count fie
 -- arguments by fields
 pub holds-fields : {image : List ℕ} {ls : List Lowering} {fs : List (PlaceTy → Bool)} {rs : List Reaching} (p n : ℕ) (pass : Pass) (c : Ctx) (current : BasicBlockId) (els : OptBlock) (place : Place)
     (ty : PlaceTy) (k : ℕ) (fields : List (Option ℕ)) → Each image ls fs rs → On image c place ty →
-    Before pass (someEnum (throughArguments image ty k (byFields fields rs))) →
     Holds (AfterArguments image pass c els ty k (byFields fields fs) (byFields fields rs)) (recordFields (resolved n fields) p ls (modeOf pass) c current els place)
 unfolding recordFields
-holds-fields {image = image} {ls = ls} {fs = fs} {rs = rs} p n pass c current els place ty k fields e o before =
+holds-fields {image = image} {ls = ls} {fs = fs} {rs = rs} p n pass c current els place ty k fields e o =
     by (resolved n fields) (resolves (PlaceTy → Bool) n fields) (resolves Reaching n fields)
   where
     by : (r : Option (List ProjectionElem)) → Resolves (PlaceTy → Bool) fields r → Resolves Reaching fields r →
@@ -146,4 +140,4 @@ holds-fields {image = image} {ls = ls} {fs = fs} {rs = rs} p n pass c current el
     by (some elems) h h′ =
         subst (λ (l : List (Argument (PlaceTy → Bool))). Holds (AfterArguments image pass c els ty k l (byFields fields rs)) (patternMatchAdt p elems ls (modeOf pass) c current els place)) (sym (h .1 fs))
         (subst (λ (l : List (Argument Reaching)). Holds (AfterArguments image pass c els ty k (zip elems fs) l) (patternMatchAdt p elems ls (modeOf pass) c current els place)) (sym (h′ .1 rs))
-        (holds-arguments p elems e (h .0) pass c current els place ty k o (subst (λ (l : List (Argument Reaching)). Before pass (someEnum (throughArguments image ty k l))) (h′ .1 rs) before)))
+        (holds-arguments p elems e (h .0) pass c current els place ty k o))

@@ -14,9 +14,8 @@ use Rattle.pattern_matching.specs.Walking.{Ctx, Lowering, visited}
 use Rattle.pattern_matching.specs.Slices.{RestOf, sliceOn}
 use Rattle.pattern_matching.specs.Patterns.{bindPattern, orPattern, restOf, patternMatchInner, lowerings, lowering?}
 use Rattle.counting.specs.Reaching.{isSliceShape, items, someArgument, allAlternatives, canFail, failing, canFail?, Reaching, binding, anOr, lengthStatements, restBinds, throughArguments, throughAlternatives, reached, reachings, reaching?}
-use Rattle.counting.specs.Counting.{someEnum}
 use Rattle.counting.proofs.Holding.{Holds, holds}
-use Rattle.counting.proofs.Passing.{Pass, modeOf, After, Before, after-none}
+use Rattle.counting.proofs.Passing.{Pass, modeOf, After, after-none}
 use Rattle.counting.proofs.Typed.{On}
 use Rattle.counting.proofs.Arguments.{Counts, Each, none-left, one-more}
 use Rattle.counting.proofs.Naming.{fielded-row, fielded-record}
@@ -28,31 +27,29 @@ use Rattle.counting.proofs.Leaves.{inside-range, inside-lit, inside-var
 -- a subpattern that may be absent
 record Below (image : List ℕ) (l : Lowering) (fails : PlaceTy → Bool) (reach : Reaching) : Type 0 where
   pub goes : (pass : Pass) (c : Ctx) (current : BasicBlockId) (els : OptBlock) (place : Place) (ty : PlaceTy) (k : ℕ) → On image c place ty →
-      Before pass (someEnum (reach ty k false)) → Holds (After pass c els (fails ty) k false (reach ty k false)) (l (modeOf pass) c current els place)
+      Holds (After pass c els (fails ty) k false (reach ty k false)) (l (modeOf pass) c current els place)
 
 -- a Bind
 inside-bind : {image : List ℕ} {l : Lowering} {fails : PlaceTy → Bool} {reach : Reaching} (bindings : List ℕ) (h : Head) (b : ℕ) (how : BindingMode) → Below image l fails reach →
     Inside image h (bindPattern bindings (h .number) b how l) fails (λ ty k f. binding h k f 0 0 2 ∷ reach ty k false)
-unfolding someEnum visited
+unfolding visited
 inside-bind {l = l} {fails = fails} {reach = reach} bindings h b how below =
     record {
-      goes = λ pass c current els place ty k f o e.
-          holds-bind bindings h b how l pass c current els place (fails ty) k f (reach ty k false) (below .goes pass (visited c (h .number)) current els place ty k o e);
+      goes = λ pass c current els place ty k f o.
+          holds-bind bindings h b how l pass c current els place (fails ty) k f (reach ty k false) (below .goes pass (visited c (h .number)) current els place ty k o);
     }
 
 -- a Slice
 inside-slice : {image : List ℕ} {ls ls′ : List Lowering} {fs fs′ : List (PlaceTy → Bool)} {rs rs′ : List Reaching} (bindings : List ℕ) (h : Head) (rest : RestOf) → Each image ls fs rs → Each image ls′ fs′ rs′ →
     Inside image h (sliceOn (tyOf image (h .ty) .shape) image bindings (h .number) ls rest ls′) (λ ty. isSliceShape (tyOf image (h .ty) .shape) || someArgument image ty (items fs fs′))
     (λ ty k f. binding h k f (cond (isSliceShape (tyOf image (h .ty) .shape)) 1 0) (cond (isSliceShape (tyOf image (h .ty) .shape)) (lengthStatements rest) 0) (restBinds rest) ∷ throughArguments image ty k (items rs rs′))
-unfolding someEnum
 inside-slice {image = image} bindings h rest front back =
-    record { goes = λ pass c current els place ty k f o e. holds-slice front back bindings h rest pass c els place ty k f (tyOf image (h .ty) .shape) current o e }
+    record { goes = λ pass c current els place ty k f o. holds-slice front back bindings h rest pass c els place ty k f (tyOf image (h .ty) .shape) current o }
 
 -- an Or
 inside-or : {image : List ℕ} {ls : List Lowering} {fs : List (PlaceTy → Bool)} {rs : List Reaching} (h : Head) → Each image ls fs rs →
     Inside image h (orPattern (h .number) ls) (λ ty. allAlternatives ty fs) (λ ty k f. anOr h k f ∷ throughAlternatives ty k fs rs)
-unfolding someEnum
-inside-or h each = record { goes = λ pass c current els place ty k f o e. holds-or each h pass c current els place ty k f o e }
+inside-or h each = record { goes = λ pass c current els place ty k f o. holds-or each h pass c current els place ty k f o }
 
 module _ (image bindings : List ℕ) where
   mutual
@@ -85,5 +82,5 @@ module _ (image bindings : List ℕ) where
 
     -- a subpattern that may be absent
     below : (s : PatOpt) → Below image (lowering? image bindings s) (canFail? image s) (reaching? image s)
-    below no = record { goes = λ pass c current els place ty k o e. holds (After pass c els false k false []) _ (after-none pass c current els k) }
-    below (sub s) = record { goes = λ pass c current els place ty k o e. counts s .goes pass c current els place ty k false o e }
+    below no = record { goes = λ pass c current els place ty k o. holds (After pass c els false k false []) _ (after-none pass c current els k) }
+    below (sub s) = record { goes = λ pass c current els place ty k o. counts s .goes pass c current els place ty k false o }

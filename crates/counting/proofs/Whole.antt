@@ -1,6 +1,6 @@
 -- Demand 3 on counts. Assumes nothing.
-use mathlib.Core.Path.{_≡_, refl, sym, subst}
-use mathlib.Core.Bool.{Bool, true, false, _||_, or-false}
+use mathlib.Core.Path.{_≡_, refl, subst}
+use mathlib.Core.Bool.{Bool, false, or-false}
 use mathlib.Core.List.{List}
 use Prim.Native.Nat.{ℕ, _+_, _<_}
 use native.Mathlib.Nat.{zero-mul}
@@ -16,11 +16,11 @@ use Rattle.pattern_matching.specs.Walking.{Ctx, Out, Walk, ok}
 use Rattle.pattern_matching.specs.Variants.{placeTy}
 use Rattle.pattern_matching.specs.Patterns.{patternMatchInner, patternMatch}
 use Rattle.counting.specs.Reaching.{Reached, canFail}
-use Rattle.counting.specs.Counting.{total, reachedFrom, someEnum, newBlocks, newStatements}
+use Rattle.counting.specs.Counting.{total, reachedFrom, newBlocks, newStatements}
 use Rattle.counting.specs.Demand3.{Counted}
 use Rattle.counting.proofs.Holding.{Holds, holds-next, holds-as}
 use Rattle.counting.proofs.Going.{block, statement, visit}
-use Rattle.counting.proofs.Stepping.{has, Steps, steps-on, steps-as}
+use Rattle.counting.proofs.Stepping.{Steps, steps-on, steps-as}
 use Rattle.counting.proofs.Passing.{checks, binds, tested, bound, no-flag, After, AllSmall}
 use Rattle.counting.proofs.Typed.{On}
 use Rattle.counting.proofs.Arguments.{on-after}
@@ -29,25 +29,15 @@ use Rattle.counting.proofs.Bounds.{visits-both, blocks-both, statements
 
 -- both passes, one after the other
 both-passes : {c : Ctx} {els : OptBlock} {fails fails′ : Bool} {rs : List Reached} {r₁ r : Out} → After checks c els fails 0 false rs r₁ → After binds (r₁ .ctx) (r₁ .else) fails′ 0 false rs r →
-    Steps c els r fails (someEnum rs) (λ w. 0) (λ w. total (tested w) rs + total (bound w) rs)
+    Steps c els r fails (λ w. 0) (λ w. total (tested w) rs + total (bound w) rs)
 both-passes {c = c} {els = els} {fails = fails} {rs = rs} {r = r} a b =
-    subst (λ (x : Bool). Steps c els r x (someEnum rs) (λ w. 0) (λ w. total (tested w) rs + total (bound w) rs)) (or-false fails)
-    (subst (λ (x : Bool). Steps c els r (fails || false) x (λ w. 0) (λ w. total (tested w) rs + total (bound w) rs)) (or-false (someEnum rs))
-    (steps-as (λ w. let n = no-flag w in let z = zero-mul (total (tested w) rs) in omega (arith, n, z)) (steps-on (a .steps) (b .steps))))
-
--- where the discriminant local is made in Check, Bind finds it
-found : (d d₁ : DiscrTemp) (enum : Bool) → has d₁ ≡ (has d || enum) → (has d₁ || enum) ≡ has d₁
-found d d₁ enum e = subst (λ (x : Bool). (x || enum) ≡ x) (sym e) (twice (has d) enum)
-  where
-    twice : (x y : Bool) → ((x || y) || y) ≡ (x || y)
-    twice true y = refl
-    twice false true = refl
-    twice false false = refl
+    subst (λ (x : Bool). Steps c els r x (λ w. 0) (λ w. total (tested w) rs + total (bound w) rs)) (or-false fails)
+    (steps-as (λ w. let n = no-flag w in let z = zero-mul (total (tested w) rs) in omega (arith, n, z)) (steps-on (a .steps) (b .steps)))
 
 module _ (image : List ℕ) (root : Pat) (ctx : Ctx) (els : OptBlock) (place : Place) (r : Out) where
   -- what both passes add is what document 01 counts
   counted-by : (let rs = reachedFrom image root (placeTy image (ctx .state) place) in
-      Steps ctx els r (canFail image root (placeTy image (ctx .state) place)) (someEnum rs) (λ w. 0) (λ w. total (tested w) rs + total (bound w) rs)) →
+      Steps ctx els r (canFail image root (placeTy image (ctx .state) place)) (λ w. 0) (λ w. total (tested w) rs + total (bound w) rs)) →
       AllSmall (reachedFrom image root (placeTy image (ctx .state) place)) → Counted image root ctx els place r
   unfolding newBlocks newStatements
   counted-by s small =
@@ -59,7 +49,7 @@ module _ (image : List ℕ) (root : Pat) (ctx : Ctx) (els : OptBlock) (place : P
         blocks = let a = s .went .sizes block tt in let b = blocks-both rs in omega (arith, a, b);
         statements = let a = s .went .sizes statement tt in let b = statements-both rs in omega (arith, a, b);
         block-bound = blocks-bound rs (canFail image root ty) els small some;
-        statement-bound = statements-bound rs (someEnum rs) small some;
+        statement-bound = statements-bound rs small some;
         else = s .else;
       }
 
@@ -73,7 +63,7 @@ module _ (image bindings : List ℕ) (root : Pat) (ctx : Ctx) (current : BasicBl
   rs = reachedFrom image root ty
 
   abbrev Added : Out → Type 0
-  Added r = Steps ctx els r (canFail image root ty) (someEnum rs) (λ w. 0) (λ w. total (tested w) rs + total (bound w) rs) × AllSmall rs
+  Added r = Steps ctx els r (canFail image root ty) (λ w. 0) (λ w. total (tested w) rs + total (bound w) rs) × AllSmall rs
 
   added : Added r
   unfolding patternMatch
@@ -87,9 +77,9 @@ module _ (image bindings : List ℕ) (root : Pat) (ctx : Ctx) (current : BasicBl
 
       walked : Holds Added (patternMatch image bindings root ctx current els place)
       walked =
-          holds-next (patternMatchInner image bindings root MatchingMode.Check ctx current els place) bindsFrom (counts image bindings root .goes checks ctx current els place ty 0 false on tt) (λ r₁ a.
+          holds-next (patternMatchInner image bindings root MatchingMode.Check ctx current els place) bindsFrom (counts image bindings root .goes checks ctx current els place ty 0 false on) (λ r₁ a.
           holds-as (λ r₂ b. (both-passes a b, a .small))
-          (counts image bindings root .goes binds (r₁ .ctx) (r₁ .then) (r₁ .else) place ty 0 false (on-after a on) (found (r₁ .ctx .discr) (someEnum rs) (a .steps .discr))))
+          (counts image bindings root .goes binds (r₁ .ctx) (r₁ .then) (r₁ .else) place ty 0 false (on-after a on)))
 
   -- The theorem: every call of `pattern_match` that is accepted is counted.
   pub counted : Counted image root ctx els place r
@@ -99,6 +89,6 @@ module _ (image bindings : List ℕ) (root : Pat) (ctx : Ctx) (current : BasicBl
   pub visits-kept : length (r .ctx .visits) ≡ length (ctx .visits)
   visits-kept = added .0 .went .listed
 
-  -- what it adds, the locals that it keeps, and whether a discriminant local is there behind it
-  pub stepped : Steps ctx els r (canFail image root ty) (someEnum rs) (λ w. 0) (λ w. total (tested w) rs + total (bound w) rs)
+  -- what it adds, and the locals that it keeps
+  pub stepped : Steps ctx els r (canFail image root ty) (λ w. 0) (λ w. total (tested w) rs + total (bound w) rs)
   stepped = added .0

@@ -22,7 +22,7 @@ use Rattle.mir.specs.Rvalues.{liveRow}
 use Rattle.state.specs.State.{State}
 use Rattle.state.specs.Steps.{newBlock, setTerminator, pushStatement, newLocal, pushEntry, within, tryBlock, tryStatement, tryLocal, tryEntry, nextLocal}
 use Rattle.lower.specs.declared.merging.OptBlock.{OptBlock}
-use Rattle.lower.specs.Temps.{isSlice, temp, pushStorageLiveForLocal, discrTempPlace}
+use Rattle.lower.specs.Temps.{isSlice, temp, pushStorageLiveForLocal}
 use Rattle.pattern_matching.specs.Walking.{elseState}
 use Rattle.fitted.proofs.Stopping.{Fair, fair-done, fair-stopped, fair-then, fair-as, fair-cond}
 
@@ -93,12 +93,6 @@ fair-temp image st word block e =
 pub no-slice : (image : List ℕ) (word : ℕ) → typeCount image ≤ word → isSlice image word ≡ false
 unfolding isSlice
 no-slice image word h = rw (le-ltb word (typeCount image) h)
-
--- the local that all tests of enums share
-pub fair-discr : (image : List ℕ) (st : State) (block : BasicBlockId) → typeCount image ≤ 256 → Fair (Kept st) (discrTempPlace image st d block)
-unfolding discrTempPlace
-fair-discr image st (DiscrTemp.Some l) block h = fair-done (Kept st) st (kept-same st)
-fair-discr image st DiscrTemp.None block h = fair-temp image st 258 block (no-slice image 258 (omega arith))
 
 -- the else that there is, or a new block
 pub fair-else : (st : State) (els : OptBlock) → Fair (Kept st) (elseState st els)

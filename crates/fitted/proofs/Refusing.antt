@@ -123,7 +123,7 @@ reached-by false rest g n k e = the-last g (n refl)
 -- a pattern that cannot fail leaves no block where it does not match
 never : (image bindings : List ℕ) (q : Pat) (ty : PlaceTy) → canFail image q ty ≡ false → Never image ty (patternMatchInner image bindings q)
 never image bindings q ty e c current place o =
-    holds-as (λ r a. subst (λ (f : Bool). ElseIs f OptBlock.None (r .else) (length (c .state .blocks)) (length (r .ctx .state .blocks))) e (a .steps .else)) (counts image bindings q .goes checks c current OptBlock.None place ty 0 false o tt)
+    holds-as (λ r a. subst (λ (f : Bool). ElseIs f OptBlock.None (r .else) (length (c .state .blocks)) (length (r .ctx .state .blocks))) e (a .steps .else)) (counts image bindings q .goes checks c current OptBlock.None place ty 0 false o)
 
 -- in a valid image
 module _ (image bindings : List ℕ) (v : valid image ≡ true) where

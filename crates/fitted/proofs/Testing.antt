@@ -38,7 +38,7 @@ use Rattle.meaning.specs.Typing.{integerFits}
 use Rattle.meaning.specs.Fitting.{constantFits, literalFits, endFits, endFits?}
 use Rattle.meaning.specs.Fits.{hasLocal}
 use Rattle.fitted.proofs.Stopping.{Fine, Fair, fine-ok, fair-done, fine-step}
-use Rattle.fitted.proofs.Building.{Kept, kept-on, kept-terminator, fair-block, fair-statement, fair-live, fair-temp, no-slice, fair-discr, fair-else}
+use Rattle.fitted.proofs.Building.{Kept, kept-on, kept-terminator, fair-block, fair-statement, fair-live, fair-temp, no-slice, fair-else}
 use Rattle.fitted.proofs.Walks.{Stays, Good, fine-out, fine-walk, fine-check}
 
 -- of an answer nothing is asked
@@ -244,7 +244,7 @@ module _ (image : List ℕ) (few : typeCount image ≤ 256) where
   pub fine-discriminant : (p v : ℕ) (c : Ctx) (current : BasicBlockId) (els : OptBlock) (place : Place) → Fine (Stays c) (discriminantTest image p v c current els place)
   unfolding discriminantTest
   fine-discriminant p v c current els place =
-      fine-step p (discrTempPlace image (c .state) current) _ (fair-discr image (c .state) current few) (λ st₁ g₁.
+      fine-step p (discrTempPlace image (c .state) current) _ (fair-temp image (c .state) 258 current (no-slice image 258 (omega arith))) (λ st₁ g₁.
       fine-step p (tryStatement st₁ _) _ (fair-statement st₁ _) (λ st₂ g₂.
       fine-step p (tryBlock st₂) _ (fair-block st₂) (λ st₃ g₃.
       fine-step p (elseState st₃ els) _ (fair-else st₃ els) (λ st₄ g₄.

@@ -28,7 +28,7 @@ use Rattle.growth.proofs.Alternating.{Tried, tried, tried-all}
 leaves-join : {st st₀ st₃ : State} {c : BasicBlockId} {els els₃ : OptBlock} {v : List ℕ} → Ready st c els → tryBlock st ≡ done st₀ → Worked st₀ (c .0) st₃ →
     ElseReady st₃ (nextBlock st) els₃ → ElseLeft st els st₃ els₃ →
     ((b : ℕ) → b < count st₃ → From st₀ (c .0) b → b ≢ count st → (els₃ ≡ OptBlock.Some (record { 0 = b }) → ⊥) → Closed (terminator st₃ b)) →
-    Leaves st c els (result st₃ d v (nextBlock st) els₃)
+    Leaves st c els (result st₃ v (nextBlock st) els₃)
 leaves-join {st} {st₀} {st₃} {c} {els} {els₃} h e w r l k =
     let one = count-tried st st₀ e in
     let inn = h .inside in

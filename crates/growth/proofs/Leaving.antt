@@ -27,8 +27,8 @@ pub not-none : {b : BasicBlockId} → OptBlock.None ≡ OptBlock.Some b → ⊥
 not-none e = let z : _≡_ {A = ℕ} 0 1 = cc in omega arith
 
 -- a walk's result
-abbrev pub result : State → DiscrTemp → List ℕ → BasicBlockId → OptBlock → Out
-result st discr visits then els = record { ctx = record { state = st; visits = visits }; then = then; else = els }
+abbrev pub result : State → List ℕ → BasicBlockId → OptBlock → Out
+result st visits then els = record { ctx = record { state = st; visits = visits }; then = then; else = els }
 
 -- an else stays one that a call may have
 pub else-carry : {st st₁ : State} (c c₁ : BasicBlockId) (els : OptBlock) → Worked st (c .0) st₁ → From st (c .0) (c₁ .0) → ElseReady st c els → ElseReady st₁ c₁ els
@@ -55,7 +55,7 @@ fresh {st} {current} b o l i h = (
 )
 
 -- lines at the end of the block: it goes on there
-pub leaves-lines : {st st₁ : State} {c : BasicBlockId} {els : OptBlock} {v : List ℕ} → Ready st c els → Adds st (c .0) st₁ → Leaves st c els (result st₁ d v c els)
+pub leaves-lines : {st st₁ : State} {c : BasicBlockId} {els : OptBlock} {v : List ℕ} → Ready st c els → Adds st (c .0) st₁ → Leaves st c els (result st₁ v c els)
 leaves-lines {st} {st₁} {c} {els} p a =
     let w : Worked st (c .0) st₁ = opens-worked (p .inside) (a .opens) in
     record {
@@ -102,7 +102,7 @@ fork-only n (OptBlock.Some x) m t e b f i j p q = omega (arith, f .0, f .1)
 
 -- a test: the block is closed, and goes on at the two
 pub leaves-fork : {st st₁ : State} {c : BasicBlockId} {els : OptBlock} {v : List ℕ} (t e : BasicBlockId) (end : Terminator) → Closed end → Ready st c els →
-    Opens st (c .0) st₁ → Forks (count st) els (count st₁) (t .0) (e .0) → Leaves st c els (result (setTerminator st₁ c end) d v t (OptBlock.Some e))
+    Opens st (c .0) st₁ → Forks (count st) els (count st₁) (t .0) (e .0) → Leaves st c els (result (setTerminator st₁ c end) v t (OptBlock.Some e))
 leaves-fork {st} {st₁} {c} {els} t e end z p o f =
     let w : Worked st (c .0) st₂ = worked-seq (opens-worked (p .inside) o) (λ h. refl) (worked-terminator st₁ c end) in
     let same = count-terminator st₁ c end in

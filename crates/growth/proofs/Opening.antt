@@ -26,7 +26,7 @@ use Rattle.mir.specs.Rvalues.{liveRow, placeRvalueRow, constantRow, binaryRow}
 use Rattle.state.specs.State.{State}
 use Rattle.state.specs.Steps.{within, nextLocal, newBlock, pushStatement, newLocal, pushEntry, tryBlock, tryStatement, tryLocal, tryEntry}
 use Rattle.lower.specs.declared.merging.OptBlock.{OptBlock}
-use Rattle.lower.specs.Temps.{isSlice, temp, pushStorageLiveForLocal, discrTempPlace}
+use Rattle.lower.specs.Temps.{isSlice, temp, pushStorageLiveForLocal}
 use Rattle.views.specs.Views.{Line, terminatorOf, lineOf, mirOf}
 use Rattle.views.specs.Growing.{Quiet}
 use Rattle.pattern_matching.specs.Walking.{elseState}
@@ -246,12 +246,6 @@ adds-temp image st st₁ word block e =
     followed (tryLocal st word) _ (unrefused (isSlice image word) MirLowerError.UnsizedTemporary _ e) (λ st₂ e₂ e₃.
     adds-seq (subst (λ (s : State). Adds st (block .0) s) (given (ltb (length (st .locals)) localLimit) (newLocal st word) st₂ e₂) (adds-local st (block .0) word))
     (adds-live st₂ st₁ (nextLocal st) block e₃))
-
--- the local that all tests of enums share
-pub adds-discr : (image : List ℕ) (st st₁ : State) (block : BasicBlockId) → discrTempPlace image st d block ≡ ok st₁ → Adds st (block .0) st₁
-unfolding discrTempPlace
-adds-discr image st st₁ (DiscrTemp.Some l) block e = let same : st ≡ st₁ = cc in subst (λ (s : State). Adds st (block .0) s) same (adds-same st (block .0))
-adds-discr image st st₁ DiscrTemp.None block e = adds-temp image st st₁ 258 block e
 
 -- the else that there is, or a new block
 pub opens-else : (st st₁ : State) (current : ℕ) (els : OptBlock) → elseState st els ≡ ok st₁ → Opens st current st₁

@@ -20,7 +20,7 @@ use Rattle.state.specs.State.{State}
 use Rattle.state.specs.Steps.{nextBlock, nextLocal, tryBlock, tryStatement, setTerminator}
 use Rattle.literals.specs.Literals.{lowerLiteralToOperand, lowerConstToOperand, lowerLiteralOrConstToOperand}
 use Rattle.lower.specs.declared.merging.OptBlock.{OptBlock}
-use Rattle.lower.specs.Temps.{temp, bindingLocal, pushStorageLiveForLocal, discrTempPlace, discrLocal}
+use Rattle.lower.specs.Temps.{temp, bindingLocal, pushStorageLiveForLocal, discrTempPlace}
 use Rattle.views.specs.Growing.{Closed}
 use Rattle.pattern_matching.specs.declared.MatchingMode.{MatchingMode}
 use Rattle.pattern_matching.specs.Walking.{Ctx, ok, localPlace, elseState, elseBlock}
@@ -28,14 +28,14 @@ use Rattle.pattern_matching.specs.Tests.{boolWord, usizeWord, compare, patternM
 use Rattle.pattern_matching.specs.Variants.{discriminantTest}
 use Rattle.pattern_matching.specs.Slices.{RestOf, lengthConstant, lengthCompared, lengthTest}
 use Rattle.growth.specs.Opened.{count}
-use Rattle.growth.proofs.Opening.{Opens, Adds, opens-seq, adds-seq, opens-block, count-tried, adds-statement, place-block, constant-block, binary-block, adds-live, adds-temp, adds-discr, opens-else, WithElse, count-else}
+use Rattle.growth.proofs.Opening.{Opens, Adds, opens-seq, adds-seq, opens-block, count-tried, adds-statement, place-block, constant-block, binary-block, adds-live, adds-temp, opens-else, WithElse, count-else}
 use Rattle.growth.proofs.Leaving.{result, Forks, leaves-fork}
 use Rattle.growth.proofs.Walks.{Good, good-refused, good-ok, good-lines, good-step, good-out, good-check, Grows}
 
 -- the end of a test
 good-fork : {st st₁ : State} {c : BasicBlockId} {els : OptBlock} (v : List ℕ) (t e : BasicBlockId) (end : Terminator) → Closed end → Opens st (c .0) st₁ →
-    Forks (count st) els (count st₁) (t .0) (e .0) → Good MatchingMode.Check st c els (ok (result (setTerminator st₁ c end) d v t (OptBlock.Some e)))
-good-fork {st₁} {c} d v t e end z o f = good-ok (result (setTerminator st₁ c end) d v t (OptBlock.Some e)) (λ h. leaves-fork t e end z h o f) (λ b. absurd b)
+    Forks (count st) els (count st₁) (t .0) (e .0) → Good MatchingMode.Check st c els (ok (result (setTerminator st₁ c end) v t (OptBlock.Some e)))
+good-fork {st₁} {c} v t e end z o f = good-ok (result (setTerminator st₁ c end) v t (OptBlock.Some e)) (λ h. leaves-fork t e end z h o f) (λ b. absurd b)
 
 -- the block where a match goes on was made before an else
 then-else : (n t : ℕ) (els : OptBlock) (s : State) (m : ℕ) → t ≡ n → count s ≡ suc t → WithElse els (count s) m → Forks n els m t (elseBlock s els .0)
@@ -162,15 +162,15 @@ pub good-discriminant : (image : List ℕ) (p v : ℕ) (ctx : Ctx) (c : BasicBlo
 unfolding discriminantTest
 good-discriminant image p v ctx c els place =
     let st = ctx .state in
-    let l = discrLocal st in
+    let l = nextLocal st in
     good-step p (discrTempPlace image st c) _ (λ st₁ e₁.
     good-step p (tryStatement st₁ (placeRvalueRow c l PlaceRvalue.Discr place)) _ (λ st₂ e₂.
     good-step p (tryBlock st₂) _ (λ st₃ e₃.
     good-step p (elseState st₃ els) _ (λ st₄ e₄.
-    let a = adds-seq (adds-discr image st st₁ c e₁)
+    let a = adds-seq (adds-temp image st st₁ 258 c e₁)
     (adds-statement st₁ st₂ (c .0) (placeRvalueRow c l PlaceRvalue.Discr place) (place-block c l PlaceRvalue.Discr place) e₂) in
     let value = variantOf image v .discriminant in
-    good-fork (DiscrTemp.Some l) (ctx .visits) (nextBlock st₂) (elseBlock st₃ els)
+    good-fork (ctx .visits) (nextBlock st₂) (elseBlock st₃ els)
     (Terminator.Switch l (value % 18446744073709551616) (value / 18446744073709551616) (nextBlock st₂) (elseBlock st₃ els)) tt
     (opens-seq (a .opens) (opens-seq (opens-block st₂ st₃ (c .0) e₃) (opens-else st₃ st₄ (c .0) els e₄)))
     (then-else (count st) (count st₂) els st₃ (count st₄) (a .same) (count-tried st₂ st₃ e₃) (count-else st₃ st₄ els e₄))))))

@@ -60,8 +60,8 @@ module _ {mode : MatchingMode} {st : State} {c : BasicBlockId} {els : OptBlock} 
       }
 
   -- lines at the end of the block
-  pub good-lines : {st₁ : State} (v : List ℕ) → Adds st (c .0) st₁ → Good mode st c els (ok (result st₁ d v c els))
-  good-lines {st₁} d v a = good-ok (result st₁ d v c els) (λ h. leaves-lines h a) (λ b. refl)
+  pub good-lines : {st₁ : State} (v : List ℕ) → Adds st (c .0) st₁ → Good mode st c els (ok (result st₁ v c els))
+  good-lines {st₁} v a = good-ok (result st₁ v c els) (λ h. leaves-lines h a) (λ b. refl)
 
   -- a walk, and then what follows it
   pub good-next : (w : Walk Out) (k : Out → Walk Out) → Good mode st c els w → ((r : Out) → Good mode (r .ctx .state) (r .then) (r .else) (k r)) → Good mode st c els (next w k)

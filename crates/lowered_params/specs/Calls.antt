@@ -88,7 +88,7 @@ paramsCall image words self bindings b visits c current =
     (cond (bodyTaken image b c && paramsHold image self bindings (b .blocks) visits c current)
     (walked (lowerParamsAndBindings image self (paramsOf words) bindings (ctxOf b c (zeros 512)) current)) badCall) badImage
 
--- the answer: the counts, the discriminant local, the block to go on from and the first parameter's local, which is the next one when the call comes
+-- the answer: the counts, the block to go on from and the first parameter's local, which is the next one when the call comes
 abbrev pub walkAnswer : Counts → Walk ParamsOut → ParamsCall
 walkAnswer c (ok r) = ParamsCall.Lowered (countsOf (r .ctx .state)) (r .then) (record { 0 = c .locals })
 walkAnswer c (refused e p) = ParamsCall.Refused e (record { 0 = p })

@@ -12,9 +12,9 @@ pub enum SelfParam {
     Some(BindingId, u16),
 }
 
-// The counts, the discriminant local, the block to go on from, and the local of the first parameter, self or not: the others follow in order. Or why it was refused.
+// The counts, the block to go on from, and the local of the first parameter, self or not: the others follow in order. Or why it was refused.
 pub enum ParamsCall {
-    Lowered(Counts, DiscrTemp, BasicBlockId, LocalId),
+    Lowered(Counts, BasicBlockId, LocalId),
     Refused(MirLowerError, PatId),
     BadCall,
     BadImage,

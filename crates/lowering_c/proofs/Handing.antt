@@ -13,13 +13,13 @@ use Rattle.lower.specs.declared.merging.OptBlock.{OptBlock}
 use Rattle.match_calls.specs.declared.MatchCall.{MatchCall}
 use Rattle.match_calls.specs.Calls.{patternMatchCall, Visits}
 use Rattle.match_calls.proofs.Stepping.{visits-by}
-use Rattle.lowering_c.specs.Words.{blockWord, discrWord, answerWords, refusalWords, Answered}
+use Rattle.lowering_c.specs.Words.{blockWord, answerWords, refusalWords, Answered}
 
 -- the words of a match
-pub matched-words : {call : MatchCall} {c : Counts} {then : BasicBlockId} {els : OptBlock} {e d : ℕ} → call ≡ MatchCall.Matched c then els → e ≡ blockWord els → d ≡ discrWord discr →
-    0 ∷ 0 ∷ 0 ∷ then .0 ∷ e ∷ d ∷ c .blocks ∷ c .statements ∷ c .locals ∷ c .scopes ∷ c .entries ∷ [] ≡ answerWords call
+pub matched-words : {call : MatchCall} {c : Counts} {then : BasicBlockId} {els : OptBlock} {e : ℕ} → call ≡ MatchCall.Matched c then els → e ≡ blockWord els →
+    0 ∷ 0 ∷ 0 ∷ then .0 ∷ e ∷ c .blocks ∷ c .statements ∷ c .locals ∷ c .scopes ∷ c .entries ∷ [] ≡ answerWords call
 unfolding answerWords
-matched-words is els discr = rw (is, els, discr)
+matched-words is els = rw (is, els)
 
 -- the words of a refusal
 pub refused-words : {call : MatchCall} {e : MirLowerError} {p : PatId} {number reason : ℕ} → call ≡ MatchCall.Refused e p → number ≡ numberOf e → reason ≡ reasonOf e →
@@ -27,10 +27,10 @@ pub refused-words : {call : MatchCall} {e : MirLowerError} {p : PatId} {number r
 unfolding answerWords
 refused-words is number reason = rw (is, number, reason)
 
--- what the call gives is handed out: d and e are the shared local and the else that its words say
-pub hands-out : (image bindings : List ℕ) (p : ℕ) (current : BasicBlockId) (place : Place) {b b′ : Body} {v v′ : List ℕ} {c : Counts} {d d′ : DiscrTemp} {e e′ : OptBlock} {r : MatchCall} {words : List ℕ} →
-    d ≡ d′ → e ≡ e′ → Visits b v c (patternMatchCall image bindings b v c d p current e place) r b′ v′ → words ≡ answerWords r →
+-- what the call gives is handed out: e is the else that its words say
+pub hands-out : (image bindings : List ℕ) (p : ℕ) (current : BasicBlockId) (place : Place) {b b′ : Body} {v v′ : List ℕ} {c : Counts} {e e′ : OptBlock} {r : MatchCall} {words : List ℕ} →
+    e ≡ e′ → Visits b v c (patternMatchCall image bindings b v c p current e place) r b′ v′ → words ≡ answerWords r →
     Answered b v c (patternMatchCall image bindings b v c p current e′ place) words b′ v′
-hands-out image bindings p current place {b = b} {v = v} {c = c} isd ise G is =
-    let G′ = visits-by (λ i. patternMatchCall image bindings b v c (isd i) p current (ise i) place) G in
+hands-out image bindings p current place {b = b} {v = v} {c = c} ise G is =
+    let G′ = visits-by (λ i. patternMatchCall image bindings b v c p current (ise i) place) G in
     record { answers = is ∙ ap answerWords (G′ .gives .reply); tables = G′ .gives .tables; visits = G′ .visits }

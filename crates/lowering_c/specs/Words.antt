@@ -17,10 +17,6 @@ use Rattle.match_calls.specs.Calls.{Called, answer, bodyAfter, visitsAfter}
 unfoldable pub blockOrNone : ℕ → OptBlock
 blockOrNone word = cond (eqb word 65535) OptBlock.None (OptBlock.Some (record { 0 = word }))
 
--- the number of the local that all tests of enums share, or 65535 for none
-unfoldable pub localOrNone : ℕ → DiscrTemp
-localOrNone word = cond (eqb word 65535) DiscrTemp.None (DiscrTemp.Some (record { 0 = word }))
-
 -- the five counts are the first words
 unfoldable pub countsOfWords : List ℕ → Counts
 countsOfWords words =
@@ -30,18 +26,14 @@ unfoldable pub blockWord : OptBlock → ℕ
 blockWord OptBlock.None = 65535
 blockWord (OptBlock.Some b) = b .0
 
-unfoldable pub discrWord : DiscrTemp → ℕ
-discrWord DiscrTemp.None = 65535
-discrWord (DiscrTemp.Some l) = l .0
-
 -- a refusal: document 01's three numbers, and zeros
 abbrev pub refusalWords : ℕ → ℕ → ℕ → List ℕ
-refusalWords number p reason = number ∷ p ∷ reason ∷ zeros 8
+refusalWords number p reason = number ∷ p ∷ reason ∷ zeros 7
 
--- the words of an answer: after three zeros the block where a match goes on, the one where a mismatch does, the shared local and the five counts
+-- the words of an answer: after three zeros the block where a match goes on, the one where a mismatch does, and the five counts
 unfoldable pub answerWords : MatchCall → List ℕ
 answerWords (MatchCall.Matched c then els) =
-    0 ∷ 0 ∷ 0 ∷ then .0 ∷ blockWord els ∷ discrWord discr ∷ c .blocks ∷ c .statements ∷ c .locals ∷ c .scopes ∷ c .entries ∷ []
+    0 ∷ 0 ∷ 0 ∷ then .0 ∷ blockWord els ∷ c .blocks ∷ c .statements ∷ c .locals ∷ c .scopes ∷ c .entries ∷ []
 answerWords (MatchCall.Refused e p) = refusalWords (numberOf e) (p .0) (reasonOf e)
 answerWords MatchCall.BadCall = refusalWords 2 65535 0
 answerWords MatchCall.BadImage = refusalWords 1 65535 0

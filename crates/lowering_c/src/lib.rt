@@ -14,7 +14,7 @@ ghost use lib.ListN.{getD};
 ghost use Rattle.pattern_matching.specs.Walking.{localPlace};
 ghost use Rattle.state.specs.State.{body};
 ghost use Rattle.match_calls.specs.Calls.{patternMatchCall};
-ghost use Rattle.lowering_c.specs.Words.{blockOrNone, localOrNone, countsOfWords, blockWord, discrWord, answerWords, Answered};
+ghost use Rattle.lowering_c.specs.Words.{blockOrNone, countsOfWords, blockWord, answerWords, Answered};
 
 // A block's number, or 65535 for none.
 fn block_or_none(word: u16) -> OptBlock
@@ -26,16 +26,6 @@ fn block_or_none(word: u16) -> OptBlock
     OptBlock::Some(BasicBlockId(word))
 }
 
-// The number of the local that all tests of enums share, or 65535 for none.
-fn local_or_none(word: u16) -> DiscrTemp
-    ensures { λ r. ⌜ r ≡ localOrNone word ⌝ }
-{
-    if word == 65535 {
-        return DiscrTemp::None;
-    }
-    DiscrTemp::Some(LocalId(word))
-}
-
 fn block_word(b: OptBlock) -> u16
     ensures { λ r. ⌜ r ≡ blockWord b ⌝ }
 {
@@ -45,18 +35,8 @@ fn block_word(b: OptBlock) -> u16
     }
 }
 
-fn discr_word(discr: DiscrTemp) -> u16
-    ensures { λ r. ⌜ r ≡ discrWord discr ⌝ }
-{
-    match discr {
-        DiscrTemp::None => 65535,
-        DiscrTemp::Some(l) => l.0,
-    }
-}
-
-// The words of an answer: the three numbers of a refusal, or zeros; then the block where a match goes on, the one where a mismatch does, the local that all tests of
-// enums share, and the five counts, or zeros.
-fn answer_words(call: MatchCall) -> [u16; 11]
+// The words of an answer: the three numbers of a refusal, or zeros; then the block where a match goes on, the one where a mismatch does, and the five counts, or zeros.
+fn answer_words(call: MatchCall) -> [u16; 10]
     ensures { λ r. ⌜ r ≡ answerWords call ⌝ }
 {
     match call {
@@ -66,21 +46,19 @@ fn answer_words(call: MatchCall) -> [u16; 11]
             0,
             then.0,
             block_word(els),
-            discr_word(discr),
             c.blocks,
             c.statements,
             c.locals,
             c.scopes,
             c.entries,
         ],
-        MatchCall::Refused(e, p) => [number_of(e), p.0, reason_of(e), 0, 0, 0, 0, 0, 0, 0, 0],
-        MatchCall::BadCall => [2, 65535, 0, 0, 0, 0, 0, 0, 0, 0, 0],
-        MatchCall::BadImage => [1, 65535, 0, 0, 0, 0, 0, 0, 0, 0, 0],
+        MatchCall::Refused(e, p) => [number_of(e), p.0, reason_of(e), 0, 0, 0, 0, 0, 0, 0],
+        MatchCall::BadCall => [2, 65535, 0, 0, 0, 0, 0, 0, 0, 0],
+        MatchCall::BadImage => [1, 65535, 0, 0, 0, 0, 0, 0, 0, 0],
     }
 }
 
-// `pattern_match` on a whole local. The words of the call are the five counts, the local that all tests of enums share, the pattern, the block to start from, the else
-// and the local; 65535 is no such local and no else.
+// `pattern_match` on a whole local. The words of the call are the five counts, the pattern, the block to start from, the else and the local; 65535 is no else.
 #[no_mangle]
 pub extern "C" fn fithongu_pattern_match(
     image: &[u8],
@@ -91,10 +69,10 @@ pub extern "C" fn fithongu_pattern_match(
     scopes: &mut [u16],
     entries: &mut [u16],
     visits: &mut [u16],
-    call: &[u16; 10],
-    answer: &mut [u16; 11],
+    call: &[u16; 9],
+    answer: &mut [u16; 10],
 )
-    ensures { λ _. ⌜ Answered (body (now (blocks .entry)) (now (statements .entry)) (now (locals .entry)) (now (scopes .entry)) (now (entries .entry))) (now (visits .entry)) (countsOfWords (now (call .entry))) (patternMatchCall (now (image .entry)) (now (bindings .entry)) (body (now (blocks .entry)) (now (statements .entry)) (now (locals .entry)) (now (scopes .entry)) (now (entries .entry))) (now (visits .entry)) (countsOfWords (now (call .entry))) (localOrNone (getD (now (call .entry)) 5 0)) (getD (now (call .entry)) 6 0) (record { 0 = getD (now (call .entry)) 7 0 }) (blockOrNone (getD (now (call .entry)) 8 0)) (localPlace (record { 0 = getD (now (call .entry)) 9 0 }))) (now (answer .exit)) (body (now (blocks .exit)) (now (statements .exit)) (now (locals .exit)) (now (scopes .exit)) (now (entries .exit))) (now (visits .exit)) ⌝ }
+    ensures { λ _. ⌜ Answered (body (now (blocks .entry)) (now (statements .entry)) (now (locals .entry)) (now (scopes .entry)) (now (entries .entry))) (now (visits .entry)) (countsOfWords (now (call .entry))) (patternMatchCall (now (image .entry)) (now (bindings .entry)) (body (now (blocks .entry)) (now (statements .entry)) (now (locals .entry)) (now (scopes .entry)) (now (entries .entry))) (now (visits .entry)) (countsOfWords (now (call .entry))) (getD (now (call .entry)) 5 0) (record { 0 = getD (now (call .entry)) 6 0 }) (blockOrNone (getD (now (call .entry)) 7 0)) (localPlace (record { 0 = getD (now (call .entry)) 8 0 }))) (now (answer .exit)) (body (now (blocks .exit)) (now (statements .exit)) (now (locals .exit)) (now (scopes .exit)) (now (entries .exit))) (now (visits .exit)) ⌝ }
 {
     let counts = Counts {
         blocks: call[0],
@@ -104,7 +82,7 @@ pub extern "C" fn fithongu_pattern_match(
         entries: call[4],
     };
     let place = Place {
-        local: LocalId(call[9]),
+        local: LocalId(call[8]),
         len: 0,
         elems: [0u32; 16],
     };
@@ -118,10 +96,9 @@ pub extern "C" fn fithongu_pattern_match(
         entries,
         visits,
         counts,
-        local_or_none(call[5]),
-        PatId(call[6]),
-        BasicBlockId(call[7]),
-        block_or_none(call[8]),
+        PatId(call[5]),
+        BasicBlockId(call[6]),
+        block_or_none(call[7]),
         place,
     );
     *answer = answer_words(given);

@@ -1,7 +1,6 @@
 // Whether what a call on parameters is handed is taken: document 01's numbers 1 and 2.
 use check_body::check_body;
 use handed::bindings_hold;
-use handed::discr_holds;
 use handed::start_holds;
 use image::Tables;
 use lower_calls::opening::Opened;
@@ -53,9 +52,6 @@ fn params_hold(
         return false;
     }
     if !bindings_hold(tables.bindings.count, counts, bindings) {
-        return false;
-    }
-    if !discr_holds(counts, discr) {
         return false;
     }
     if !start_holds(blocks, counts, current) {

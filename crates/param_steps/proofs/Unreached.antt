@@ -65,7 +65,7 @@ module _ {defined : Ctx → Walk Out} {c : Counts} {current : BasicBlockId} {t�
       Walks defined c current OptBlock.None t₀ v₀ (Lowered.Done c₁ then (OptBlock.Some b)) (lent bl s l e) v → bl₁ ≡ stored bl (12 * b .0) (termRow Terminator.Unreachable) →
       Walks (λ ctx. shut (defined ctx)) c current OptBlock.None t₀ v₀ (Lowered.Done c₁ then OptBlock.None) (lent bl₁ s l e) v
   unfolding shut
-  shut-some {c₁ = c₁} {d = d} {then = then} {b = b} {bl = bl} {s = s} {l = l} {e = e} {bl₁ = bl₁} W after =
+  shut-some {c₁ = c₁} {then = then} {b = b} {bl = bl} {s = s} {l = l} {e = e} {bl₁ = bl₁} W after =
       let there = W .onward .begins .else in
       let own = new-else c (current .0) b (W .onward .own-else) in
       record {
@@ -74,11 +74,11 @@ module _ {defined : Ctx → Walk Out} {c : Counts} {current : BasicBlockId} {t�
             record {
               visits′ = F .visits′;
               holds = F .holds;
-              answers = next-then shutting (F .answers) own (else-shut c₁ d then b bl s l e after there scopes (F .visits′) (F .answers .goes .0));
+              answers = next-then shutting (F .answers) own (else-shut c₁ then b bl s l e after there scopes (F .visits′) (F .answers .goes .0));
             };
         leaves = λ Q.
             let L = W .leaves Q in
-            let S = else-shut c₁ d then b bl s l e after there (zeros 32) v (L .0 .0) in
+            let S = else-shut c₁ then b bl s l e after there (zeros 32) v (L .0 .0) in
             (goes-on (bodyOf (lent bl₁ s l e) (zeros 32)) (some c₁) (L .0 .1) (S .goes), kept-trans (L .1) (L .0 .1) own (S .kept));
         onward = record { own = W .onward .own; own-else = tt; begins = record { start = W .onward .begins .start; else = tt } };
       }

@@ -91,7 +91,7 @@ module _ (image : List ℕ) {tables : Tables} (words : List ℕ) (self : SelfPar
   pub params-follow : {t : Lent} {v : List ℕ} {r : Lowered} → Walks lowering c₁ current OptBlock.None (lent b₀ s₀ l₁ e₁) v₀ r t v →
       WalksParams (λ ctx. lowerParamsAndBindings image self (paramsOf words) m₀ ctx current) c current (lent b₀ s₀ l₀ e₀) v₀ r t v m₁
   unfolding lowerParamsAndBindings
-  params-follow {discr = discr} {r = r} W =
+  params-follow {r = r} W =
       record {
         answers = λ scopes visits R H.
             let F = D .answers (current .0) b₀ s₀ scopes R in
@@ -114,7 +114,7 @@ pub declare-stops : (image words : List ℕ) (self : SelfParam) {m₀ b₀ s₀ 
     Declares (declare image self (paramsOf words)) c m₀ l₀ e₀ (Stepped.Refused err) m₁ l₁ e₁ →
     WalksParams (λ ctx. lowerParamsAndBindings image self (paramsOf words) m₀ ctx current) c current (lent b₀ s₀ l₀ e₀) v₀ (Lowered.Refused err (record { 0 = 65535 })) (lent b₀ s₀ l₁ e₁) v₀ m₁
 unfolding lowerParamsAndBindings
-declare-stops image words self {b₀ = b₀} {s₀ = s₀} {l₀ = l₀} {e₀ = e₀} v₀ {c = c} {discr = discr} {current = current} D =
+declare-stops image words self {b₀ = b₀} {s₀ = s₀} {l₀ = l₀} {e₀ = e₀} v₀ {c = c} {current = current} D =
     record {
       answers = λ scopes visits R H.
           let here = body b₀ s₀ l₀ scopes e₀ in

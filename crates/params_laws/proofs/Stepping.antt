@@ -30,7 +30,7 @@ use Rattle.lower_calls.proofs.Prologue.{taken-sized}
 use Rattle.lower_calls.proofs.Restoring.{put-back}
 use Rattle.walks.specs.declared.Lowered.{Lowered}
 use Rattle.walks.specs.Answers.{Lent, lent, bodyOf, ctxOf}
-use Rattle.handed.specs.Handed.{startHolds, bindingHolds, bindingsHold, discrHolds}
+use Rattle.handed.specs.Handed.{startHolds, bindingHolds, bindingsHold}
 use Rattle.match_calls.proofs.Starting.{no-visits, visits-cleared, row-found, primed-of}
 use Rattle.lowered_params.specs.declared.SelfParam.{SelfParam}
 use Rattle.lowered_params.specs.declared.ParamsCall.{ParamsCall}
@@ -60,7 +60,7 @@ bindings-few image v =
 module _ (image : List ℕ) (self : SelfParam) (bindings blocks visits : List ℕ) (c : Counts) (current : BasicBlockId) (h : paramsHold image self bindings blocks visits c current ≡ true) where
   -- the tests
   abbrev tests : List Bool
-  tests = selfNamed image self ∷ bindingsHold (bindingCount image) c bindings ∷ discrHolds c ∷ startHolds blocks c current ∷ eqb (length visits) 512 ∷ []
+  tests = selfNamed image self ∷ bindingsHold (bindingCount image) c bindings ∷ startHolds blocks c current ∷ eqb (length visits) 512 ∷ []
 
   -- each is passed
   passed : (k : ℕ) → getD tests k true ≡ true
@@ -76,10 +76,10 @@ module _ (image : List ℕ) (self : SelfParam) (bindings blocks visits : List �
 
   start-held : current .0 < c .blocks
   unfolding startHolds
-  start-held = ltb-true _ _ (and-left (isBlock c (current .0)) (isOpen (rowAt 12 blocks (current .0))) (passed 3))
+  start-held = ltb-true _ _ (and-left (isBlock c (current .0)) (isOpen (rowAt 12 blocks (current .0))) (passed 2))
 
   visits-held : length visits ≡ 512
-  visits-held = eqb-true _ _ (passed 4)
+  visits-held = eqb-true _ _ (passed 3)
 
 module _ {image : List ℕ} {tables : Tables} {words : List ℕ} {self : SelfParam} {bindings : List ℕ} {b : Body} {visits : List ℕ} {c : Counts} {current : BasicBlockId}
     (T : ParamsTaken image tables words self bindings b visits c current) where
@@ -133,15 +133,15 @@ module _ {image : List ℕ} {tables : Tables} {words : List ℕ} {self : SelfPar
     pub lowered : {c′ : Counts} {then : BasicBlockId} {els : OptBlock} {t : Lent} {v′ m : List ℕ} →
         WalksParams (λ ctx. lowerParamsAndBindings image self (paramsOf words) bindings ctx current) c current (lent bl s l e) v₁ (Lowered.Done c′ then els) t v′ m →
         GivesParams bindings b visits c (walked (lowerParamsAndBindings image self (paramsOf words) bindings (ctxOf b c (zeros 512)) current))
-        (ParamsCall.Lowered c′ d then (record { 0 = c .locals })) m (bodyOf t sc) v′
-    lowered {c′ = c′} {d = d} {then = then} {t = t} W =
+        (ParamsCall.Lowered c′ then (record { 0 = c .locals })) m (bodyOf t sc) v′
+    lowered {c′ = c′} {then = then} {t = t} W =
         let A = W .answers sc (zeros 512) (step-cleared .ready) (no-visit ∙ no-visits) in
         let ready = A .answers .goes .0 in
         let after = bodyOf t sc in
         params-by
         (ap walked (A .answers .says ∙ ap (λ (st : State). lowerParamsAndBindings image self (paramsOf words) bindings (record { state = st; visits = zeros 512 }) current) (step-cleared .same)))
         (record {
-          reply = ap (λ (n : Counts). ParamsCall.Lowered n d then (record { 0 = c .locals })) (sym (counted after c′ ready));
+          reply = ap (λ (n : Counts). ParamsCall.Lowered n then (record { 0 = c .locals })) (sym (counted after c′ ready));
           refusal = refl;
           tables = held after c′ ready;
           reads = ap (decode after) (counted after c′ ready);

@@ -53,9 +53,9 @@ module _ {image : List ℕ} {tables : Tables} {b : Body} {c : Counts} (bindings 
       whole = T .whole;
       locals-of-bindings = bindings-sized (namedIn image) bindings (b .blocks) visits c p current els place H;
       visits-sized = ap length (blank-visits blank) ∙ length-zeros 512;
-      primed = start-primed (lent bl s l e) sc bindings visits discr p current els place T C H;
-      begins = start-begins (lent bl s l e) sc bindings visits discr p current els place T C H;
-      placed = start-placed (lent bl s l e) sc bindings visits discr p current els place T C H;
+      primed = start-primed (lent bl s l e) sc bindings visits p current els place T C H;
+      begins = start-begins (lent bl s l e) sc bindings visits p current els place T C H;
+      placed = start-placed (lent bl s l e) sc bindings visits p current els place T C H;
     },
     pattern-there (namedIn image) bindings (b .blocks) visits c p current els place H,
   )

@@ -10,7 +10,6 @@ use lower::merging::OptBlock;
 use lower_calls::opening::Opened;
 use lower_calls::opening::open;
 use match_calls::MatchCall;
-use match_calls::SelfCall;
 use mir::BasicBlockId;
 use mir::Counts;
 use place::LocalId;
@@ -19,7 +18,7 @@ use steps::assignment_step;
 use steps::match_step;
 use steps::self_step;
 ghost use Rattle.state.specs.State.{body};
-ghost use Rattle.match_calls.specs.Calls.{patternMatchCall, patternMatchAssignmentCall, matchSelfParamCall, Visits, GivesSelf};
+ghost use Rattle.match_calls.specs.Calls.{patternMatchCall, patternMatchAssignmentCall, matchSelfParamCall, Gives, Visits};
 
 // The pattern p, tested and then bound from the block `current` on, against what lies at a place. `visits` counts how often each pattern was visited.
 pub fn pattern_match(
@@ -142,15 +141,15 @@ pub fn match_self_param(
     b: BindingId,
     current: BasicBlockId,
     l: LocalId,
-) -> SelfCall
-    ensures { λ r. ⌜ GivesSelf (body (now (blocks .entry)) (now (statements .entry)) (now (locals .entry)) (now (scopes .entry)) (now (entries .entry))) counts (matchSelfParamCall (now (image .entry)) (now (bindings .entry)) (body (now (blocks .entry)) (now (statements .entry)) (now (locals .entry)) (now (scopes .entry)) (now (entries .entry))) counts (b .0) current l) r (body (now (blocks .exit)) (now (statements .exit)) (now (locals .exit)) (now (scopes .exit)) (now (entries .exit))) ⌝ }
+) -> MatchCall
+    ensures { λ r. ⌜ Gives (body (now (blocks .entry)) (now (statements .entry)) (now (locals .entry)) (now (scopes .entry)) (now (entries .entry))) counts (matchSelfParamCall (now (image .entry)) (now (bindings .entry)) (body (now (blocks .entry)) (now (statements .entry)) (now (locals .entry)) (now (scopes .entry)) (now (entries .entry))) counts (b .0) current l) r (body (now (blocks .exit)) (now (statements .exit)) (now (locals .exit)) (now (scopes .exit)) (now (entries .exit))) ⌝ }
 {
     match open(image, blocks, statements, locals, scopes, entries, counts) {
-        Opened::BadImage => SelfCall::BadImage,
-        Opened::BadCall => SelfCall::BadCall,
+        Opened::BadImage => MatchCall::BadImage,
+        Opened::BadCall => MatchCall::BadCall,
         Opened::Image(tables) => {
             if !self_holds(tables, bindings, blocks, counts, b, current, l) {
-                return SelfCall::BadCall;
+                return MatchCall::BadCall;
             }
             self_step(
                 image,

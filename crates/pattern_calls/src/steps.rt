@@ -8,7 +8,6 @@ use lower_calls::opening::block_row;
 use lower_calls::opening::clear_above;
 use lower_calls::opening::put_back;
 use match_calls::MatchCall;
-use match_calls::SelfCall;
 use mir::BasicBlockId;
 use mir::Counts;
 use pattern_matching::MatchingMode;
@@ -30,7 +29,7 @@ ghost use Rattle.pattern_matching.specs.Patterns.{patternMatch, patternMatchAss
 ghost use Rattle.walks.specs.Answers.{lent, Walks};
 ghost use Rattle.walking.specs.Walk.{Walkable};
 ghost use Rattle.handed.specs.Handed.{matchHolds, selfHolds};
-ghost use Rattle.match_calls.specs.Calls.{namedIn, startCtx, walked, Visits, GivesSelf};
+ghost use Rattle.match_calls.specs.Calls.{namedIn, startCtx, walked, Gives, Visits};
 
 // The pattern is walked in Check, and then in Bind with the else that Check left.
 pub fn check_and_bind(
@@ -105,7 +104,7 @@ pub fn match_step(
     place: Place,
 ) -> MatchCall
     requires { ⌜ Taken (now image) tables (body (now blocks) (now statements) (now locals) (now scopes) (now entries)) counts × (matchHolds (namedIn (now image)) (now bindings) (now blocks) (now visits) counts (p .0) current els place ≡ true) ⌝ }
-    ensures { λ r. ⌜ Visits (body (now (blocks .entry)) (now (statements .entry)) (now (locals .entry)) (now (scopes .entry)) (now (entries .entry))) (now (visits .entry)) counts (walked (patternMatch (now (image .entry)) (now (bindings .entry)) (tree (now (image .entry)) (p .0)) (startCtx (body (now (blocks .entry)) (now (statements .entry)) (now (locals .entry)) (now (scopes .entry)) (now (entries .entry))) counts discr) current els place)) r (body (now (blocks .exit)) (now (statements .exit)) (now (locals .exit)) (now (scopes .exit)) (now (entries .exit))) (now (visits .exit)) ⌝ }
+    ensures { λ r. ⌜ Visits (body (now (blocks .entry)) (now (statements .entry)) (now (locals .entry)) (now (scopes .entry)) (now (entries .entry))) (now (visits .entry)) counts (walked (patternMatch (now (image .entry)) (now (bindings .entry)) (tree (now (image .entry)) (p .0)) (startCtx (body (now (blocks .entry)) (now (statements .entry)) (now (locals .entry)) (now (scopes .entry)) (now (entries .entry))) counts) current els place)) r (body (now (blocks .exit)) (now (statements .exit)) (now (locals .exit)) (now (scopes .exit)) (now (entries .exit))) (now (visits .exit)) ⌝ }
 {
     let row = block_row(blocks, current);
     clear_above(blocks, statements, locals, scopes, entries, counts);
@@ -152,7 +151,7 @@ pub fn assignment_step(
     place: Place,
 ) -> MatchCall
     requires { ⌜ Taken (now image) tables (body (now blocks) (now statements) (now locals) (now scopes) (now entries)) counts × (matchHolds (namedIn (now image)) (now bindings) (now blocks) (now visits) counts (p .0) current OptBlock.None place ≡ true) ⌝ }
-    ensures { λ r. ⌜ Visits (body (now (blocks .entry)) (now (statements .entry)) (now (locals .entry)) (now (scopes .entry)) (now (entries .entry))) (now (visits .entry)) counts (walked (patternMatchAssignment (now (image .entry)) (now (bindings .entry)) (tree (now (image .entry)) (p .0)) (startCtx (body (now (blocks .entry)) (now (statements .entry)) (now (locals .entry)) (now (scopes .entry)) (now (entries .entry))) counts discr) current place)) r (body (now (blocks .exit)) (now (statements .exit)) (now (locals .exit)) (now (scopes .exit)) (now (entries .exit))) (now (visits .exit)) ⌝ }
+    ensures { λ r. ⌜ Visits (body (now (blocks .entry)) (now (statements .entry)) (now (locals .entry)) (now (scopes .entry)) (now (entries .entry))) (now (visits .entry)) counts (walked (patternMatchAssignment (now (image .entry)) (now (bindings .entry)) (tree (now (image .entry)) (p .0)) (startCtx (body (now (blocks .entry)) (now (statements .entry)) (now (locals .entry)) (now (scopes .entry)) (now (entries .entry))) counts) current place)) r (body (now (blocks .exit)) (now (statements .exit)) (now (locals .exit)) (now (scopes .exit)) (now (entries .exit))) (now (visits .exit)) ⌝ }
 {
     let row = block_row(blocks, current);
     clear_above(blocks, statements, locals, scopes, entries, counts);
@@ -197,9 +196,9 @@ pub fn self_step(
     b: BindingId,
     current: BasicBlockId,
     l: LocalId,
-) -> SelfCall
+) -> MatchCall
     requires { ⌜ Taken (now image) tables (body (now blocks) (now statements) (now locals) (now scopes) (now entries)) counts × (selfHolds (namedIn (now image)) (now bindings) (now blocks) counts (b .0) current (l .0) ≡ true) ⌝ }
-    ensures { λ r. ⌜ GivesSelf (body (now (blocks .entry)) (now (statements .entry)) (now (locals .entry)) (now (scopes .entry)) (now (entries .entry))) counts (walked (matchSelfParam (now (image .entry)) (now (bindings .entry)) (b .0) (startCtx (body (now (blocks .entry)) (now (statements .entry)) (now (locals .entry)) (now (scopes .entry)) (now (entries .entry))) counts DiscrTemp.None) current l)) r (body (now (blocks .exit)) (now (statements .exit)) (now (locals .exit)) (now (scopes .exit)) (now (entries .exit))) ⌝ }
+    ensures { λ r. ⌜ Gives (body (now (blocks .entry)) (now (statements .entry)) (now (locals .entry)) (now (scopes .entry)) (now (entries .entry))) counts (walked (matchSelfParam (now (image .entry)) (now (bindings .entry)) (b .0) (startCtx (body (now (blocks .entry)) (now (statements .entry)) (now (locals .entry)) (now (scopes .entry)) (now (entries .entry))) counts) current l)) r (body (now (blocks .exit)) (now (statements .exit)) (now (locals .exit)) (now (scopes .exit)) (now (entries .exit))) ⌝ }
 {
     clear_above(blocks, statements, locals, scopes, entries, counts);
     let whole = Place {
@@ -220,10 +219,10 @@ pub fn self_step(
         OptBlock::None,
         whole,
     ) {
-        Lowered::Done(c, then, other) => SelfCall::Matched(c, then, other),
+        Lowered::Done(c, then, other) => MatchCall::Matched(c, then, other),
         Lowered::Refused(e, q) => {
             clear_above(blocks, statements, locals, scopes, entries, counts);
-            SelfCall::Refused(e, q)
+            MatchCall::Refused(e, q)
         }
     }
 }

@@ -41,7 +41,7 @@ use Rattle.walks.proofs.Sequences.{lowers-skips, lowers-refuses, lowers-by}
 use Rattle.pattern_switching.specs.Switching.{elseMade, compareStep, thenSwitch, Steps, Switches}
 use Rattle.pattern_tests.specs.Testing.{isLiteral, constantCompared}
 use Rattle.pattern_switching.proofs.Branching.{loweredBy, then-full, then-else-full, then-else-made, then-else-ends, grown-to}
-use Rattle.pattern_tests.proofs.Assigning.{making, assign-no-local, assign-full, assign-then}
+use Rattle.pattern_tests.proofs.Assigning.{assign-no-local, assign-full, assign-then}
 use Rattle.pattern_switching.proofs.Cutting.{in-check, not-in-check}
 use Rattle.pattern_tests.proofs.Cutting.{const-cut}
 
@@ -152,20 +152,20 @@ module _ (image bl₀ s₀ l₀ e₀ : List ℕ) (c : Counts) (p : PatId) (held 
   -- there is no local
   pub compared-no-temp : {err : MirLowerError} {s l e : List ℕ} → Makes (λ st. temp image st 256 current) c current s₀ l₀ e₀ (NewTemp.Refused err) s l e → Compared (Lowered.Refused err p) (lent bl₀ s l e)
   unfolding constantCompared
-  compared-no-temp M = assign-no-local bl₀ p els row switches (making image 256 M)
+  compared-no-temp M = assign-no-local bl₀ p els row switches M
 
   module _ {c₁ : Counts} {n : LocalId} {s₁ s l e : List ℕ} (long : length (place .elems) ≡ 16) (M : Makes (λ st. temp image st 256 current) c current s₀ l₀ e₀ (NewTemp.Local c₁ n) s₁ l e)
       (after : s ≡ statementsAfter c₁ s₁ (row n)) where
     -- there is no room for the statement
     pub compared-full : Counted.Full ≡ newStatement c₁ → Compared (Lowered.Refused MirLowerError.Limit p) (lent bl₀ s l e)
     unfolding constantCompared
-    compared-full full = assign-full bl₀ p els row switches (making image 256 M) (binary-length current n BinOp.Eq (Left.Local held) place long) after full
+    compared-full full = assign-full bl₀ p els row switches M (binary-length current n BinOp.Eq (Left.Local held) place long) after full
 
     -- the block goes on by the local
     pub compared-switches : {c₂ : Counts} {r : Lowered} {bl : List ℕ} → Counted.Now c₂ ≡ newStatement c₁ → Primed (lent bl₀ s₀ l₀ e₀) c → Begins c current els → Switches (switches n) c₂ current els bl₀ r bl →
         Compared r (lent bl s l e)
     unfolding constantCompared
-    compared-switches is P h S = assign-then bl₀ p els row switches (making image 256 M) (binary-length current n BinOp.Eq (Left.Local held) place long) after is P h (S s l e)
+    compared-switches is P h S = assign-then bl₀ p els row switches M (binary-length current n BinOp.Eq (Left.Local held) place long) after is P h (S s l e)
 
 -- `constant_path`
 module _ (image bl₀ s₀ l₀ e₀ : List ℕ) (c : Counts) (mode : MatchingMode) (p : PatId) (ty : ℕ) (operand : Operand) (current : BasicBlockId) (els : OptBlock) (place : Place) where
@@ -193,13 +193,13 @@ module _ (image bl₀ s₀ l₀ e₀ : List ℕ) (c : Counts) (mode : MatchingMo
 
     -- there is no local
     pub path-no-temp : {err : MirLowerError} {s l e : List ℕ} → Makes (λ st. temp image st ty current) c current s₀ l₀ e₀ (NewTemp.Refused err) s l e → Path (Lowered.Refused err p) (lent bl₀ s l e)
-    path-no-temp M = lowers-by path-cut (assign-no-local bl₀ p els copied tested (making image ty M))
+    path-no-temp M = lowers-by path-cut (assign-no-local bl₀ p els copied tested M)
 
     module _ {c₁ : Counts} {n : LocalId} {s₁ s l e : List ℕ} (M : Makes (λ st. temp image st ty current) c current s₀ l₀ e₀ (NewTemp.Local c₁ n) s₁ l e) (after : s ≡ statementsAfter c₁ s₁ (copied n)) where
       -- there is no room for the statement
       pub path-full : Counted.Full ≡ newStatement c₁ → Path (Lowered.Refused MirLowerError.Limit p) (lent bl₀ s l e)
-      path-full full = lowers-by path-cut (assign-full bl₀ p els copied tested (making image ty M) (constant-length current n constant) after full)
+      path-full full = lowers-by path-cut (assign-full bl₀ p els copied tested M (constant-length current n constant) after full)
 
       -- the local is compared
       pub path-tests : {c₂ : Counts} {r : Lowered} {t : Lent} → Counted.Now c₂ ≡ newStatement c₁ → Primed (lent bl₀ s₀ l₀ e₀) c → Begins c current els → Lowers (tested n) c₂ current els (lent bl₀ s l e) r t → Path r t
-      path-tests is P h L = lowers-by path-cut (assign-then bl₀ p els copied tested (making image ty M) (constant-length current n constant) after is P h L)
+      path-tests is P h L = lowers-by path-cut (assign-then bl₀ p els copied tested M (constant-length current n constant) after is P h L)

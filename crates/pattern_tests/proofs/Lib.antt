@@ -2,4 +2,4 @@ mod Assigning
 pub mod Cutting
 mod Constants
 mod Measuring
-mod Sharing
+mod Discriminating

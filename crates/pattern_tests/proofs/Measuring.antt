@@ -38,7 +38,7 @@ use Rattle.walks.proofs.Following.{answers-by}
 use Rattle.pattern_switching.specs.Switching.{elseMade, compareStep, Steps}
 use Rattle.pattern_tests.specs.Testing.{lengthEnd, lengthSwitch, lengthTestBy}
 use Rattle.pattern_switching.proofs.Branching.{loweredBy, else-full, else-then-full, else-then-made, else-then-ends, grown-to}
-use Rattle.pattern_tests.proofs.Assigning.{making, assign-no-local, assign-full, assign-then}
+use Rattle.pattern_tests.proofs.Assigning.{assign-no-local, assign-full, assign-then}
 
 -- `length_end`, with a rest or without
 module _ (image : List ℕ) (c : Counts) (l : LocalId) (n : ℕ) (current on other : BasicBlockId) {rest : Bool} where
@@ -98,17 +98,17 @@ module _ (image bl₀ s₀ l₀ e₀ : List ℕ) (c : Counts) (p : PatId) (n : �
   -- there is no local
   pub measure-no-temp : {err : MirLowerError} {s l e : List ℕ} → Makes (λ st. temp image st 257 current) c current s₀ l₀ e₀ (NewTemp.Refused err) s l e → Measured (Lowered.Refused err p) (lent bl₀ s l e)
   unfolding lengthTestBy
-  measure-no-temp M = assign-no-local bl₀ p els row switches (making image 257 M)
+  measure-no-temp M = assign-no-local bl₀ p els row switches M
 
   module _ {c₁ : Counts} {m : LocalId} {s₁ s l e : List ℕ} (long : length (place .elems) ≡ 16) (M : Makes (λ st. temp image st 257 current) c current s₀ l₀ e₀ (NewTemp.Local c₁ m) s₁ l e)
       (after : s ≡ statementsAfter c₁ s₁ (row m)) where
     -- there is no room for the statement
     pub measure-full : Counted.Full ≡ newStatement c₁ → Measured (Lowered.Refused MirLowerError.Limit p) (lent bl₀ s l e)
     unfolding lengthTestBy
-    measure-full full = assign-full bl₀ p els row switches (making image 257 M) (place-rvalue-length current m PlaceRvalue.Len place long) after full
+    measure-full full = assign-full bl₀ p els row switches M (place-rvalue-length current m PlaceRvalue.Len place long) after full
 
     -- the block goes on by the local
     pub measure-switches : {c₂ : Counts} {r : Lowered} {t : Lent} → Counted.Now c₂ ≡ newStatement c₁ → Primed (lent bl₀ s₀ l₀ e₀) c → Begins c current els → Lowers (switches m) c₂ current els (lent bl₀ s l e) r t →
         Measured r t
     unfolding lengthTestBy
-    measure-switches is P h L = assign-then bl₀ p els row switches (making image 257 M) (place-rvalue-length current m PlaceRvalue.Len place long) after is P h L
+    measure-switches is P h L = assign-then bl₀ p els row switches M (place-rvalue-length current m PlaceRvalue.Len place long) after is P h L

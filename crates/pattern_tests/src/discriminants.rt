@@ -1,4 +1,4 @@
-// The variant of an enum: all tests of enums share one local, which holds the discriminant of what lies at the place.
+// The variant of an enum: a new local holds the discriminant of what lies at the place.
 use image::PatId;
 use image::Tables;
 use image::rows::OperandRow;
@@ -67,17 +67,7 @@ pub fn discriminant_test(
             place,
         ) {
             Counted::Full => Lowered::Refused(MirLowerError::Limit, p),
-            Counted::Now(c2) => then_switch(
-                blocks,
-                c2,
-                DiscrTemp::Some(l),
-                p,
-                l,
-                low,
-                high,
-                current,
-                els,
-            ),
+            Counted::Now(c2) => then_switch(blocks, c2, p, l, low, high, current, els),
         },
     }
 }

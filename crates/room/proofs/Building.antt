@@ -19,9 +19,9 @@ use Rattle.mir.specs.Rvalues.{liveRow}
 use Rattle.state.specs.State.{State}
 use Rattle.state.specs.Steps.{newBlock, setTerminator, pushStatement, newLocal, pushEntry, within, tryBlock, tryStatement, tryLocal, tryEntry, nextLocal}
 use Rattle.lower.specs.declared.merging.OptBlock.{OptBlock}
-use Rattle.lower.specs.Temps.{isSlice, temp, pushStorageLiveForLocal, discrTempPlace}
+use Rattle.lower.specs.Temps.{isSlice, temp, pushStorageLiveForLocal}
 use Rattle.pattern_matching.specs.Walking.{Ctx, elseState}
-use Rattle.counting.specs.Counting.{elseMade, discrMade}
+use Rattle.counting.specs.Counting.{elseMade}
 use Rattle.fitted.proofs.Building.{Kept, kept-on}
 use Rattle.room.proofs.Telling.{Sure, sure-done, sure-stopped, sure-then}
 
@@ -207,20 +207,12 @@ spend-temp {A = A} {base = base} {T = T} image st m word b h = by (isSlice image
         (spend-local st (λ w. make 0 1 0 1 w + m w) word (has-by h _ (omega arith) (omega arith) (omega arith) (omega arith)))
         (λ st₁ h₁. spend-live st₁ m (nextLocal st) b h₁)
 
--- what may still be made once: an else in Check, and the local that tests of enums share. F says whether something can fail, E whether an enum is tested
-abbrev pub onceMore : Bool → Bool → OptBlock → DiscrTemp → Table → ℕ
-onceMore F E els d block = elseMade F els
-onceMore F E els d statement = discrMade E d
-onceMore F E els d local = discrMade E d
-onceMore F E els d entry = discrMade E d
-
--- the local that all tests of enums share
-pub spend-discr : {A : Type 0} {base : Ctx} {T : Table → ℕ} (image : List ℕ) (st : State) (m : Table → ℕ) (b : BasicBlockId) →
-    Has A base T st (λ w. make 0 (discrMade true d) (discrMade true d) (discrMade true d) w + m w) → Sure A base (λ st′. Has A base T st′ m) (discrTempPlace image st d b)
-unfolding discrTempPlace
-spend-discr {A = A} {base = base} {T = T} image st m (DiscrTemp.Some l) b h =
-    sure-done (λ st′. Has A base T st′ m) st (has-by h m (omega arith) (omega arith) (omega arith) (omega arith))
-spend-discr image st m DiscrTemp.None b h = spend-temp image st m 258 b h
+-- what may still be made once: an else in Check. F says whether something can fail
+abbrev pub onceMore : Bool → OptBlock → Table → ℕ
+onceMore F els block = elseMade F els
+onceMore F els statement = 0
+onceMore F els local = 0
+onceMore F els entry = 0
 
 -- the else that there is, or a new block
 pub spend-else : {A : Type 0} {base : Ctx} {T : Table → ℕ} (st : State) (m : Table → ℕ) (els : OptBlock) → Has A base T st (λ w. make (elseMade true els) 0 0 0 w + m w) →

@@ -16,13 +16,13 @@ use Rattle.pattern_matching.specs.declared.MatchingMode.{MatchingMode}
 use Rattle.pattern_matching.specs.Walking.{Ctx, Out, Walk, ok, Lowering, next, out, withState, elseState}
 use Rattle.pattern_matching.specs.Patterns.{Alternatives, behind, alternative, alternatives, alternativesEnd, orPattern}
 use Rattle.counting.specs.Reaching.{allAlternatives, Reached, Reaching, anOr, throughAlternatives}
-use Rattle.counting.specs.Counting.{one, total, someEnum, elseMade}
-use Rattle.counting.proofs.Passing.{Pass, checks, binds, modeOf, inChecks, total-append, some-append}
+use Rattle.counting.specs.Counting.{one, total, elseMade}
+use Rattle.counting.proofs.Passing.{Pass, checks, binds, modeOf, inChecks, total-append}
 use Rattle.fitted.proofs.Walks.{on-kept}
 use Rattle.room.specs.Elements.{mostOfAlternatives}
 use Rattle.room.proofs.Telling.{Sound, sound-ok, sound-next, sound-step, sound-as, sound-and}
 use Rattle.room.proofs.Building.{Table, block, statement, local, entry, make, Has, has-as, has-by, has-terminator, onceMore, spend-block, spend-else}
-use Rattle.room.proofs.Spending.{At, Reaches, reach-none, reach-max, no-or, tested, own, spent, AllAbove, above-append, or-first, or-second, Fares, Leaves, Spends}
+use Rattle.room.proofs.Spending.{At, Reaches, reach-none, reach-max, no-or, tested, own, spent, AllAbove, above-append, Fares, Leaves, Spends}
 use Rattle.room.proofs.Rows.{flaggedAs, Settled, Headed, Pays, Each, none-left, one-more}
 
 -- in Bind each pattern below an Or is tested once more
@@ -70,11 +70,6 @@ module _ {k : ℕ} {rs : Bool → List Reached} (h : Headed k rs) (f : Bool) whe
       by local = refl
       by entry = refl
 
-  -- as many enums are tested
-  flag-enum : someEnum (rs f) ≡ someEnum (rs false)
-  unfolding someEnum
-  flag-enum = rw (h .is f, h .is false)
-
   -- as many Ors are above
   flag-above : (j : ℕ) → AllAbove j (rs false) → AllAbove j (rs f)
   flag-above j a =
@@ -86,11 +81,11 @@ no-else OptBlock.None = refl
 no-else (OptBlock.Some b) = refl
 
 -- what an alternative leaves: the room that is left, and an else only if it can fail
-abbrev Tried : Type 0 → Ctx → (Table → ℕ) → Bool → Bool → (Table → ℕ) → OptBlock → Bool → Out → Type 0
-Tried A base T F E m els fails r = Fares A base T F E m (r .ctx) els × Settled fails (r .else)
+abbrev Tried : Type 0 → Ctx → (Table → ℕ) → Bool → (Table → ℕ) → OptBlock → Bool → Out → Type 0
+Tried A base T F m els fails r = Fares A base T F m (r .ctx) els × Settled fails (r .else)
 
 module _ {A : Type 0} {base : Ctx} {image : List ℕ} {l : Lowering} {fails : PlaceTy → Bool} {reach : Reaching} {deep : PlaceTy → ℕ} (pays : Pays A base image l fails reach deep) (ty : PlaceTy) (k : ℕ)
-    (T : Table → ℕ) (F E : Bool) (m : Table → ℕ) (els : OptBlock) where
+    (T : Table → ℕ) (F : Bool) (m : Table → ℕ) (els : OptBlock) where
   -- the patterns that are reached
   abbrev rs : Bool → List Reached
   rs f = reach ty (k + 1) f
@@ -100,11 +95,10 @@ module _ {A : Type 0} {base : Ctx} {image : List ℕ} {l : Lowering} {fails : Pl
   kept w = make (elseMade F els) 0 0 0 w + m w
 
   -- the test of an alternative
-  sound-tried : (c : Ctx) (current : BasicBlockId) (place : Place) (n : Table → ℕ) → At image base place ty → (A → place .len + deep ty ≤ 16) → (someEnum (rs (fails ty)) ≡ true → E ≡ true) →
-      Fares A base T F E (λ w. total (tested w) (rs (fails ty)) + (n w + m w)) c els →
-      Sound A base (λ r. Has A base T (r .ctx .state) (λ w. onceMore (fails ty) E (r .else) w + (n w + kept w)) × Settled (fails ty) (r .else))
+  sound-tried : (c : Ctx) (current : BasicBlockId) (place : Place) (n : Table → ℕ) → At image base place ty → (A → place .len + deep ty ≤ 16) → Fares A base T F (λ w. total (tested w) (rs (fails ty)) + (n w + m w)) c els →
+      Sound A base (λ r. Has A base T (r .ctx .state) (λ w. onceMore (fails ty) (r .else) w + (n w + kept w)) × Settled (fails ty) (r .else))
       (l MatchingMode.Check c current OptBlock.None place)
-  sound-tried c current place n at len enum h =
+  sound-tried c current place n at len h =
       let flag = flag-tested (pays .headed ty (k + 1)) (fails ty) in
       let a = flag block in
       let b = flag statement in
@@ -112,30 +106,29 @@ module _ {A : Type 0} {base : Ctx} {image : List ℕ} {l : Lowering} {fails : Pl
       let e = flag entry in
       sound-and
       (sound-as (λ r q. q .0)
-      (pays .spends ty .goes checks (k + 1) T (fails ty) E (λ w. n w + kept w) c current OptBlock.None place at len (λ t. t) (λ t. enum (flag-enum (pays .headed ty (k + 1)) (fails ty) ∙ t))
+      (pays .spends ty .goes checks (k + 1) T (fails ty) (λ w. n w + kept w) c current OptBlock.None place at len (λ t. t)
       (has-by h _ (omega (arith, a)) (omega (arith, b)) (omega (arith, d)) (omega (arith, e)))))
       (pays .settles ty c current place (on-kept {c = base} {c′ = c} (h .kept) (at .on)))
 
   -- an alternative, in Bind after its test
-  sound-alternative : (pass : Pass) (c : Ctx) (current : BasicBlockId) (place : Place) → At image base place ty → (A → place .len + deep ty ≤ 16) → (someEnum (rs (fails ty)) ≡ true → E ≡ true) →
-      Fares A base T F E (λ w. total (spent pass k w) (rs (fails ty)) + m w) c els →
-      Sound A base (λ r. Tried A base T F E m els (fails ty) r × Reaches pass place (deep ty)) (alternative l (modeOf pass) c current place)
-  sound-alternative checks c current place at len enum h =
-      sound-next (l MatchingMode.Check c current OptBlock.None place) (λ r. ok r) (sound-tried c current place (λ w. 0) at len enum (has-as _ (λ w. omega arith) h)) (λ r t.
+  sound-alternative : (pass : Pass) (c : Ctx) (current : BasicBlockId) (place : Place) → At image base place ty → (A → place .len + deep ty ≤ 16) → Fares A base T F (λ w. total (spent pass k w) (rs (fails ty)) + m w) c els →
+      Sound A base (λ r. Tried A base T F m els (fails ty) r × Reaches pass place (deep ty)) (alternative l (modeOf pass) c current place)
+  sound-alternative checks c current place at len h =
+      sound-next (l MatchingMode.Check c current OptBlock.None place) (λ r. ok r) (sound-tried c current place (λ w. 0) at len (has-as _ (λ w. omega arith) h)) (λ r t.
       let q = t .1 .1 in
-      sound-ok (λ r. Tried A base T F E m els (fails ty) r × Reaches checks place (deep ty)) r ((has-by (t .0) _ (omega (arith, q)) (omega arith) (omega arith) (omega arith), t .1), tt))
-  sound-alternative binds c current place at len enum h =
+      sound-ok (λ r. Tried A base T F m els (fails ty) r × Reaches checks place (deep ty)) r ((has-by (t .0) _ (omega (arith, q)) (omega arith) (omega arith) (omega arith), t .1), tt))
+  sound-alternative binds c current place at len h =
       sound-next (l MatchingMode.Check c current OptBlock.None place) again
-      (sound-tried c current place (λ w. total (spent binds (k + 1) w) (rs false)) at len enum
+      (sound-tried c current place (λ w. total (spent binds (k + 1) w) (rs false)) at len
       (has-as _ (λ w.
       let a = once-more k w (rs (fails ty)) (flag-above (pays .headed ty (k + 1)) (fails ty) (k + 1) (pays .spends ty .above (k + 1))) in
       let b = flag-bound (pays .headed ty (k + 1)) (fails ty) w in
       omega (arith, a, b)) h)) (λ r t.
       sound-next (l MatchingMode.Bind (r .ctx) (r .then) OptBlock.None place) (last r)
-      (pays .spends ty .goes binds (k + 1) T false E kept (r .ctx) (r .then) OptBlock.None place at len (λ t. absurd (false≢true t)) (λ t. enum (flag-enum (pays .headed ty (k + 1)) (fails ty) ∙ t))
+      (pays .spends ty .goes binds (k + 1) T false kept (r .ctx) (r .then) OptBlock.None place at len (λ t. absurd (false≢true t))
       (let q = t .1 .1 in has-by (t .0) _ (omega (arith, q)) (omega arith) (omega arith) (omega arith))) (λ r′ h′.
       let q′ = no-else (r′ .else) in
-      sound-ok (λ r. Tried A base T F E m els (fails ty) r × Reaches binds place (deep ty)) (record { ctx = r′ .ctx; then = r′ .then; else = r .else })
+      sound-ok (λ r. Tried A base T F m els (fails ty) r × Reaches binds place (deep ty)) (record { ctx = r′ .ctx; then = r′ .then; else = r .else })
       ((has-by (h′ .0) _ (omega (arith, q′)) (omega arith) (omega arith) (omega arith), t .1), h′ .1)))
     where
       last : Out → Out → Walk Out
@@ -145,15 +138,15 @@ module _ {A : Type 0} {base : Ctx} {image : List ℕ} {l : Lowering} {fails : Pl
       again r = next (l MatchingMode.Bind (r .ctx) (r .then) OptBlock.None place) (last r)
 
 -- what alternatives leave: the room that is left, and a block where the last does not match only if all can fail
-abbrev Chosen : Type 0 → Ctx → (Table → ℕ) → Bool → Bool → (Table → ℕ) → OptBlock → Bool → Alternatives → Type 0
-Chosen A base T F E m els all a = Fares A base T F E m (a .ctx) els × (all ≡ false → a .left ≡ OptBlock.None)
+abbrev Chosen : Type 0 → Ctx → (Table → ℕ) → Bool → (Table → ℕ) → OptBlock → Bool → Alternatives → Type 0
+Chosen A base T F m els all a = Fares A base T F m (a .ctx) els × (all ≡ false → a .left ≡ OptBlock.None)
 
 -- the walk ends behind an alternative that leaves no block
-sound-last : {A : Type 0} {base : Ctx} {T : Table → ℕ} (F E : Bool) (m : Table → ℕ) (els : OptBlock) (all : Bool) (c : Ctx) (left : OptBlock) (rest : BasicBlockId → Walk Alternatives) → left ≡ OptBlock.None →
-    Fares A base T F E m c els → Sound A base (Chosen A base T F E m els all) (behind left c rest)
-sound-last {A = A} {base = base} {T = T} F E m els all c left rest e h =
-    subst (λ (x : OptBlock). Sound A base (Chosen A base T F E m els all) (behind x c rest)) (sym e)
-    (sound-ok (Chosen A base T F E m els all) (record { ctx = c; left = OptBlock.None }) (h, λ q. refl))
+sound-last : {A : Type 0} {base : Ctx} {T : Table → ℕ} (F : Bool) (m : Table → ℕ) (els : OptBlock) (all : Bool) (c : Ctx) (left : OptBlock) (rest : BasicBlockId → Walk Alternatives) → left ≡ OptBlock.None →
+    Fares A base T F m c els → Sound A base (Chosen A base T F m els all) (behind left c rest)
+sound-last {A = A} {base = base} {T = T} F m els all c left rest e h =
+    subst (λ (x : OptBlock). Sound A base (Chosen A base T F m els all) (behind x c rest)) (sym e)
+    (sound-ok (Chosen A base T F m els all) (record { ctx = c; left = OptBlock.None }) (h, λ q. refl))
 
 -- and goes on behind one that leaves one
 sound-others : {A : Type 0} {base : Ctx} {Q : Alternatives → Type 0} (c : Ctx) (left : OptBlock) (rest : BasicBlockId → Walk Alternatives) → elseMade true left ≡ 0 →
@@ -161,19 +154,18 @@ sound-others : {A : Type 0} {base : Ctx} {Q : Alternatives → Type 0} (c : Ctx)
 sound-others c OptBlock.None rest q then = absurd (omega (arith, q))
 sound-others c (OptBlock.Some b) rest q then = then b
 
-module _ {A : Type 0} {base : Ctx} {image : List ℕ} (p : ℕ) (ty : PlaceTy) (k : ℕ) (T : Table → ℕ) (F E : Bool) (m : Table → ℕ) (els : OptBlock) (pass : Pass) (join : BasicBlockId) (place : Place)
+module _ {A : Type 0} {base : Ctx} {image : List ℕ} (p : ℕ) (ty : PlaceTy) (k : ℕ) (T : Table → ℕ) (F : Bool) (m : Table → ℕ) (els : OptBlock) (pass : Pass) (join : BasicBlockId) (place : Place)
     (at : At image base place ty) where
   -- alternatives, up to the first that cannot fail
   sound-alternatives : {ls : List Lowering} {fs : List (PlaceTy → Bool)} {rs : List Reaching} {ds : List (PlaceTy → ℕ)} → Each A base image ls fs rs ds → (c : Ctx) (current : BasicBlockId) →
-      (A → place .len + mostOfAlternatives ty fs ds ≤ 16) → (someEnum (throughAlternatives ty k fs rs) ≡ true → E ≡ true) →
-      Fares A base T F E (λ w. total (spent pass k w) (throughAlternatives ty k fs rs) + m w) c els →
-      Sound A base (λ a. Chosen A base T F E m els (allAlternatives ty fs) a × Reaches pass place (mostOfAlternatives ty fs ds)) (alternatives p ls (modeOf pass) c join current place)
+      (A → place .len + mostOfAlternatives ty fs ds ≤ 16) → Fares A base T F (λ w. total (spent pass k w) (throughAlternatives ty k fs rs) + m w) c els →
+      Sound A base (λ a. Chosen A base T F m els (allAlternatives ty fs) a × Reaches pass place (mostOfAlternatives ty fs ds)) (alternatives p ls (modeOf pass) c join current place)
   unfolding alternatives allAlternatives throughAlternatives mostOfAlternatives total
-  sound-alternatives none-left c current len enum h =
-      sound-ok (λ a. Chosen A base T F E m els true a × Reaches pass place 0) (record { ctx = c; left = OptBlock.Some current })
+  sound-alternatives none-left c current len h =
+      sound-ok (λ a. Chosen A base T F m els true a × Reaches pass place 0) (record { ctx = c; left = OptBlock.Some current })
       ((has-as _ (λ w. omega arith) h, λ q. absurd (true≢false q)), reach-none pass place (at .short))
-  sound-alternatives (one-more {l = l} {fails = fails} {reach = reach} {deep = deep} {ls = ls} {fs = fs} {rs = rs} {ds = ds} pays e) c current len enum h =
-      by (fails ty) refl (λ c current len enum h. sound-alternatives e c current len enum h)
+  sound-alternatives (one-more {l = l} {fails = fails} {reach = reach} {deep = deep} {ls = ls} {fs = fs} {rs = rs} {ds = ds} pays e) c current len h =
+      by (fails ty) refl (λ c current len h. sound-alternatives e c current len h)
     where
       first : List Reached
       first = reach ty (k + 1) (fails ty)
@@ -188,23 +180,21 @@ module _ {A : Type 0} {base : Ctx} {image : List ℕ} (p : ℕ) (ty : PlaceTy) (
       rest r b = alternatives p ls (modeOf pass) (goto r) join b place
 
       by : (x : Bool) → fails ty ≡ x →
-          ((c : Ctx) (current : BasicBlockId) → (A → place .len + mostOfAlternatives ty fs ds ≤ 16) → (someEnum others ≡ true → E ≡ true) →
-          Fares A base T F E (λ w. total (spent pass k w) others + m w) c els →
-          Sound A base (λ a. Chosen A base T F E m els (allAlternatives ty fs) a × Reaches pass place (mostOfAlternatives ty fs ds)) (alternatives p ls (modeOf pass) c join current place)) →
-          Sound A base (λ a. Chosen A base T F E m els (fails ty && allAlternatives ty fs) a × Reaches pass place (max (deep ty) (cond (fails ty) (mostOfAlternatives ty fs ds) 0))) (next (alternative l (modeOf pass) c current place) (λ r. behind (r .else) (goto r) (rest r)))
+          ((c : Ctx) (current : BasicBlockId) → (A → place .len + mostOfAlternatives ty fs ds ≤ 16) → Fares A base T F (λ w. total (spent pass k w) others + m w) c els →
+          Sound A base (λ a. Chosen A base T F m els (allAlternatives ty fs) a × Reaches pass place (mostOfAlternatives ty fs ds)) (alternatives p ls (modeOf pass) c join current place)) →
+          Sound A base (λ a. Chosen A base T F m els (fails ty && allAlternatives ty fs) a × Reaches pass place (max (deep ty) (cond (fails ty) (mostOfAlternatives ty fs ds) 0))) (next (alternative l (modeOf pass) c current place) (λ r. behind (r .else) (goto r) (rest r)))
       by false q below =
           let d = le-max-left (deep ty) (cond (fails ty) (mostOfAlternatives ty fs ds) 0) in
           let these : cond (fails ty) others [] ≡ [] = ap {B = List Reached} (λ (x : Bool). cond x others []) q in
           let none : cond (fails ty) (mostOfAlternatives ty fs ds) 0 ≡ 0 = ap {B = ℕ} (λ (x : Bool). cond x (mostOfAlternatives ty fs ds) 0) q in
           sound-next (alternative l (modeOf pass) c current place) (λ r. behind (r .else) (goto r) (rest r))
-          (sound-alternative pays ty k T F E m els pass c current place at (λ a. let x = len a in omega (arith, x, d))
-          (λ t. enum (some-append first (cond (fails ty) others []) ∙ or-first (someEnum first) (someEnum (cond (fails ty) others [])) t))
+          (sound-alternative pays ty k T F m els pass c current place at (λ a. let x = len a in omega (arith, x, d))
           (has-as _ (λ w.
           let x = total-append (spent pass k w) first (cond (fails ty) others []) in
           let y : total (spent pass k w) (cond (fails ty) others []) ≡ 0 = ap (total (spent pass k w)) these in
           omega (arith, x, y)) h)) (λ r t.
           sound-as (λ a g. (g, reach-max pass place (deep ty) _ (t .1) (subst (λ (n : ℕ). Reaches pass place n) (sym none) (reach-none pass place (at .short)))))
-          (sound-last F E m els (fails ty && allAlternatives ty fs) (goto r) (r .else) (rest r) (t .0 .1 .0 q) (has-terminator (r .ctx .state) _ (r .then) _ (t .0 .0))))
+          (sound-last F m els (fails ty && allAlternatives ty fs) (goto r) (r .else) (rest r) (t .0 .1 .0 q) (has-terminator (r .ctx .state) _ (r .then) _ (t .0 .0))))
       by true q below =
           let d = le-max-left (deep ty) (cond (fails ty) (mostOfAlternatives ty fs ds) 0) in
           let d′ = le-max-right (deep ty) (cond (fails ty) (mostOfAlternatives ty fs ds) 0) in
@@ -212,8 +202,7 @@ module _ {A : Type 0} {base : Ctx} {image : List ℕ} (p : ℕ) (ty : PlaceTy) (
           let most : cond (fails ty) (mostOfAlternatives ty fs ds) 0 ≡ mostOfAlternatives ty fs ds = ap {B = ℕ} (λ (x : Bool). cond x (mostOfAlternatives ty fs ds) 0) q in
           let all : (fails ty && allAlternatives ty fs) ≡ allAlternatives ty fs = ap {B = Bool} (λ (x : Bool). x && allAlternatives ty fs) q in
           sound-next (alternative l (modeOf pass) c current place) (λ r. behind (r .else) (goto r) (rest r))
-          (sound-alternative pays ty k T F E (λ w. total (spent pass k w) others + m w) els pass c current place at (λ a. let x = len a in omega (arith, x, d))
-          (λ t. enum (some-append first (cond (fails ty) others []) ∙ or-first (someEnum first) (someEnum (cond (fails ty) others [])) t))
+          (sound-alternative pays ty k T F (λ w. total (spent pass k w) others + m w) els pass c current place at (λ a. let x = len a in omega (arith, x, d))
           (has-as _ (λ w.
           let x = total-append (spent pass k w) first (cond (fails ty) others []) in
           let y : total (spent pass k w) (cond (fails ty) others []) ≡ total (spent pass k w) others = ap (total (spent pass k w)) these in
@@ -221,29 +210,28 @@ module _ {A : Type 0} {base : Ctx} {image : List ℕ} (p : ℕ) (ty : PlaceTy) (
           let h′ = has-terminator (r .ctx .state) _ (r .then) (Terminator.Goto join) (t .0 .0) in
           sound-others (goto r) (r .else) (rest r) (sym (ap {B = ℕ} (λ (x : Bool). elseMade x (r .else)) q) ∙ t .0 .1 .1) (λ b.
           sound-as (λ a g. ((g .0 .0, λ q. g .0 .1 (sym all ∙ q)), reach-max pass place (deep ty) _ (t .1) (subst (λ (n : ℕ). Reaches pass place n) (sym most) (g .1))))
-          (below (goto r) b (λ a. let x = len a in omega (arith, x, d′, most))
-          (λ t. enum (some-append first (cond (fails ty) others []) ∙ or-second (someEnum first) (someEnum (cond (fails ty) others [])) (ap someEnum these ∙ t))) h′)))
+          (below (goto r) b (λ a. let x = len a in omega (arith, x, d′, most)) h′)))
 
 -- where the last alternative does not match, an else is taken in Check
-sound-left : {A : Type 0} {base : Ctx} {T : Table → ℕ} (p : ℕ) (F E : Bool) (m : Table → ℕ) (els : OptBlock) (pass : Pass) (join : BasicBlockId) (all : Bool) (a : Alternatives) → (inChecks pass all ≡ true → F ≡ true) →
-    Chosen A base T F E m els all a → Sound A base (Leaves A base T F E m) (alternativesEnd p (modeOf pass) a join els)
+sound-left : {A : Type 0} {base : Ctx} {T : Table → ℕ} (p : ℕ) (F : Bool) (m : Table → ℕ) (els : OptBlock) (pass : Pass) (join : BasicBlockId) (all : Bool) (a : Alternatives) → (inChecks pass all ≡ true → F ≡ true) →
+    Chosen A base T F m els all a → Sound A base (Leaves A base T F m) (alternativesEnd p (modeOf pass) a join els)
 unfolding alternativesEnd
-sound-left {A = A} {base = base} {T = T} p F E m els pass join all a f (h, left) = by pass all (a .left) f left
+sound-left {A = A} {base = base} {T = T} p F m els pass join all a f (h, left) = by pass all (a .left) f left
   where
-    checked : (F : Bool) (b : BasicBlockId) → F ≡ true → Fares A base T F E m (a .ctx) els →
-        Sound A base (Leaves A base T F E m) (alternativesEnd p MatchingMode.Check (record { ctx = a .ctx; left = OptBlock.Some b }) join els)
+    checked : (F : Bool) (b : BasicBlockId) → F ≡ true → Fares A base T F m (a .ctx) els →
+        Sound A base (Leaves A base T F m) (alternativesEnd p MatchingMode.Check (record { ctx = a .ctx; left = OptBlock.Some b }) join els)
     checked false b e h = absurd (false≢true e)
     checked true b e h =
         sound-step p (elseState (a .ctx .state) els) _
-        (spend-else (a .ctx .state) (λ w. onceMore false E OptBlock.None (a .ctx .discr) w + m w) els (has-by h _ (omega arith) (omega arith) (omega arith) (omega arith))) (λ st h′.
-        sound-ok (Leaves A base T true E m) _ (has-terminator st _ b _ (has-by h′ _ (omega arith) (omega arith) (omega arith) (omega arith))))
+        (spend-else (a .ctx .state) (λ w. onceMore false OptBlock.None w + m w) els (has-by h _ (omega arith) (omega arith) (omega arith) (omega arith))) (λ st h′.
+        sound-ok (Leaves A base T true m) _ (has-terminator st _ b _ (has-by h′ _ (omega arith) (omega arith) (omega arith) (omega arith))))
 
     by : (pass : Pass) (all : Bool) (left : OptBlock) → (inChecks pass all ≡ true → F ≡ true) → (all ≡ false → left ≡ OptBlock.None) →
-        Sound A base (Leaves A base T F E m) (alternativesEnd p (modeOf pass) (record { ctx = a .ctx; left = left }) join els)
-    by pass all OptBlock.None f q = sound-ok (Leaves A base T F E m) _ h
+        Sound A base (Leaves A base T F m) (alternativesEnd p (modeOf pass) (record { ctx = a .ctx; left = left }) join els)
+    by pass all OptBlock.None f q = sound-ok (Leaves A base T F m) _ h
     by checks true (OptBlock.Some b) f q = checked F b (f refl) h
     by checks false (OptBlock.Some b) f q = absurd (let e = q refl in let z : _≡_ {A = ℕ} 0 1 = cc in omega arith)
-    by binds all (OptBlock.Some b) f q = sound-ok (Leaves A base T F E m) _ (has-terminator (a .ctx .state) _ b Terminator.Unreachable h)
+    by binds all (OptBlock.Some b) f q = sound-ok (Leaves A base T F m) _ (has-terminator (a .ctx .state) _ b Terminator.Unreachable h)
 
 -- k Ors are above what is reached through alternatives
 above-alternatives : {A : Type 0} {base : Ctx} {image : List ℕ} {ls : List Lowering} {fs : List (PlaceTy → Bool)} {rs : List Reaching} {ds : List (PlaceTy → ℕ)} (ty : PlaceTy) (k : ℕ) →
@@ -262,20 +250,20 @@ above-alternatives ty k (one-more {fails = fails} {reach = reach} {fs = fs} {rs 
 pub spends-or : {A : Type 0} {base : Ctx} {image : List ℕ} {ls : List Lowering} {fs : List (PlaceTy → Bool)} {rs : List Reaching} {ds : List (PlaceTy → ℕ)} (ty : PlaceTy) (h : Head) →
     Each A base image ls fs rs ds →
     Spends A base image ty (orPattern (h .number) ls) (allAlternatives ty fs) (mostOfAlternatives ty fs ds) (λ k. anOr h k false ∷ throughAlternatives ty k fs rs)
-unfolding orPattern total someEnum
+unfolding orPattern total
 spends-or {A = A} {base = base} {fs = fs} {rs = rs} ty h e =
     record {
       above = λ k. (le-refl _, above-alternatives ty k e);
-      goes = λ pass k T F E m c current els place at len f enum room.
+      goes = λ pass k T F m c current els place at len f room.
           sound-step (h .number) (tryBlock (c .state)) _
-          (spend-block (c .state) (λ w. onceMore F E els w + (total (spent pass k w) (throughAlternatives ty k fs rs) + m w)) (joined pass k T F E m c els room)) (λ st g.
+          (spend-block (c .state) (λ w. onceMore F els w + (total (spent pass k w) (throughAlternatives ty k fs rs) + m w)) (joined pass k T F m c els room)) (λ st g.
           sound-next (alternatives (h .number) _ (modeOf pass) (withState c st) (nextBlock (c .state)) current place) _
-          (sound-alternatives (h .number) ty k T F E m els pass (nextBlock (c .state)) place at e (withState c st) current len enum g) (λ a g′.
-          sound-as (λ r z. (z, g′ .1)) (sound-left (h .number) F E m els pass (nextBlock (c .state)) (allAlternatives ty fs) a f (g′ .0))));
+          (sound-alternatives (h .number) ty k T F m els pass (nextBlock (c .state)) place at e (withState c st) current len g) (λ a g′.
+          sound-as (λ r z. (z, g′ .1)) (sound-left (h .number) F m els pass (nextBlock (c .state)) (allAlternatives ty fs) a f (g′ .0))));
     }
   where
-    joined : (pass : Pass) (k : ℕ) (T : Table → ℕ) (F E : Bool) (m : Table → ℕ) (c : Ctx) (els : OptBlock) →
-        Has A base T (c .state) (λ w. onceMore F E els w + (total (spent pass k w) (anOr h k false ∷ throughAlternatives ty k fs rs) + m w)) →
-        Has A base T (c .state) (λ w. make 1 0 0 0 w + (onceMore F E els w + (total (spent pass k w) (throughAlternatives ty k fs rs) + m w)))
-    joined checks k T F E m c els room = has-by room _ (omega arith) (omega arith) (omega arith) (omega arith)
-    joined binds k T F E m c els room = has-by room _ (omega arith) (omega arith) (omega arith) (omega arith)
+    joined : (pass : Pass) (k : ℕ) (T : Table → ℕ) (F : Bool) (m : Table → ℕ) (c : Ctx) (els : OptBlock) →
+        Has A base T (c .state) (λ w. onceMore F els w + (total (spent pass k w) (anOr h k false ∷ throughAlternatives ty k fs rs) + m w)) →
+        Has A base T (c .state) (λ w. make 1 0 0 0 w + (onceMore F els w + (total (spent pass k w) (throughAlternatives ty k fs rs) + m w)))
+    joined checks k T F m c els room = has-by room _ (omega arith) (omega arith) (omega arith) (omega arith)
+    joined binds k T F m c els room = has-by room _ (omega arith) (omega arith) (omega arith) (omega arith)

@@ -23,8 +23,8 @@ use Rattle.pattern_matching.specs.Variants.{patternMatchAdt}
 use Rattle.pattern_matching.specs.Slices.{RestOf, lengthTest, restBound, sliceItems, sliceOn, suffixItems}
 use Rattle.pattern_matching.specs.Patterns.{bindPattern}
 use Rattle.counting.specs.Reaching.{Argument, zip, isSliceShape, items, someArgument, Reached, Reaching, testing, binding, lengthStatements, restBinds, throughArguments}
-use Rattle.counting.specs.Counting.{total, someEnum}
-use Rattle.counting.proofs.Passing.{Pass, checks, binds, modeOf, inChecks, total-append, some-append}
+use Rattle.counting.specs.Counting.{total}
+use Rattle.counting.proofs.Passing.{Pass, checks, binds, modeOf, inChecks, total-append}
 use Rattle.counting.proofs.Arguments.{fit-all}
 use Rattle.counting.proofs.Rows.{through-append, some-argument-append}
 use Rattle.room.specs.Elements.{mostOfArguments, restElements}
@@ -35,10 +35,10 @@ use Rattle.room.proofs.Rows.{Each, none-left, one-more, Row, spends-arg
 use Rattle.room.proofs.Testing.{sound-length, sound-binding}
 
 -- what a binding takes in Bind
-fills : {A : Type 0} {base : Ctx} {T : Table → ℕ} (h : Head) (k : ℕ) (F E : Bool) (m : Table → ℕ) (c : Ctx) (els : OptBlock) → Fares A base T F E (λ w. total (spent binds k w) (binding h k false 0 0 2 ∷ []) + m w) c els →
-    Fares A base T F E (λ w. make 0 2 0 1 w + m w) c els
+fills : {A : Type 0} {base : Ctx} {T : Table → ℕ} (h : Head) (k : ℕ) (F : Bool) (m : Table → ℕ) (c : Ctx) (els : OptBlock) → Fares A base T F (λ w. total (spent binds k w) (binding h k false 0 0 2 ∷ []) + m w) c els →
+    Fares A base T F (λ w. make 0 2 0 1 w + m w) c els
 unfolding total
-fills h k F E m c els room = has-by room _ (omega arith) (omega arith) (omega arith) (omega arith)
+fills h k F m c els room = has-by room _ (omega arith) (omega arith) (omega arith) (omega arith)
 
 module _ {A : Type 0} {base : Ctx} {image : List ℕ} (ty : PlaceTy) (h : Head) where
   -- a binding
@@ -48,20 +48,19 @@ module _ {A : Type 0} {base : Ctx} {image : List ℕ} (ty : PlaceTy) (h : Head) 
   unfolding total
   spends-binding bindings q b how = record { above = λ k. (le-refl _, tt); goes = by }
     where
-      by : (pass : Pass) (k : ℕ) (T : Table → ℕ) (F E : Bool) (m : Table → ℕ) (c : Ctx) (current : BasicBlockId) (els : OptBlock) (place : Place) → At image base place ty → (A → place .len + 0 ≤ 16) →
-          (inChecks pass false ≡ true → F ≡ true) → (someEnum (binding h k false 0 0 2 ∷ []) ≡ true → E ≡ true) → Fares A base T F E (λ w. total (spent pass k w) (binding h k false 0 0 2 ∷ []) + m w) c els →
-          Sound A base (Ends A base T F E m pass place 0) (inCheck (modeOf pass) (out c current els) (patternMatchBinding bindings (h .number) q b how c current els place))
-      by checks k T F E m c current els place at len f enum room = sound-ok (Ends A base T F E m checks place 0) _ (has-by room _ (omega arith) (omega arith) (omega arith) (omega arith), tt)
-      by binds k T F E m c current els place at len f enum room =
-          sound-as (λ r z. (z, reach-none binds place (at .short))) (sound-binding image (h .number) E m c F bindings q b how current els place (fills h k F E m c els room))
+      by : (pass : Pass) (k : ℕ) (T : Table → ℕ) (F : Bool) (m : Table → ℕ) (c : Ctx) (current : BasicBlockId) (els : OptBlock) (place : Place) → At image base place ty → (A → place .len + 0 ≤ 16) →
+          (inChecks pass false ≡ true → F ≡ true) → Fares A base T F (λ w. total (spent pass k w) (binding h k false 0 0 2 ∷ []) + m w) c els →
+          Sound A base (Ends A base T F m pass place 0) (inCheck (modeOf pass) (out c current els) (patternMatchBinding bindings (h .number) q b how c current els place))
+      by checks k T F m c current els place at len f room = sound-ok (Ends A base T F m checks place 0) _ (has-by room _ (omega arith) (omega arith) (omega arith) (omega arith), tt)
+      by binds k T F m c current els place at len f room =
+          sound-as (λ r z. (z, reach-none binds place (at .short))) (sound-binding image (h .number) m c F bindings q b how current els place (fills h k F m c els room))
 
   -- a Bind: its subpattern first
   pub spends-bind : {l : Lowering} {fails : Bool} {deep : ℕ} {rs : ℕ → List Reached} (bindings : List ℕ) (b : ℕ) (how : BindingMode) → Spends A base image ty l fails deep rs →
       Spends A base image ty (bindPattern bindings (h .number) b how l) fails deep (λ k. binding h k false 0 0 2 ∷ rs k)
-  unfolding bindPattern total someEnum
+  unfolding bindPattern total
   spends-bind {l = l} {fails = fails} {deep = deep} {rs = rs} bindings b how g =
       let both = spends-within {fails′ = fails} {deep′ = deep} {rs′ = λ k. binding h k false 0 0 2 ∷ rs k} (or-only fails) (max-zero deep) (λ k. (le-refl _, g .above k))
-      (λ k t. or-only (someEnum (rs k)) (sym (some-append (rs k) (binding h k false 0 0 2 ∷ [])) ∙ t))
       (λ pass k w. let x = total-append (spent pass k w) (rs k) (binding h k false 0 0 2 ∷ []) in omega (arith, x)) (spends-both l _ g (spends-binding bindings (h .number) b how)) in
       record { above = both .above; goes = both .goes }
     where
@@ -76,27 +75,27 @@ module _ {A : Type 0} {base : Ctx} {image : List ℕ} (ty : PlaceTy) (h : Head) 
   spends-rest bindings front end RestOf.none =
       record {
         above = λ k. (le-refl _, tt);
-        goes = λ pass k T F E m c current els place at len f enum room.
-            sound-ok (Ends A base T F E m pass place 0) _
+        goes = λ pass k T F m c current els place at len f room.
+            sound-ok (Ends A base T F m pass place 0) _
             (has-as _ (λ w. let a = spent-free (λ k. testing h k false 0 0) (free-testing h) pass k w in omega (arith, a)) room, reach-none pass place (at .short));
       }
   spends-rest bindings front end RestOf.ignores =
       record {
         above = λ k. (le-refl _, tt);
-        goes = λ pass k T F E m c current els place at len f enum room.
-            sound-ok (Ends A base T F E m pass place 0) _
+        goes = λ pass k T F m c current els place at len f room.
+            sound-ok (Ends A base T F m pass place 0) _
             (has-as _ (λ w. let a = spent-free (λ k. testing h k false 0 0) (free-testing h) pass k w in omega (arith, a)) room, reach-none pass place (at .short));
       }
   spends-rest bindings front end (RestOf.binds q b how) = record { above = λ k. (le-refl _, tt); goes = by }
     where
-      by : (pass : Pass) (k : ℕ) (T : Table → ℕ) (F E : Bool) (m : Table → ℕ) (c : Ctx) (current : BasicBlockId) (els : OptBlock) (place : Place) → At image base place ty → (A → place .len + 1 ≤ 16) →
-          (inChecks pass false ≡ true → F ≡ true) → (someEnum (binding h k false 0 0 2 ∷ []) ≡ true → E ≡ true) → Fares A base T F E (λ w. total (spent pass k w) (binding h k false 0 0 2 ∷ []) + m w) c els →
-          Sound A base (Ends A base T F E m pass place 1) (restBound (RestOf.binds q b how) bindings (h .number) front end (modeOf pass) c current els place)
-      by checks k T F E m c current els place at len f enum room = sound-ok (Ends A base T F E m checks place 1) _ (has-by room _ (omega arith) (omega arith) (omega arith) (omega arith), tt)
-      by binds k T F E m c current els place at len f enum room =
+      by : (pass : Pass) (k : ℕ) (T : Table → ℕ) (F : Bool) (m : Table → ℕ) (c : Ctx) (current : BasicBlockId) (els : OptBlock) (place : Place) → At image base place ty → (A → place .len + 1 ≤ 16) →
+          (inChecks pass false ≡ true → F ≡ true) → Fares A base T F (λ w. total (spent pass k w) (binding h k false 0 0 2 ∷ []) + m w) c els →
+          Sound A base (Ends A base T F m pass place 1) (restBound (RestOf.binds q b how) bindings (h .number) front end (modeOf pass) c current els place)
+      by checks k T F m c current els place at len f room = sound-ok (Ends A base T F m checks place 1) _ (has-by room _ (omega arith) (omega arith) (omega arith) (omega arith), tt)
+      by binds k T F m c current els place at len f room =
           sound-step (h .number) (project place (ProjectionElem.Subslice front end)) _ (sure-project place (ProjectionElem.Subslice front end) 0 len) (λ place′ o.
           sound-as (λ r z. (z, reach-back binds place place′ 1 0 (o .longer) (reach-none binds place′ (o .short))))
-          (sound-binding image (h .number) E m c F bindings q b how current els place′ (fills h k F E m c els room)))
+          (sound-binding image (h .number) m c F bindings q b how current els place′ (fills h k F m c els room)))
 
 -- as many of each
 each-count : {A : Type 0} {base : Ctx} {image : List ℕ} {ls : List Lowering} {fs : List (PlaceTy → Bool)} {rs : List Reaching} {ds : List (PlaceTy → ℕ)} → Each A base image ls fs rs ds →
@@ -176,7 +175,7 @@ module _ {A : Type 0} {base : Ctx} {image : List ℕ} {ls ls′ : List Lowering}
       (λ k. binding h k false t s 0 ∷ (first k ++ (binding h k false 0 0 (restBinds rest) ∷ last k))) →
       Spends A base image ty l (f || someArgument image ty (items fs fs′)) (max (restElements rest) (mostOfArguments image ty (items ds ds′)))
       (λ k. binding h k false t s (restBinds rest) ∷ throughArguments image ty k (items rs rs′))
-  unfolding items total someEnum
+  unfolding items total
   slice-as f t s same g =
       let R = restElements rest in
       let through : (k : ℕ) → throughArguments image ty k (prefix rs ++ suffix rs′) ≡ first k ++ last k = λ k. through-append image ty k (prefix rs) (suffix rs′) in
@@ -187,7 +186,6 @@ module _ {A : Type 0} {base : Ctx} {image : List ℕ} {ls ls′ : List Lowering}
         subst (AllAbove k) (sym (through k)) (above-append k (first k) (last k) (spends-items (h .number) ty (λ n i. ProjectionElem.Index i) (λ n i. tt) front .above k)
             (spends-items (h .number) ty (λ n i. ProjectionElem.IndexFromEnd (n - 1 - i)) (λ n i. tt) back .above k)),
       ))
-      (λ k e. ap someEnum (through k) ∙ some-append (first k) (last k) ∙ sym (some-append (first k) (binding h k false 0 0 (restBinds rest) ∷ last k)) ∙ e)
       (λ pass k w.
       let x = total-append (spent pass k w) (first k) (binding h k false 0 0 (restBinds rest) ∷ last k) in
       let y : total (spent pass k w) (throughArguments image ty k (prefix rs ++ suffix rs′)) ≡ total (spent pass k w) (first k) + total (spent pass k w) (last k) =
@@ -202,8 +200,8 @@ module _ {A : Type 0} {base : Ctx} {image : List ℕ} {ls ls′ : List Lowering}
   unfolding total
   spends-length n =
       spends-test true (λ k. binding h k false 1 (lengthStatements rest) 0) (λ c current els place. lengthTest rest image (h .number) n c current els place) (idle-testing h 1 (lengthStatements rest))
-      (λ k T F E m c current els place f enum room.
-      sound-length image (h .number) E m c F rest n current els place (f refl) (has-by room _ (omega arith) (omega arith) (omega arith) (omega arith)))
+      (λ k T F m c current els place f room.
+      sound-length image (h .number) m c F rest n current els place (f refl) (has-by room _ (omega arith) (omega arith) (omega arith) (omega arith)))
 
   -- of what is no slice nothing is tested
   spends-array : Spends A base image ty (sliceItems bindings (h .number) ls rest ls′) (someArgument image ty (items fs fs′)) (max (restElements rest) (mostOfArguments image ty (items ds ds′)))

@@ -21,7 +21,7 @@ use Rattle.pattern_matching.specs.Tests.{litBy, literal, constantPath, rangeEnd
 use Rattle.pattern_matching.specs.Variants.{shapeOf, AdtPatternShape, patternMatchingVariant, variantPattern}
 use Rattle.pattern_matching.specs.Patterns.{endOp, rangePattern, pathPattern}
 use Rattle.counting.specs.Reaching.{Argument, isEnum, downcast, ofVariant, someArgument, endCount, pathTests, positive, Reached, Reaching, testing, naming, pathReached, throughArguments}
-use Rattle.counting.specs.Counting.{one, total, someEnum}
+use Rattle.counting.specs.Counting.{one, total}
 use Rattle.counting.proofs.Passing.{Pass, checks, binds, modeOf, inChecks}
 use Rattle.room.specs.Elements.{mostOfArguments, pathElements}
 use Rattle.room.proofs.Telling.{Sound, sound-ok, sound-refused, sound-next, sound-step}
@@ -35,9 +35,9 @@ module _ {A : Type 0} {base : Ctx} {image : List ℕ} (ty : PlaceTy) (h : Head) 
   spends-literal : (o : Operand) → Spends A base image ty (literal image (h .number) (h .ty) o) true 0 (λ k. testing h k false 1 2 ∷ [])
   unfolding literal lowerLiteralToOperand total
   spends-literal o =
-      let g = spends-test {A = A} {base = base} {image = image} {ty = ty} true (λ k. testing h k false 1 2) _ (idle-testing h 1 2) (λ k T F E m c current els place f enum room.
+      let g = spends-test {A = A} {base = base} {image = image} {ty = ty} true (λ k. testing h k false 1 2) _ (idle-testing h 1 2) (λ k T F m c current els place f room.
       sound-step (h .number) (lowerLiteralToOperand image (h .ty) o) _ (sure-literal (o .kind) image (h .ty) (o .offset) (o .bytes)) (λ x _.
-      sound-const image (h .number) E m c F x current els place (f refl) (has-by room _ (omega arith) (omega arith) (omega arith) (omega arith)))) in
+      sound-const image (h .number) m c F x current els place (f refl) (has-by room _ (omega arith) (omega arith) (omega arith) (omega arith)))) in
       record { above = g .above; goes = g .goes }
 
   -- a Lit by its operand's kind
@@ -61,11 +61,11 @@ module _ {A : Type 0} {base : Ctx} {image : List ℕ} (ty : PlaceTy) (h : Head) 
   unfolding rangePattern total
   spends-range start end halfOpen =
       let g = spends-test {A = A} {base = base} {image = image} {ty = ty} (positive (endCount start + endCount end)) x _
-      (idle-testing h (endCount start + endCount end) (endCount start + endCount end + (endCount start + endCount end))) (λ k T F E m c current els place f enum room.
+      (idle-testing h (endCount start + endCount end) (endCount start + endCount end + (endCount start + endCount end))) (λ k T F m c current els place f room.
       sound-next (rangeEnd? image (h .number) (h .ty) BinOp.Le start c current els place) _
-      (sound-end image (h .number) E (λ w. make (endCount end) (endCount end + endCount end) (endCount end) (endCount end) w + m w) c F (h .ty) BinOp.Le start current els place
-      (λ e. f (some-first start end e)) (split start end k T F E m c els room)) (λ r room′.
-      sound-end image (h .number) E m (r .ctx) F (h .ty) (endOp halfOpen) end (r .then) (r .else) place (λ e. f (some-second start end e)) room′)) in
+      (sound-end image (h .number) (λ w. make (endCount end) (endCount end + endCount end) (endCount end) (endCount end) w + m w) c F (h .ty) BinOp.Le start current els place
+      (λ e. f (some-first start end e)) (split start end k T F m c els room)) (λ r room′.
+      sound-end image (h .number) m (r .ctx) F (h .ty) (endOp halfOpen) end (r .then) (r .else) place (λ e. f (some-second start end e)) room′)) in
       record { above = g .above; goes = g .goes }
     where
       x : ℕ → Reached
@@ -83,28 +83,28 @@ module _ {A : Type 0} {base : Ctx} {image : List ℕ} (ty : PlaceTy) (h : Head) 
       some-second (some o) none e = refl
       some-second (some o) (some o′) e = refl
 
-      split : (start end : Option Operand) (k : ℕ) (T : Table → ℕ) (F E : Bool) (m : Table → ℕ) (c : Ctx) (els : OptBlock) →
-          Fares A base T F E (λ w. total (spent checks k w) (testing h k false (endCount start + endCount end) (endCount start + endCount end + (endCount start + endCount end)) ∷ []) + m w) c els →
-          Fares A base T F E (λ w. make (endCount start) (endCount start + endCount start) (endCount start) (endCount start) w
+      split : (start end : Option Operand) (k : ℕ) (T : Table → ℕ) (F : Bool) (m : Table → ℕ) (c : Ctx) (els : OptBlock) →
+          Fares A base T F (λ w. total (spent checks k w) (testing h k false (endCount start + endCount end) (endCount start + endCount end + (endCount start + endCount end)) ∷ []) + m w) c els →
+          Fares A base T F (λ w. make (endCount start) (endCount start + endCount start) (endCount start) (endCount start) w
           + (make (endCount end) (endCount end + endCount end) (endCount end) (endCount end) w + m w)) c els
-      split none none k T F E m c els room = has-by room _ (omega arith) (omega arith) (omega arith) (omega arith)
-      split none (some o) k T F E m c els room = has-by room _ (omega arith) (omega arith) (omega arith) (omega arith)
-      split (some o) none k T F E m c els room = has-by room _ (omega arith) (omega arith) (omega arith) (omega arith)
-      split (some o) (some o′) k T F E m c els room = has-by room _ (omega arith) (omega arith) (omega arith) (omega arith)
+      split none none k T F m c els room = has-by room _ (omega arith) (omega arith) (omega arith) (omega arith)
+      split none (some o) k T F m c els room = has-by room _ (omega arith) (omega arith) (omega arith) (omega arith)
+      split (some o) none k T F m c els room = has-by room _ (omega arith) (omega arith) (omega arith) (omega arith)
+      split (some o) (some o′) k T F m c els room = has-by room _ (omega arith) (omega arith) (omega arith) (omega arith)
 
   -- a path to a constant
   spends-constant : (o : Operand) → Spends A base image ty (constantPath image (h .number) (h .ty) o) true 0 (λ k. testing h k false 1 4 ∷ [])
   unfolding constantPath total
   spends-constant o =
-      let g = spends-test {A = A} {base = base} {image = image} {ty = ty} true (λ k. testing h k false 1 4) _ (idle-testing h 1 4) (λ k T F E m c current els place f enum room.
-      sound-constant image (h .number) E m c F (h .ty) o current els place (f refl) (has-by room _ (omega arith) (omega arith) (omega arith) (omega arith))) in
+      let g = spends-test {A = A} {base = base} {image = image} {ty = ty} true (λ k. testing h k false 1 4) _ (idle-testing h 1 4) (λ k T F m c current els place f room.
+      sound-constant image (h .number) m c F (h .ty) o current els place (f refl) (has-by room _ (omega arith) (omega arith) (omega arith) (omega arith))) in
       record { above = g .above; goes = g .goes }
 
   -- a Path by what it names
   pub spends-path : (bindings : List ℕ) (target : Target) → Spends A base image ty (pathPattern target image bindings (h .number) (h .ty)) (positive (pathTests image ty target)) (pathElements image ty target)
       (λ k. pathReached image ty target h k false ∷ [])
   unfolding pathPattern pathTests pathElements pathReached total
-  spends-path bindings unresolved = record { above = λ k. (le-refl _, tt); goes = λ pass k T F E m c current els place at len f enum room. sound-refused _ MirLowerError.UnresolvedName (h .number) tt }
+  spends-path bindings unresolved = record { above = λ k. (le-refl _, tt); goes = λ pass k T F m c current els place at len f room. sound-refused _ MirLowerError.UnresolvedName (h .number) tt }
   spends-path bindings (variant v) =
       let g = spends-as refl downcasts (λ k. refl) (by (isEnum (shapeOf image ty)) (spends-named ty h (fielded-unit A base image) v)) in
       record { above = g .above; goes = g .goes }
@@ -119,18 +119,18 @@ module _ {A : Type 0} {base : Ctx} {image : List ℕ} (ty : PlaceTy) (h : Head) 
       by false g = unfold someArgument mostOfArguments downcast throughArguments in spends-as refl refl (λ k. refl) g
   spends-path bindings (local b) = record { above = λ k. (le-refl _, tt); goes = by }
     where
-      by : (pass : Pass) (k : ℕ) (T : Table → ℕ) (F E : Bool) (m : Table → ℕ) (c : Ctx) (current : BasicBlockId) (els : OptBlock) (place : Place) → At image base place ty → (A → place .len + 0 ≤ 16) →
-          (inChecks pass false ≡ true → F ≡ true) → (someEnum (testing h k false 0 0 ∷ []) ≡ true → E ≡ true) → Fares A base T F E (λ w. total (spent pass k w) (testing h k false 0 0 ∷ []) + m w) c els →
-          Sound A base (Ends A base T F E m pass place 0) (localPath bindings (h .number) b (modeOf pass) c current els place)
-      by checks k T F E m c current els place at len f enum room = unfold localPath in sound-refused (Ends A base T F E m checks place 0) MirLowerError.NotSupported (h .number) tt
-      by binds k T F E m c current els place at len f enum room =
+      by : (pass : Pass) (k : ℕ) (T : Table → ℕ) (F : Bool) (m : Table → ℕ) (c : Ctx) (current : BasicBlockId) (els : OptBlock) (place : Place) → At image base place ty → (A → place .len + 0 ≤ 16) →
+          (inChecks pass false ≡ true → F ≡ true) → Fares A base T F (λ w. total (spent pass k w) (testing h k false 0 0 ∷ []) + m w) c els →
+          Sound A base (Ends A base T F m pass place 0) (localPath bindings (h .number) b (modeOf pass) c current els place)
+      by checks k T F m c current els place at len f room = unfold localPath in sound-refused (Ends A base T F m checks place 0) MirLowerError.NotSupported (h .number) tt
+      by binds k T F m c current els place at len f room =
           unfold localPath in
-          sound-ok (Ends A base T F E m binds place 0) _
+          sound-ok (Ends A base T F m binds place 0) _
           (has-as _ (λ w. let a = spent-free (λ k. testing h k false 0 0) (free-testing h) binds k w in omega (arith, a)) room, reach-none binds place (at .short))
   spends-path bindings (constant o) = record { above = spends-constant o .above; goes = spends-constant o .goes }
   spends-path bindings other =
-      let g = spends-test {A = A} {base = base} {image = image} {ty = ty} false (λ k. testing h k false 0 0) _ (idle-testing h 0 0) (λ k T F E m c current els place f enum room.
-      sound-refused (Leaves A base T F E m) MirLowerError.NotSupported (h .number) tt) in
+      let g = spends-test {A = A} {base = base} {image = image} {ty = ty} false (λ k. testing h k false 0 0) _ (idle-testing h 0 0) (λ k T F m c current els place f room.
+      sound-refused (Leaves A base T F m) MirLowerError.NotSupported (h .number) tt) in
       record { above = g .above; goes = g .goes }
 
   -- a pattern that names a variant, if it does
@@ -139,5 +139,5 @@ module _ {A : Type 0} {base : Ctx} {image : List ℕ} (ty : PlaceTy) (h : Head) 
       (max (one (isEnum (shapeOf image ty))) (mostOfArguments image ty (ofVariant image ty v ds)))
       (λ k. naming h k false (isEnum (shapeOf image ty)) ∷ throughArguments image ty k (ofVariant image ty v rs))
   unfolding variantPattern ofVariant throughArguments
-  spends-variant none fielded = record { above = λ k. (le-refl _, tt); goes = λ pass k T F E m c current els place at len f enum room. sound-refused _ MirLowerError.NotSupported (h .number) tt }
+  spends-variant none fielded = record { above = λ k. (le-refl _, tt); goes = λ pass k T F m c current els place at len f room. sound-refused _ MirLowerError.NotSupported (h .number) tt }
   spends-variant (some v) fielded = let g = spends-named ty h fielded v in record { above = g .above; goes = g .goes }

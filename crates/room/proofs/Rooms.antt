@@ -1,6 +1,6 @@
 -- With room by document 01's counts, and a scope open, the lowering of a pattern that fits is accepted; and without room none is. Assumes nothing.
 use mathlib.Core.Path.{_≡_, refl, ap}
-use mathlib.Core.Bool.{Bool, true, false, _||_, false≢true}
+use mathlib.Core.Bool.{Bool, true, false, false≢true}
 use mathlib.Core.Logic.{_⊎_, ⊎-elim}
 use mathlib.Core.List.{List, [], _∷_}
 use Prim.Native.Nat.{ℕ, _+_, _-_, _*_, _≤_, _<_}
@@ -21,10 +21,8 @@ use Rattle.pattern_matching.specs.Walking.{Ctx, Out, Walk, ok, refused}
 use Rattle.pattern_matching.specs.Variants.{placeTy}
 use Rattle.pattern_matching.specs.Patterns.{patternMatchInner, patternMatch}
 use Rattle.counting.specs.Reaching.{canFail, Reached}
-use Rattle.counting.specs.Counting.{one, total, reachedFrom, someEnum, blocksOf, statementsOf, discrMade, newBlocks, newStatements}
+use Rattle.counting.specs.Counting.{one, total, reachedFrom, blocksOf, statementsOf, newBlocks, newStatements}
 use Rattle.counting.proofs.Passing.{checks, binds}
-use Rattle.counting.proofs.Stepping.{has}
-use Rattle.counting.proofs.Whole.{stepped}
 use Rattle.counting.proofs.Tallies.{le-or-lt}
 use Rattle.meaning.specs.Fits.{fits}
 use Rattle.fitted.proofs.Building.{kept-same}
@@ -68,13 +66,6 @@ both-passes w = total-both (counted w) (spent checks 0 w) (spent binds 0 w) (λ 
     by local r = let a = once (r .ors) (temporaries r) 0 in omega (arith, a)
     by entry r = once (r .ors) (temporaries r) (boundLocals r)
 
--- the shared local is not made again
-made-once : (enum : Bool) (d d′ : DiscrTemp) → has d′ ≡ (has d || enum) → discrMade enum d′ ≡ 0
-made-once enum d (DiscrTemp.Some l) e = refl
-made-once false d DiscrTemp.None e = refl
-made-once true (DiscrTemp.Some l) DiscrTemp.None e = absurd (false≢true e)
-made-once true DiscrTemp.None DiscrTemp.None e = absurd (false≢true e)
-
 module _ (image bindings : List ℕ) (root : Pat) (ctx : Ctx) (current : BasicBlockId) (els : OptBlock) (place : Place) (rooted : place .local .0 < length (ctx .state .locals))
     (whole : length (place .elems) ≡ 16) (short : place .len ≤ 16) where
   abbrev ty : PlaceTy
@@ -88,7 +79,7 @@ module _ (image bindings : List ℕ) (root : Pat) (ctx : Ctx) (current : BasicBl
 
   -- how much there is in each table behind both passes
   abbrev inTheEnd : Table → ℕ
-  inTheEnd w = held w (ctx .state) + (onceMore (canFail image root ty) (someEnum rs) els w + (total (spent checks 0 w) rs + (total (spent binds 0 w) rs + 0)))
+  inTheEnd w = held w (ctx .state) + (onceMore (canFail image root ty) els w + (total (spent checks 0 w) rs + (total (spent binds 0 w) rs + 0)))
 
   -- there is room for that
   room-for-both : (A : Type 0) → (A → Room image root ctx els place) → A → (w : Table) → inTheEnd w ≤ limit w
@@ -100,24 +91,23 @@ module _ (image bindings : List ℕ) (root : Pat) (ctx : Ctx) (current : BasicBl
 
   -- what a refusal tells, and what an acceptance has made
   told : (A : Type 0) → (A → Room image root ctx els place) →
-      Sound A ctx (Ends A ctx inTheEnd (canFail image root ty) (someEnum rs) (λ w. 0) binds place (elements image root ty)) (patternMatch image bindings root ctx current els place)
+      Sound A ctx (Ends A ctx inTheEnd (canFail image root ty) (λ w. 0) binds place (elements image root ty)) (patternMatch image bindings root ctx current els place)
   unfolding patternMatch longestPlace
   told A room =
       let g = spends-pattern A ctx image bindings root ty in
       sound-next (patternMatchInner image bindings root MatchingMode.Check ctx current els place) _
-      (g .goes checks 0 inTheEnd (canFail image root ty) (someEnum rs) (λ w. total (spent binds 0 w) rs + 0) ctx current els place at (λ a. room a .elements) (λ t. t) (λ t. t)
+      (g .goes checks 0 inTheEnd (canFail image root ty) (λ w. total (spent binds 0 w) rs + 0) ctx current els place at (λ a. room a .elements) (λ t. t)
       (record { scopes = refl; kept = kept-same (ctx .state); sum = λ w. refl; room = room-for-both A room })) (λ r h.
-      g .goes binds 0 inTheEnd (canFail image root ty) (someEnum rs) (λ w. 0) (r .ctx) (r .then) (r .else) place at (λ a. room a .elements) (λ t. absurd (false≢true t)) (λ t. t) (h .0))
+      g .goes binds 0 inTheEnd (canFail image root ty) (λ w. 0) (r .ctx) (r .then) (r .else) place at (λ a. room a .elements) (λ t. absurd (false≢true t)) (h .0))
 
   -- Whether the pattern fits or not, an accepted lowering makes exactly as many locals and entries as are counted, and comes to no longer place.
   pub made : (r : Out) → patternMatch image bindings root ctx current els place ≡ ok r → Made image root ctx place r
   unfolding newLocals newEntries longestPlace
   made r accepted =
       let h = told ⊥ (λ never. absurd never) .at r accepted in
-      let shared = made-once (someEnum rs) in
       record {
-        locals = let x = h .0 .sum local in let y = both-passes local rs in omega (arith, x, y, shared);
-        entries = let x = h .0 .sum entry in let y = both-passes entry rs in omega (arith, x, y, shared);
+        locals = let x = h .0 .sum local in let y = both-passes local rs in omega (arith, x, y);
+        entries = let x = h .0 .sum entry in let y = both-passes entry rs in omega (arith, x, y);
         elements = h .1;
       }
 

@@ -22,8 +22,8 @@ use Rattle.pattern_matching.specs.declared.MatchingMode.{MatchingMode}
 use Rattle.pattern_matching.specs.Walking.{Ctx, Out, Walk, refused, Lowering, next, project}
 use Rattle.pattern_matching.specs.Variants.{patternMatchAdt, fieldsUpTo, patternMatchTupleLike, ellipsisAt, resolved, recordFields}
 use Rattle.counting.specs.Reaching.{Argument, zip, inARow, byFields, someArgument, Reaching, Reached, throughArguments}
-use Rattle.counting.specs.Counting.{total, someEnum, elseMade}
-use Rattle.counting.proofs.Passing.{modeOf, total-append, some-append}
+use Rattle.counting.specs.Counting.{total, elseMade}
+use Rattle.counting.proofs.Passing.{modeOf, total-append}
 use Rattle.counting.proofs.Typed.{On}
 use Rattle.counting.proofs.Holding.{Holds}
 use Rattle.counting.proofs.Arguments.{AllFit, fit-reverse, fit-all}
@@ -43,7 +43,6 @@ flaggedAs f r =
       testStatements = r .testStatements;
       failingAlternative = f;
       isOr = r .isOr;
-      testsEnum = r .testsEnum;
       bindStatements = r .bindStatements;
     }
 
@@ -108,7 +107,7 @@ module _ {A : Type 0} {base : Ctx} {image : List ℕ} where
       let rest = spends-arguments p elems ty e (fit .1) in
       record {
         above = λ k. above-append k (reach ty′ k false) (throughArguments image ty k (zip elems rs)) (g .above k) (rest .above k);
-        goes = λ pass k T F E m c current els place at len f enum room.
+        goes = λ pass k T F m c current els place at len f room.
             let first = reach ty′ k false in
             let others = throughArguments image ty k (zip elems rs) in
             let most = mostOfArguments image ty (zip elems ds) in
@@ -116,14 +115,12 @@ module _ {A : Type 0} {base : Ctx} {image : List ℕ} where
             sound-step p (project place elem) (λ place′. next (l (modeOf pass) c current els place′) after)
             (sure-on elem (deep ty′) (fit .0) at (λ a. let x = len a in let y = le-max-left (1 + deep ty′) most in omega (arith, x, y))) (λ place′ q.
             sound-next (l (modeOf pass) c current els place′) after
-            (g .goes pass k T F E (λ w. total (spent pass k w) others + m w) c current els place′ (at-onward q) (q .0 .room)
-            (λ t. f (in-checks pass (fails ty′) (fails ty′ || someArgument image ty (zip elems fs)) (or-first (fails ty′) (someArgument image ty (zip elems fs))) t))
-            (λ t. enum (some-append first others ∙ or-first (someEnum first) (someEnum others) t)) (has-as _ (λ w. let x = total-append (spent pass k w) first others in omega (arith, x)) room))
+            (g .goes pass k T F (λ w. total (spent pass k w) others + m w) c current els place′ (at-onward q) (q .0 .room)
+            (λ t. f (in-checks pass (fails ty′) (fails ty′ || someArgument image ty (zip elems fs)) (or-first (fails ty′) (someArgument image ty (zip elems fs))) t)) (has-as _ (λ w. let x = total-append (spent pass k w) first others in omega (arith, x)) room))
             (λ r h.
             sound-as (λ r′ z. (z .0, reach-max pass place (1 + deep ty′) most (reach-back pass place place′ 1 (deep ty′) (q .0 .longer) (h .1)) (z .1)))
-            (rest .goes pass k T F E m (r .ctx) (r .then) (r .else) place at (λ a. let x = len a in let y = le-max-right (1 + deep ty′) most in omega (arith, x, y))
-            (λ t. f (in-checks pass (someArgument image ty (zip elems fs)) (fails ty′ || someArgument image ty (zip elems fs)) (or-second (fails ty′) (someArgument image ty (zip elems fs))) t))
-            (λ t. enum (some-append first others ∙ or-second (someEnum first) (someEnum others) t)) (h .0))));
+            (rest .goes pass k T F m (r .ctx) (r .then) (r .else) place at (λ a. let x = len a in let y = le-max-right (1 + deep ty′) most in omega (arith, x, y))
+            (λ t. f (in-checks pass (someArgument image ty (zip elems fs)) (fails ty′ || someArgument image ty (zip elems fs)) (or-second (fails ty′) (someArgument image ty (zip elems fs))) t)) (h .0))));
       }
 
 -- the most of one list is at most that of it and another
@@ -191,7 +188,7 @@ module _ {A : Type 0} {base : Ctx} {image : List ℕ} (p n : ℕ) (ty : PlaceTy)
 
       by : (b : Bool) → Row A base image ty (two p n b xs ys) (zip F fs ++ zip (reverse F) (reverse gs)) (zip F ds ++ zip (reverse F) (reverse es)) (zip F rs ++ zip (reverse F) (reverse qs))
       by true = both
-      by false = record { above = both .above; goes = λ pass k T F E m c current els place at len f enum room. sound-refused _ MirLowerError.Ellipsis p tt }
+      by false = record { above = both .above; goes = λ pass k T F m c current els place at len f room. sound-refused _ MirLowerError.Ellipsis p tt }
 
   -- arguments in a row on n fields
   pub spends-row : {ls : List Lowering} {fs : List (PlaceTy → Bool)} {rs : List Reaching} {ds : List (PlaceTy → ℕ)} (ellipsis : Option ℕ) → Each A base image ls fs rs ds →
@@ -236,7 +233,7 @@ module _ {A : Type 0} {base : Ctx} {image : List ℕ} (p n : ℕ) (ty : PlaceTy)
       by none a b c =
           record {
             above = λ k. above-fields k fields e;
-            goes = λ pass k T F E m ctx current els place at len f enum room. sound-refused _ MirLowerError.UnresolvedField p tt;
+            goes = λ pass k T F m ctx current els place at len f room. sound-refused _ MirLowerError.UnresolvedField p tt;
           }
       by (some elems) a b c =
           let g = spends-as (ap (someArgument image ty) (sym (a .1 fs))) (ap (mostOfArguments image ty) (sym (b .1 ds))) (λ k. ap (throughArguments image ty k) (sym (c .1 rs)))

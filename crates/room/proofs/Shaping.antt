@@ -18,7 +18,7 @@ use Rattle.place.specs.PlaceTypes.{projectionTy, multiProjectionTy}
 use Rattle.pattern_matching.specs.Walking.{Ctx, refused, Lowering, step, out, project, inCheck}
 use Rattle.pattern_matching.specs.Variants.{placeTy, shapeOf, needed, patternMatchTupleLike, ellipsisAt, tupleOn, tuplePattern, refOn, refPattern, AdtPatternShape, variantFields, discriminantTest, variantOn, adtOn, patternMatchingVariant}
 use Rattle.counting.specs.Reaching.{Argument, inARow, byFields, fieldCount, isEnum, downcast, someArgument, Reached, Reaching, testing, naming, throughArguments}
-use Rattle.counting.specs.Counting.{one, total, someEnum}
+use Rattle.counting.specs.Counting.{one, total}
 use Rattle.counting.proofs.Passing.{modeOf}
 use Rattle.counting.proofs.Naming.{through-downcast, some-downcast}
 use Rattle.fitted.proofs.Walks.{on-kept}
@@ -36,9 +36,9 @@ spends-needed : {A : Type 0} {base : Ctx} {image : List ℕ} {ty : PlaceTy} {fai
 spends-needed {A = A} {base = base} {image = image} {ty = ty} {deep = deep} p l g =
     record {
       above = g .above;
-      goes = λ pass k T F E m c current els place at len f enum h.
-          subst (λ (t : PlaceTy). Sound A base (Ends A base T F E m pass place deep) (needed p (shapeOf image t) (λ s. l s (modeOf pass) c current els place)))
-          (sym (on-kept {c = base} {c′ = c} (h .kept) (at .on) .typed)) (g .goes pass k T F E m c current els place at len f enum h);
+      goes = λ pass k T F m c current els place at len f h.
+          subst (λ (t : PlaceTy). Sound A base (Ends A base T F m pass place deep) (needed p (shapeOf image t) (λ s. l s (modeOf pass) c current els place)))
+          (sym (on-kept {c = base} {c′ = c} (h .kept) (at .on) .typed)) (g .goes pass k T F m c current els place at len f h);
     }
 
 module _ {A : Type 0} {base : Ctx} {image : List ℕ} (ty : PlaceTy) where
@@ -162,10 +162,10 @@ module _ {A : Type 0} {base : Ctx} {image : List ℕ} (ty : PlaceTy) (h : Head) 
   -- the test of an enum
   spends-discriminant : (v : ℕ) → Spends A base image ty (λ mode c current els place. inCheck mode (discriminantTest image (h .number) v c current els place) (out c current els)) true 0
       (λ k. naming h k false true ∷ [])
-  unfolding total someEnum
+  unfolding total
   spends-discriminant v =
-      spends-test true (λ k. naming h k false true) (λ c current els place. discriminantTest image (h .number) v c current els place) (idle-naming h true) (λ k T F E m c current els place f enum room.
-      sound-discriminant image (h .number) E m c F v current els place (f refl) (enum refl) (has-by room _ (omega arith) (omega arith) (omega arith) (omega arith)))
+      spends-test true (λ k. naming h k false true) (λ c current els place. discriminantTest image (h .number) v c current els place) (idle-naming h true) (λ k T F m c current els place f room.
+      sound-discriminant image (h .number) m c F v current els place (f refl) (has-by room _ (omega arith) (omega arith) (omega arith) (omega arith)))
 
   module _ {shape : AdtPatternShape} {fs : ℕ → List (Argument (PlaceTy → Bool))} {ds : ℕ → List (Argument (PlaceTy → ℕ))} {rs : ℕ → List (Argument Reaching)} (fielded : Fielded A base image shape fs ds rs) (v : ℕ) where
     -- how many fields the variant has

@@ -17,8 +17,8 @@ use Rattle.mir.specs.declared.BasicBlockId.{BasicBlockId}
 use Rattle.lower.specs.declared.merging.OptBlock.{OptBlock}
 use Rattle.pattern_matching.specs.Walking.{Ctx, Out, Walk, refused, Lowering, next, step, out, project, visited, derefed, entered, inCheck}
 use Rattle.counting.specs.Reaching.{Reached, behindDerefs, testing, naming}
-use Rattle.counting.specs.Counting.{one, total, someEnum}
-use Rattle.counting.proofs.Passing.{Pass, checks, binds, modeOf, inChecks, total-append, some-append}
+use Rattle.counting.specs.Counting.{one, total}
+use Rattle.counting.proofs.Passing.{Pass, checks, binds, modeOf, inChecks, total-append}
 use Rattle.counting.proofs.Typed.{On, on-project}
 use Rattle.room.specs.Room.{temporaries, boundLocals}
 use Rattle.room.proofs.Telling.{Tells, Sound, Sure, sound-ok, sound-refused, sure-and, sound-next, sound-step, sound-as}
@@ -134,13 +134,13 @@ pub in-checks : (pass : Pass) (a b : Bool) → (a ≡ true → b ≡ true) → i
 in-checks checks a b f e = f e
 in-checks binds a b f e = e
 
--- a context from which there is room for so much more, and for an else and a shared local
-abbrev pub Fares : Type 0 → Ctx → (Table → ℕ) → Bool → Bool → (Table → ℕ) → Ctx → OptBlock → Type 0
-Fares A base T F E m c els = Has A base T (c .state) (λ w. onceMore F E els w + m w)
+-- a context from which there is room for so much more, and for an else
+abbrev pub Fares : Type 0 → Ctx → (Table → ℕ) → Bool → (Table → ℕ) → Ctx → OptBlock → Type 0
+Fares A base T F m c els = Has A base T (c .state) (λ w. onceMore F els w + m w)
 
 -- so it is where a walk leads
-abbrev pub Leaves : Type 0 → Ctx → (Table → ℕ) → Bool → Bool → (Table → ℕ) → Out → Type 0
-Leaves A base T F E m r = Has A base T (r .ctx .state) (λ w. onceMore F E (r .else) w + m w)
+abbrev pub Leaves : Type 0 → Ctx → (Table → ℕ) → Bool → (Table → ℕ) → Out → Type 0
+Leaves A base T F m r = Has A base T (r .ctx .state) (λ w. onceMore F (r .else) w + m w)
 
 -- a place of the type ty, as there are places in the body that a walk starts from
 pub record At (image : List ℕ) (base : Ctx) (place : Place) (ty : PlaceTy) : Type 0 where
@@ -172,15 +172,15 @@ reach-back checks place place′ n deep e h = tt
 reach-back binds place place′ n deep e h = omega (arith, e, h)
 
 -- where a walk ends: the room that is left, and the elements that were appended
-abbrev pub Ends : Type 0 → Ctx → (Table → ℕ) → Bool → Bool → (Table → ℕ) → Pass → Place → ℕ → Out → Type 0
-Ends A base T F E m pass place deep r = Leaves A base T F E m r × Reaches pass place deep
+abbrev pub Ends : Type 0 → Ctx → (Table → ℕ) → Bool → (Table → ℕ) → Pass → Place → ℕ → Out → Type 0
+Ends A base T F m pass place deep r = Leaves A base T F m r × Reaches pass place deep
 
 -- On a place of the type ty a lowering takes what the patterns rs take, an else if it can fail, and at most `deep` elements more; in Bind it comes to as many.
 pub record Spends (A : Type 0) (base : Ctx) (image : List ℕ) (ty : PlaceTy) (l : Lowering) (fails : Bool) (deep : ℕ) (rs : ℕ → List Reached) : Type 0 where
   pub above : (k : ℕ) → AllAbove k (rs k)
-  pub goes : (pass : Pass) (k : ℕ) (T : Table → ℕ) (F E : Bool) (m : Table → ℕ) (c : Ctx) (current : BasicBlockId) (els : OptBlock) (place : Place) → At image base place ty → (A → place .len + deep ≤ 16) →
-      (inChecks pass fails ≡ true → F ≡ true) → (someEnum (rs k) ≡ true → E ≡ true) → Fares A base T F E (λ w. total (spent pass k w) (rs k) + m w) c els →
-      Sound A base (Ends A base T F E m pass place deep) (l (modeOf pass) c current els place)
+  pub goes : (pass : Pass) (k : ℕ) (T : Table → ℕ) (F : Bool) (m : Table → ℕ) (c : Ctx) (current : BasicBlockId) (els : OptBlock) (place : Place) → At image base place ty → (A → place .len + deep ≤ 16) →
+      (inChecks pass fails ≡ true → F ≡ true) → Fares A base T F (λ w. total (spent pass k w) (rs k) + m w) c els →
+      Sound A base (Ends A base T F m pass place deep) (l (modeOf pass) c current els place)
 
 -- nothing is done
 pub spends-none : {A : Type 0} {base : Ctx} (image : List ℕ) (ty : PlaceTy) → Spends A base image ty (λ mode c current els place. out c current els) false 0 (λ k. [])
@@ -188,19 +188,19 @@ unfolding total
 spends-none {A = A} {base = base} image ty =
     record {
       above = λ k. tt;
-      goes = λ pass k T F E m c current els place at len f e h. sound-ok (Ends A base T F E m pass place 0) _ (has-as _ (λ w. omega arith) h, reach-none pass place (at .short));
+      goes = λ pass k T F m c current els place at len f h. sound-ok (Ends A base T F m pass place 0) _ (has-as _ (λ w. omega arith) h, reach-none pass place (at .short));
     }
 
 -- the same of other patterns that take as much
 pub spends-within : {A : Type 0} {base : Ctx} {image : List ℕ} {ty : PlaceTy} {l : Lowering} {fails fails′ : Bool} {deep deep′ : ℕ} {rs rs′ : ℕ → List Reached} → (fails ≡ true → fails′ ≡ true) → deep ≡ deep′ →
-    ((k : ℕ) → AllAbove k (rs′ k)) → ((k : ℕ) → someEnum (rs k) ≡ true → someEnum (rs′ k) ≡ true) →
+    ((k : ℕ) → AllAbove k (rs′ k)) →
     ((pass : Pass) (k : ℕ) (w : Table) → total (spent pass k w) (rs k) ≡ total (spent pass k w) (rs′ k)) → Spends A base image ty l fails deep rs → Spends A base image ty l fails′ deep′ rs′
-spends-within {fails = fails} {fails′ = fails′} more same over enums takes g =
+spends-within {fails = fails} {fails′ = fails′} more same over takes g =
     record {
       above = over;
-      goes = λ pass k T F E m c current els place at len f e h.
+      goes = λ pass k T F m c current els place at len f h.
           sound-as (λ r q. (q .0, subst (λ (n : ℕ). Reaches pass place n) same (q .1)))
-          (g .goes pass k T F E m c current els place at (λ a. let x = len a in omega (arith, x, same)) (λ t. f (in-checks pass fails fails′ more t)) (λ t. e (enums k t))
+          (g .goes pass k T F m c current els place at (λ a. let x = len a in omega (arith, x, same)) (λ t. f (in-checks pass fails fails′ more t))
           (has-as _ (λ w. let x = takes pass k w in omega (arith, x)) h));
     }
 
@@ -208,21 +208,21 @@ spends-within {fails = fails} {fails′ = fails′} more same over enums takes g
 pub spends-as : {A : Type 0} {base : Ctx} {image : List ℕ} {ty : PlaceTy} {l : Lowering} {fails fails′ : Bool} {deep deep′ : ℕ} {rs rs′ : ℕ → List Reached} → fails ≡ fails′ → deep ≡ deep′ →
     ((k : ℕ) → rs k ≡ rs′ k) → Spends A base image ty l fails deep rs → Spends A base image ty l fails′ deep′ rs′
 spends-as same deeps is g =
-    spends-within (λ t. sym same ∙ t) deeps (λ k. subst (AllAbove k) (is k) (g .above k)) (λ k t. sym (ap someEnum (is k)) ∙ t) (λ pass k w. ap (total (spent pass k w)) (is k)) g
+    spends-within (λ t. sym same ∙ t) deeps (λ k. subst (AllAbove k) (is k) (g .above k)) (λ pass k w. ap (total (spent pass k w)) (is k)) g
 
 -- a pattern that itself takes nothing, and those below it
 pub spends-under : {A : Type 0} {base : Ctx} {image : List ℕ} {ty : PlaceTy} {l : Lowering} {fails : Bool} {deep : ℕ} {rs : ℕ → List Reached} (x : ℕ → Reached) → Free x →
     Spends A base image ty l fails deep rs → Spends A base image ty l fails deep (λ k. x k ∷ rs k)
-unfolding total someEnum
+unfolding total
 spends-under {rs = rs} x free g =
-    spends-within (λ t. t) refl (λ k. (le-of-eq (sym (free .own .ors k)), g .above k)) (λ k t. or-second (x k .testsEnum) (someEnum (rs k)) t)
+    spends-within (λ t. t) refl (λ k. (le-of-eq (sym (free .own .ors k)), g .above k))
     (λ pass k w. let a = spent-free x free pass k w in omega (arith, a)) g
 
 -- what is refused, and not for a limit
 pub spends-refused : {A : Type 0} {base : Ctx} {image : List ℕ} {ty : PlaceTy} {fails : Bool} {deep : ℕ} {rs : ℕ → List Reached} (e : MirLowerError) (p : ℕ) → Tells A base e →
     ((k : ℕ) → AllAbove k (rs k)) → Spends A base image ty (λ mode c current els place. refused e p) fails deep rs
 spends-refused {A = A} {base = base} e p t above =
-    record { above = above; goes = λ pass k T F E m c current els place at len f enum h. sound-refused (Ends A base T F E m pass place _) e p t }
+    record { above = above; goes = λ pass k T F m c current els place at len f h. sound-refused (Ends A base T F m pass place _) e p t }
 
 -- two lowerings, one after the other on the same place
 pub spends-both : {A : Type 0} {base : Ctx} {image : List ℕ} {ty : PlaceTy} {fails fails′ : Bool} {deep deep′ : ℕ} {rs rs′ : ℕ → List Reached} (l l′ : Lowering) →
@@ -231,31 +231,30 @@ pub spends-both : {A : Type 0} {base : Ctx} {image : List ℕ} {ty : PlaceTy} {f
 spends-both {fails = fails} {fails′ = fails′} {deep = deep} {deep′ = deep′} {rs = rs} {rs′ = rs′} l l′ g g′ =
     record {
       above = λ k. above-append k (rs k) (rs′ k) (g .above k) (g′ .above k);
-      goes = λ pass k T F E m c current els place at len f e h.
+      goes = λ pass k T F m c current els place at len f h.
           sound-next (l (modeOf pass) c current els place) (λ r. l′ (modeOf pass) (r .ctx) (r .then) (r .else) place)
-          (g .goes pass k T F E (λ w. total (spent pass k w) (rs′ k) + m w) c current els place at (λ a. let x = len a in let y = le-max-left deep deep′ in omega (arith, x, y))
-          (λ t. f (in-checks pass fails (fails || fails′) (or-first fails fails′) t)) (λ t. e (some-append (rs k) (rs′ k) ∙ or-first (someEnum (rs k)) (someEnum (rs′ k)) t))
+          (g .goes pass k T F (λ w. total (spent pass k w) (rs′ k) + m w) c current els place at (λ a. let x = len a in let y = le-max-left deep deep′ in omega (arith, x, y))
+          (λ t. f (in-checks pass fails (fails || fails′) (or-first fails fails′) t))
           (has-as _ (λ w. let x = total-append (spent pass k w) (rs k) (rs′ k) in omega (arith, x)) h))
           (λ r h′.
           sound-as (λ r′ q. (q .0, reach-max pass place deep deep′ (h′ .1) (q .1)))
-          (g′ .goes pass k T F E m (r .ctx) (r .then) (r .else) place at (λ a. let x = len a in let y = le-max-right deep deep′ in omega (arith, x, y))
-          (λ t. f (in-checks pass fails′ (fails || fails′) (or-second fails fails′) t)) (λ t. e (some-append (rs k) (rs′ k) ∙ or-second (someEnum (rs k)) (someEnum (rs′ k)) t)) (h′ .0)));
+          (g′ .goes pass k T F m (r .ctx) (r .then) (r .else) place at (λ a. let x = len a in let y = le-max-right deep deep′ in omega (arith, x, y))
+          (λ t. f (in-checks pass fails′ (fails || fails′) (or-second fails fails′) t)) (h′ .0)));
     }
 
 -- what only a walk in Check does
 pub spends-test : {A : Type 0} {base : Ctx} {image : List ℕ} {ty : PlaceTy} (fails : Bool) (x : ℕ → Reached) (test : Ctx → BasicBlockId → OptBlock → Place → Walk Out) → Idle x →
-    ((k : ℕ) (T : Table → ℕ) (F E : Bool) (m : Table → ℕ) (c : Ctx) (current : BasicBlockId) (els : OptBlock) (place : Place) → (fails ≡ true → F ≡ true) → (someEnum (x k ∷ []) ≡ true → E ≡ true) →
-    Fares A base T F E (λ w. total (spent checks k w) (x k ∷ []) + m w) c els → Sound A base (Leaves A base T F E m) (test c current els place)) →
+    ((k : ℕ) (T : Table → ℕ) (F : Bool) (m : Table → ℕ) (c : Ctx) (current : BasicBlockId) (els : OptBlock) (place : Place) → (fails ≡ true → F ≡ true) → Fares A base T F (λ w. total (spent checks k w) (x k ∷ []) + m w) c els → Sound A base (Leaves A base T F m) (test c current els place)) →
     Spends A base image ty (λ mode c current els place. inCheck mode (test c current els place) (out c current els)) fails 0 (λ k. x k ∷ [])
 unfolding total
 spends-test {A = A} {base = base} {image = image} {ty = ty} fails x test idle sound = record { above = λ k. (le-of-eq (sym (idle .ors k)), tt); goes = by }
   where
-    by : (pass : Pass) (k : ℕ) (T : Table → ℕ) (F E : Bool) (m : Table → ℕ) (c : Ctx) (current : BasicBlockId) (els : OptBlock) (place : Place) → At image base place ty → (A → place .len + 0 ≤ 16) →
-        (inChecks pass fails ≡ true → F ≡ true) → (someEnum (x k ∷ []) ≡ true → E ≡ true) → Fares A base T F E (λ w. total (spent pass k w) (x k ∷ []) + m w) c els →
-        Sound A base (Ends A base T F E m pass place 0) (inCheck (modeOf pass) (test c current els place) (out c current els))
-    by checks k T F E m c current els place at len f e h = sound-as (λ r q. (q, tt)) (sound k T F E m c current els place f e h)
-    by binds k T F E m c current els place at len f e h =
-        sound-ok (Ends A base T F E m binds place 0) _
+    by : (pass : Pass) (k : ℕ) (T : Table → ℕ) (F : Bool) (m : Table → ℕ) (c : Ctx) (current : BasicBlockId) (els : OptBlock) (place : Place) → At image base place ty → (A → place .len + 0 ≤ 16) →
+        (inChecks pass fails ≡ true → F ≡ true) → Fares A base T F (λ w. total (spent pass k w) (x k ∷ []) + m w) c els →
+        Sound A base (Ends A base T F m pass place 0) (inCheck (modeOf pass) (test c current els place) (out c current els))
+    by checks k T F m c current els place at len f h = sound-as (λ r q. (q, tt)) (sound k T F m c current els place f h)
+    by binds k T F m c current els place at len f h =
+        sound-ok (Ends A base T F m binds place 0) _
         (has-as _ (λ w. let a = spent-own k w (x k) (idle .ors k) in let b = idle .idle k w in omega (arith, a, b)) h, reach-none binds place (at .short))
 
 -- a place one element on, with room for n more
@@ -300,9 +299,9 @@ unfolding entered visited
 spends-entered {ty = ty} {l = l} {deep = deep} p derefs g =
     record {
       above = g .above;
-      goes = λ pass k T F E m c current els place at len f e h.
+      goes = λ pass k T F m c current els place at len f h.
           sound-derefed p place ty (l (modeOf pass) (visited c p) current els) derefs deep at len (λ place′ at′ room longer.
-          sound-as (λ r q. (q .0, reach-back pass place place′ derefs deep longer (q .1))) (g .goes pass k T F E m (visited c p) current els place′ at′ room f e h));
+          sound-as (λ r q. (q .0, reach-back pass place place′ derefs deep longer (q .1))) (g .goes pass k T F m (visited c p) current els place′ at′ room f h));
     }
 
 -- one element on
@@ -312,7 +311,7 @@ pub spends-behind : {A : Type 0} {base : Ctx} {image : List ℕ} {ty : PlaceTy} 
 spends-behind {l = l} {deep = deep} p elem fit g =
     record {
       above = g .above;
-      goes = λ pass k T F E m c current els place at len f e h.
+      goes = λ pass k T F m c current els place at len f h.
           sound-step p (project place elem) (λ place′. l (modeOf pass) c current els place′) (sure-on elem deep fit at len) (λ place′ q.
-          sound-as (λ r z. (z .0, reach-back pass place place′ 1 deep (q .0 .longer) (z .1))) (g .goes pass k T F E m c current els place′ (at-onward q) (q .0 .room) f e h));
+          sound-as (λ r z. (z .0, reach-back pass place place′ 1 deep (q .0 .longer) (z .1))) (g .goes pass k T F m c current els place′ (at-onward q) (q .0 .room) f h));
     }

@@ -69,7 +69,7 @@ settles : (image bindings : List ℕ) (pat : Pat) (ty : PlaceTy) (c : Ctx) (curr
     Holds (λ (r : Out). Settled (canFail image pat ty) (r .else)) (patternMatchInner image bindings pat MatchingMode.Check c current OptBlock.None place)
 settles image bindings pat ty c current place on =
     holds-as (λ r a. settled (canFail image pat ty) (r .else) (length (c .state .blocks)) (length (r .ctx .state .blocks)) (a .steps .else))
-    (counts image bindings pat .goes checks c current OptBlock.None place ty 0 false on tt)
+    (counts image bindings pat .goes checks c current OptBlock.None place ty 0 false on)
 
 -- a pattern that appends no more than its derefs
 spends-leaf : {A : Type 0} {base : Ctx} {image : List ℕ} {ty : PlaceTy} {l : Lowering} {fails : Bool} {rs : ℕ → List Reached} (p derefs : ℕ) →
@@ -80,7 +80,7 @@ spends-leaf p derefs g = spends-as refl (omega arith) (λ k. refl) (spends-enter
 spends-refusing : {A : Type 0} {base : Ctx} (image : List ℕ) (ty : PlaceTy) (h : Head) (e : MirLowerError) → Tells A base e →
     Spends A base image ty (refusing e (h .number)) false 0 (λ k. testing h k false 0 0 ∷ [])
 spends-refusing {A = A} {base = base} image ty h e t =
-    record { above = λ k. (le-refl _, tt); goes = λ pass k T F E m c current els place at len f enum room. sound-refused _ e (h .number) t }
+    record { above = λ k. (le-refl _, tt); goes = λ pass k T F m c current els place at len f room. sound-refused _ e (h .number) t }
 
 -- one that has nothing to test and nothing to bind
 spends-passing : {A : Type 0} {base : Ctx} (image : List ℕ) (ty : PlaceTy) (h : Head) → Spends A base image ty passing false 0 (λ k. testing h k false 0 0 ∷ [])

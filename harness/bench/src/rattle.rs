@@ -22,8 +22,8 @@ unsafe extern "C" {
         entries_length: usize,
         visits: *mut u16,
         visits_length: usize,
-        call: *const [u16; 10],
-        answer: *mut [u16; 11],
+        call: *const [u16; 9],
+        answer: *mut [u16; 10],
     );
 }
 
@@ -70,7 +70,7 @@ impl Lent {
 
     /// Hands in a body of one open block, local 0, the bindings' locals and one scope, and lowers; none for a refusal.
     pub fn lower(&mut self, given: &Given) -> Option<Made> {
-        let [number, _, _, then, other, _, blocks, statements, locals, _, _] = self.call(given, given.root);
+        let [number, _, _, then, other, blocks, statements, locals, _, _] = self.call(given, given.root);
         (number == 0).then(|| Made {
             then: then.into(),
             other: (other != ABSENT).then_some(other.into()),
@@ -85,12 +85,12 @@ impl Lent {
         self.call(given, ABSENT)[0]
     }
 
-    fn call(&mut self, given: &Given, pattern: u16) -> [u16; 11] {
+    fn call(&mut self, given: &Given, pattern: u16) -> [u16; 10] {
         self.blocks[..12].fill(0);
         self.locals[..given.types.len()].copy_from_slice(&given.types);
         self.scopes[0] = 0;
-        let call = [1, 0, given.types.len() as u16, 1, 0, ABSENT, pattern, 0, ABSENT, 0];
-        let mut answer = [0; 11];
+        let call = [1, 0, given.types.len() as u16, 1, 0, pattern, 0, ABSENT, 0];
+        let mut answer = [0; 10];
         // SAFETY: each pointer is a slice's, with its length; the two arrays have the function's lengths.
         unsafe {
             fithongu_pattern_match(

@@ -6,12 +6,11 @@ use Rattle.lowering_c.proofs.answer_words.Lts as lts
 use Rattle.image_text.proofs.number_of.Reads as number-of-reads
 use Rattle.image_text.proofs.reason_of.Reads as reason-of-reads
 use Rattle.lowering_c.proofs.block_word.Reads as block-word-reads
-use Rattle.lowering_c.proofs.discr_word.Reads as discr-word-reads
 use Rattle.lowering_c.specs.Words.{answerWords}
 use Rattle.lowering_c.proofs.Handing.{matched-words, refused-words}
 
 returns : tie.Need-returns
-returns c = matched-words (c .before .before .before .call .given .1) (c .before .block-word .ensures) (c .discr-word .ensures)
+returns c = matched-words (c .before .before .call .given .1) (c .block-word .ensures)
 
 returns-2 : tie.Need-returns-2
 returns-2 c = refused-words (c .before .before .before .call2 .given .1) (c .before .number-of .ensures) (c .reason-of .ensures)
@@ -29,7 +28,6 @@ answer-words-spec =
     tie.close
     (tie.spec
     (λ c. search needs)
-    (λ c κs. search needs)
     (λ c κs. search needs)
     (λ c. search needs)
     (λ c κs. search needs)

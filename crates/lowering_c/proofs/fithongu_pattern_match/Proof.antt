@@ -5,7 +5,6 @@ use Rattle.lowering_c.proofs.fithongu_pattern_match.Reads as reads
 use Rattle.lowering_c.proofs.fithongu_pattern_match.Lts as lts
 use Rattle.lowering_c.proofs.answer_words.Reads as answer-words-reads
 use Rattle.lowering_c.proofs.block_or_none.Reads as block-or-none-reads
-use Rattle.lowering_c.proofs.local_or_none.Reads as local-or-none-reads
 use Rattle.pattern_calls.proofs.pattern_match.Reads as pattern-match-reads
 use native.Mathlib.Omega.{arith}
 use Rattle.pattern_matching.specs.Walking.{localPlace}
@@ -32,7 +31,7 @@ same-length-6 c = omega (arith, c .before .before .before .before .before .befor
 
 returns : tie.Need-returns
 unfolding countsOfWords localPlace
-returns c = hands-out _ _ _ _ _ (c .before .before .before .before .before .before .before .before .before .before .before .before .before .before .before .before .before .before .local-or-none .ensures) (c .before .before .before .before .before .before .before .before .before .before .before .before .before .before .block-or-none .ensures) (c .before .before .before .before .before .before .before .before .before .before .before .before .before .pattern-match .ensures) (c .answer-words .ensures)
+returns c = hands-out _ _ _ _ _ (c .before .before .before .before .before .before .before .before .before .before .before .before .before .before .block-or-none .ensures) (c .before .before .before .before .before .before .before .before .before .before .before .before .before .pattern-match .ensures) (c .answer-words .ensures)
 
 pub fithongu-pattern-match-spec : {M : Type 1} → statement M
 fithongu-pattern-match-spec =
@@ -44,8 +43,6 @@ fithongu-pattern-match-spec =
     (λ c. search needs)
     (λ c. search needs)
     (λ c. search needs)
-    (λ c. search needs)
-    (λ c κs. search needs)
     (λ c. search needs)
     (λ c. search needs)
     (λ c. search needs)

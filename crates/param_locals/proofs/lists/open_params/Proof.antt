@@ -16,10 +16,10 @@ list-holds-requires : tie.Need-list-holds-requires
 list-holds-requires c κs = read-whole _ _ (sym (c .before .tables .given .1) ∙ c .before .before .before .read-image .ensures .answer)
 
 returns : tie.Need-returns
-returns c = no-list _ _ _ _ _ _ _ _ _ _ (sym (c .before .before .before .tables .given .1) ∙ c .before .before .before .before .before .read-image .ensures .answer) (c .before .list-holds .ensures) (not-true (c .before .list-holds .result) (c .if1 .taken))
+returns c = no-list _ _ _ _ _ _ _ _ _ (sym (c .before .before .before .tables .given .1) ∙ c .before .before .before .before .before .read-image .ensures .answer) (c .before .list-holds .ensures) (not-true (c .before .list-holds .result) (c .if1 .taken))
 
 returns-2 : tie.Need-returns-2
-returns-2 c = no-body _ _ _ _ _ _ _ _ _ _ (sym (c .before .before .before .before .before .tables .given .1) ∙ c .before .before .before .before .before .before .before .read-image .ensures .answer) (sym (c .before .before .before .list-holds .ensures) ∙ not-false (c .before .before .before .list-holds .result) (c .before .before .if1 .left)) (c .before .check-body .ensures) (not-true (c .before .check-body .result) (c .if2 .taken))
+returns-2 c = no-body _ _ _ _ _ _ _ _ _ (sym (c .before .before .before .before .before .tables .given .1) ∙ c .before .before .before .before .before .before .before .read-image .ensures .answer) (sym (c .before .before .before .list-holds .ensures) ∙ not-false (c .before .before .before .list-holds .result) (c .before .before .if1 .left)) (c .before .check-body .ensures) (not-true (c .before .check-body .result) (c .if2 .taken))
 
 params-hold-requires : tie.Need-params-hold-requires
 params-hold-requires c κs =
@@ -28,13 +28,13 @@ params-hold-requires c κs =
     (T .whole, S .blocks, S .block-count)
 
 returns-3 : tie.Need-returns-3
-returns-3 c = no-call _ _ _ _ _ _ _ _ _ _ (sym (c .before .before .before .before .before .before .before .tables .given .1) ∙ c .before .before .before .before .before .before .before .before .before .read-image .ensures .answer) (sym (c .before .before .before .before .before .list-holds .ensures) ∙ not-false (c .before .before .before .before .before .list-holds .result) (c .before .before .before .before .if1 .left)) (c .before .before .before .check-body .ensures) (not-false (c .before .before .before .check-body .result) (c .before .before .if2 .left)) (c .before .params-hold .ensures) (not-true (c .before .params-hold .result) (c .if3 .taken))
+returns-3 c = no-call _ _ _ _ _ _ _ _ _ (sym (c .before .before .before .before .before .before .before .tables .given .1) ∙ c .before .before .before .before .before .before .before .before .before .read-image .ensures .answer) (sym (c .before .before .before .before .before .list-holds .ensures) ∙ not-false (c .before .before .before .before .before .list-holds .result) (c .before .before .before .before .if1 .left)) (c .before .before .before .check-body .ensures) (not-false (c .before .before .before .check-body .result) (c .before .before .if2 .left)) (c .before .params-hold .ensures) (not-true (c .before .params-hold .result) (c .if3 .taken))
 
 returns-4 : tie.Need-returns-4
-returns-4 c = no-image _ _ _ _ _ _ _ _ _ (sym (c .enum-told .given .1) ∙ c .before .before .read-image .ensures .answer)
+returns-4 c = no-image _ _ _ _ _ _ _ _ (sym (c .enum-told .given .1) ∙ c .before .before .read-image .ensures .answer)
 
 returns-5 : tie.Need-returns-5
-returns-5 c = all-taken _ _ _ _ _ _ _ _ _ _ (sym (c .before .before .before .before .before .before .before .tables .given .1) ∙ c .before .before .before .before .before .before .before .before .before .read-image .ensures .answer) (sym (c .before .before .before .before .before .list-holds .ensures) ∙ not-false (c .before .before .before .before .before .list-holds .result) (c .before .before .before .before .if1 .left)) (c .before .before .before .check-body .ensures) (not-false (c .before .before .before .check-body .result) (c .before .before .if2 .left)) (c .before .params-hold .ensures) (not-false (c .before .params-hold .result) (c .if3 .left))
+returns-5 c = all-taken _ _ _ _ _ _ _ _ _ (sym (c .before .before .before .before .before .before .before .tables .given .1) ∙ c .before .before .before .before .before .before .before .before .before .read-image .ensures .answer) (sym (c .before .before .before .before .before .list-holds .ensures) ∙ not-false (c .before .before .before .before .before .list-holds .result) (c .before .before .before .before .if1 .left)) (c .before .before .before .check-body .ensures) (not-false (c .before .before .before .check-body .result) (c .before .before .if2 .left)) (c .before .params-hold .ensures) (not-false (c .before .params-hold .result) (c .if3 .left))
 
 pub open-params-spec : {M : Type 1} → statement M
 open-params-spec =

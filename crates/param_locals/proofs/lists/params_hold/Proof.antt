@@ -4,7 +4,6 @@ use Rattle.param_locals.proofs.lists.params_hold.Tie as tie
 use Rattle.param_locals.proofs.lists.params_hold.Reads as reads
 use Rattle.param_locals.proofs.lists.params_hold.Lts as lts
 use Rattle.handed.proofs.bindings_hold.Reads as bindings-hold-reads
-use Rattle.handed.proofs.discr_holds.Reads as discr-holds-reads
 use Rattle.handed.proofs.start_holds.Reads as start-holds-reads
 use Rattle.param_locals.proofs.lists.self_named.Reads as self-named-reads
 use mathlib.Core.Bool.{and-true}
@@ -22,15 +21,11 @@ returns-2 c = rw (← c .before .before .before .self-named .ensures, not-false 
 
 returns-3 : tie.Need-returns-3
 unfolding paramsHold allTrue
-returns-3 c = rw (← c .before .before .before .before .before .self-named .ensures, not-false (c .before .before .before .before .before .self-named .result) (c .before .before .before .before .if1 .left), ← c .before .before .before .before .before .before .before .before .before .before .pre .0 .binding-count, ← c .before .before .before .bindings-hold .ensures, not-false (c .before .before .before .bindings-hold .result) (c .before .before .if2 .left), ← c .before .discr-holds .ensures, not-true (c .before .discr-holds .result) (c .if3 .taken))
+returns-3 c = rw (← c .before .before .before .before .before .self-named .ensures, not-false (c .before .before .before .before .before .self-named .result) (c .before .before .before .before .if1 .left), ← c .before .before .before .before .before .before .before .before .before .before .pre .0 .binding-count, ← c .before .before .before .bindings-hold .ensures, not-false (c .before .before .before .bindings-hold .result) (c .before .before .if2 .left), ← c .before .start-holds .ensures, not-true (c .before .start-holds .result) (c .if3 .taken))
 
 returns-4 : tie.Need-returns-4
 unfolding paramsHold allTrue
-returns-4 c = rw (← c .before .before .before .before .before .before .before .self-named .ensures, not-false (c .before .before .before .before .before .before .before .self-named .result) (c .before .before .before .before .before .before .if1 .left), ← c .before .before .before .before .before .before .before .before .before .before .before .before .pre .0 .binding-count, ← c .before .before .before .before .before .bindings-hold .ensures, not-false (c .before .before .before .before .before .bindings-hold .result) (c .before .before .before .before .if2 .left), ← c .before .before .before .discr-holds .ensures, not-false (c .before .before .before .discr-holds .result) (c .before .before .if3 .left), ← c .before .start-holds .ensures, not-true (c .before .start-holds .result) (c .if4 .taken))
-
-returns-5 : tie.Need-returns-5
-unfolding paramsHold allTrue
-returns-5 c = rw (← c .before .before .before .before .before .before .before .self-named .ensures, not-false (c .before .before .before .before .before .before .before .self-named .result) (c .before .before .before .before .before .before .if1 .left), ← c .before .before .before .before .before .before .before .before .before .before .before .before .pre .0 .binding-count, ← c .before .before .before .before .before .bindings-hold .ensures, not-false (c .before .before .before .before .before .bindings-hold .result) (c .before .before .before .before .if2 .left), ← c .before .before .before .discr-holds .ensures, not-false (c .before .before .before .discr-holds .result) (c .before .before .if3 .left), ← c .before .start-holds .ensures, not-false (c .before .start-holds .result) (c .if4 .left), and-true)
+returns-4 c = rw (← c .before .before .before .before .before .self-named .ensures, not-false (c .before .before .before .before .before .self-named .result) (c .before .before .before .before .if1 .left), ← c .before .before .before .before .before .before .before .before .before .before .pre .0 .binding-count, ← c .before .before .before .bindings-hold .ensures, not-false (c .before .before .before .bindings-hold .result) (c .before .before .if2 .left), ← c .before .start-holds .ensures, not-false (c .before .start-holds .result) (c .if3 .left), and-true)
 
 pub params-hold-spec : {M : Type 1} → statement M
 params-hold-spec =
@@ -42,6 +37,4 @@ params-hold-spec =
     returns-2
     (λ c κs. search needs)
     returns-3
-    (λ c κs. search needs)
-    returns-4
-    returns-5)
+    returns-4)

@@ -19,10 +19,10 @@ returns-3 : tie.Need-returns-3
 returns-3 c = rw (c .before .before .before .before .enum-told3 .given .1) (path-absent _ _ _ _ _ _ _ _ (rw (c .before .e .given .1) at (c .before .before .before .binding-local .ensures)))
 
 returns-4 : tie.Need-returns-4
-returns-4 c = rw (c .before .before .before .before .before .before .before .before .before .before .enum-told3 .given .1) (path-assigned _ _ _ _ _ _ _ _ Counted.Full (search (needs, c .before .before .before .before .before .before .before .before .before .before .before .before .before .before .good .1 .1 .1 .1 .1 .1 .1 .1 .1 .0)) (c .before .before .before .before .before .before .before .before .before .before .before .before .before .before .pre .2) (rw (c .before .before .before .before .before .before .before .l .given .1) at (c .before .before .before .before .before .before .before .before .before .binding-local .ensures)) (sym (c .enum-told4 .given .1) ∙ c .before .before .before .before .push-assignment .ensures .0) (c .before .before .before .before .push-assignment .ensures .1))
+returns-4 c = rw (c .before .before .before .before .before .before .before .before .before .before .enum-told3 .given .1) (path-assigned _ _ _ _ _ _ _ _ Counted.Full (search (needs, c .before .before .before .before .before .before .before .before .before .before .before .before .before .before .good .1 .1 .1 .1 .1 .1 .1 .1 .0)) (c .before .before .before .before .before .before .before .before .before .before .before .before .before .before .pre .2) (rw (c .before .before .before .before .before .before .before .l .given .1) at (c .before .before .before .before .before .before .before .before .before .binding-local .ensures)) (sym (c .enum-told4 .given .1) ∙ c .before .before .before .before .push-assignment .ensures .0) (c .before .before .before .before .push-assignment .ensures .1))
 
 returns-5 : tie.Need-returns-5
-returns-5 c = rw (c .before .before .before .before .before .before .before .before .before .before .before .enum-told3 .given .1) (path-assigned _ _ _ _ _ _ _ _ (Counted.Now _) (search (needs, c .before .before .before .before .before .before .before .before .before .before .before .before .before .before .before .good .1 .1 .1 .1 .1 .1 .1 .1 .1 .0)) (c .before .before .before .before .before .before .before .before .before .before .before .before .before .before .before .pre .2) (rw (c .before .before .before .before .before .before .before .before .l .given .1) at (c .before .before .before .before .before .before .before .before .before .before .binding-local .ensures)) (sym (c .before .c1 .given .1) ∙ c .before .before .before .before .before .push-assignment .ensures .0) (c .before .before .before .before .before .push-assignment .ensures .1))
+returns-5 c = rw (c .before .before .before .before .before .before .before .before .before .before .before .enum-told3 .given .1) (path-assigned _ _ _ _ _ _ _ _ (Counted.Now _) (search (needs, c .before .before .before .before .before .before .before .before .before .before .before .before .before .before .before .good .1 .1 .1 .1 .1 .1 .1 .1 .0)) (c .before .before .before .before .before .before .before .before .before .before .before .before .before .before .before .pre .2) (rw (c .before .before .before .before .before .before .before .before .l .given .1) at (c .before .before .before .before .before .before .before .before .before .before .binding-local .ensures)) (sym (c .before .c1 .given .1) ∙ c .before .before .before .before .before .push-assignment .ensures .0) (c .before .before .before .before .before .push-assignment .ensures .1))
 
 pub local-path-spec : {M : Type 1} → statement M
 local-path-spec =

@@ -12,7 +12,7 @@ use mathlib.Core.Path.{sym, _∙_}
 use native.Mathlib.Omega.{arith}
 use borrow.Author.Tests.{not-true, not-false}
 use Rattle.state.proofs.RowLengths.{constant-length}
-use Rattle.pattern_tests.proofs.Assigning.{making, assign-goes}
+use Rattle.pattern_tests.proofs.Assigning.{assign-goes}
 use Rattle.pattern_tests.proofs.Constants.{path-skips, path-no-temp, path-full, path-tests}
 
 returns : tie.Need-returns
@@ -23,7 +23,7 @@ push-constant-assignment-requires c κs = omega (arith, c .before .before .befor
 
 constant-compared-requires : tie.Need-constant-compared-requires
 constant-compared-requires c κs =
-    let G = assign-goes _ _ (making _ _ (rw (c .before .before .before .before .before .before .before .before .before .before .before .before .c1 .given .1) at (c .before .before .before .before .before .before .before .before .before .before .before .before .before .before .before .before .before .before .before .before .temp .ensures))) (constant-length _ _ _) (c .before .before .before .before .before .before .before .before .before .push-constant-assignment .ensures .1) (sym (c .before .before .before .before .before .c2 .given .1) ∙ c .before .before .before .before .before .before .before .before .before .push-constant-assignment .ensures .0) (c .before .before .before .before .before .before .before .before .before .before .before .before .before .before .before .before .before .before .before .before .before .before .before .before .before .before .before .before .before .before .before .before .pre .1 .0) (c .before .before .before .before .before .before .before .before .before .before .before .before .before .before .before .before .before .before .before .before .before .before .before .before .before .before .before .before .before .before .before .before .pre .1 .1) in
+    let G = assign-goes _ _ (rw (c .before .before .before .before .before .before .before .before .before .before .before .before .c1 .given .1) at (c .before .before .before .before .before .before .before .before .before .before .before .before .before .before .before .before .before .before .before .before .temp .ensures)) (constant-length _ _ _) (c .before .before .before .before .before .before .before .before .before .push-constant-assignment .ensures .1) (sym (c .before .before .before .before .before .c2 .given .1) ∙ c .before .before .before .before .before .before .before .before .before .push-constant-assignment .ensures .0) (c .before .before .before .before .before .before .before .before .before .before .before .before .before .before .before .before .before .before .before .before .before .before .before .before .before .before .before .before .before .before .before .before .pre .1 .0) (c .before .before .before .before .before .before .before .before .before .before .before .before .before .before .before .before .before .before .before .before .before .before .before .before .before .before .before .before .before .before .before .before .pre .1 .1) in
     (c .before .before .before .before .before .before .before .before .before .before .before .before .before .before .before .before .before .before .before .before .before .before .before .before .before .before .before .before .before .before .before .before .pre .0 .0, G .0, G .1)
 
 returns-2 : tie.Need-returns-2

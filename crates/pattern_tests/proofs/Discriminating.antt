@@ -31,14 +31,15 @@ use Rattle.mir.specs.Statements.{newStatement, statementsAfter}
 use Rattle.state.proofs.RowLengths.{place-rvalue-length}
 use Rattle.lower.specs.declared.temps.NewTemp.{NewTemp}
 use Rattle.lower.specs.declared.merging.OptBlock.{OptBlock}
-use Rattle.lower.specs.Promises.{Shares}
+use Rattle.lower.specs.Temps.{discrTempPlace}
+use Rattle.lower.specs.Promises.{Makes}
 use Rattle.pattern_matching.specs.Walking.{Ctx, Out, Walk}
 use Rattle.pattern_matching.specs.Variants.{discriminantTest}
 use Rattle.walks.specs.declared.Lowered.{Lowered}
 use Rattle.walks.specs.Answers.{Lent, lent, Primed, Begins, Lowers}
 use Rattle.walks.proofs.Sequences.{lowers-by}
 use Rattle.pattern_switching.specs.Switching.{thenSwitch, Switches}
-use Rattle.pattern_tests.proofs.Assigning.{sharing, assign-no-local, assign-full, assign-then}
+use Rattle.pattern_tests.proofs.Assigning.{assign-no-local, assign-full, assign-then}
 
 -- a number is its first n bytes and, so much higher, the others
 little-split : (n : ℕ) (bytes : List ℕ) → littleEndian (take n bytes) + 256 ^ n * littleEndian (drop n bytes) ≡ littleEndian bytes
@@ -99,32 +100,30 @@ module _ (image bl₀ s₀ l₀ e₀ : List ℕ) (c : Counts) (p : PatId) (v : �
   abbrev row : LocalId → List ℕ
   row m = placeRvalueRow current m PlaceRvalue.Discr place
 
-  -- from here on all tests of enums share the local
   abbrev switches : ℕ → ℕ → LocalId → Ctx → Walk Out
-  switches low high m ctx = thenSwitch (p .0) m low high (record { state = ctx .state; visits = ctx .visits }) current els
+  switches low high m ctx = thenSwitch (p .0) m low high ctx current els
 
   abbrev both : LocalId → Ctx → Walk Out
   both = switches (variantOf image v .discriminant % 18446744073709551616) (variantOf image v .discriminant / 18446744073709551616)
 
   -- there is no local
-  pub discriminant-no-temp : {err : MirLowerError} {s l e : List ℕ} → Shares image discr c current s₀ l₀ e₀ (NewTemp.Refused err) s l e → Tested (Lowered.Refused err p) (lent bl₀ s l e)
+  pub discriminant-no-temp : {err : MirLowerError} {s l e : List ℕ} → Makes (λ st. discrTempPlace image st current) c current s₀ l₀ e₀ (NewTemp.Refused err) s l e → Tested (Lowered.Refused err p) (lent bl₀ s l e)
   unfolding discriminantTest thenSwitch
-  discriminant-no-temp S = assign-no-local bl₀ p els row both (sharing S)
+  discriminant-no-temp M = assign-no-local bl₀ p els row both M
 
-  module _ {c₁ : Counts} {m : LocalId} {s₁ s l e : List ℕ} (long : length (place .elems) ≡ 16) (S : Shares image discr c current s₀ l₀ e₀ (NewTemp.Local c₁ m) s₁ l e)
+  module _ {c₁ : Counts} {m : LocalId} {s₁ s l e : List ℕ} (long : length (place .elems) ≡ 16) (M : Makes (λ st. discrTempPlace image st current) c current s₀ l₀ e₀ (NewTemp.Local c₁ m) s₁ l e)
       (after : s ≡ statementsAfter c₁ s₁ (row m)) where
     -- there is no room for the statement
     pub discriminant-full : Counted.Full ≡ newStatement c₁ → Tested (Lowered.Refused MirLowerError.Limit p) (lent bl₀ s l e)
     unfolding discriminantTest thenSwitch
-    discriminant-full full = assign-full bl₀ p els row both (sharing S) (place-rvalue-length current m PlaceRvalue.Discr place long) after full
+    discriminant-full full = assign-full bl₀ p els row both M (place-rvalue-length current m PlaceRvalue.Discr place long) after full
 
     -- the block goes on by the local
     pub discriminant-switches : {c₂ : Counts} {r : Lowered} {bl : List ℕ} {low high : ℕ} →
         (low ≡ variantOf image v .discriminant % 18446744073709551616) × (high ≡ variantOf image v .discriminant / 18446744073709551616) →
         Counted.Now c₂ ≡ newStatement c₁ → Primed (lent bl₀ s₀ l₀ e₀) c → Begins c current els →
-        Switches (λ ctx. thenSwitch (p .0) m low high ctx current els) c₂ (DiscrTemp.Some m) current els bl₀ r bl → Tested r (lent bl s l e)
+        Switches (switches low high m) c₂ current els bl₀ r bl → Tested r (lent bl s l e)
     unfolding discriminantTest thenSwitch
     discriminant-switches {low = low} {high = high} halves is P h W =
-        let L = W s l e in
-        assign-then bl₀ p els row both (sharing S) (place-rvalue-length current m PlaceRvalue.Discr place long) after is P h
-        (lowers-by {defined = switches low high m} (λ ctx. rw (halves .0, halves .1) refl) (record { answers = L .answers; onward = L .onward }))
+        assign-then bl₀ p els row both M (place-rvalue-length current m PlaceRvalue.Discr place long) after is P h
+        (lowers-by {defined = switches low high m} (λ ctx. rw (halves .0, halves .1) refl) (W s l e))
