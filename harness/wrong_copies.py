@@ -2,10 +2,10 @@
 """Does the comparison find errors of the Rattle code? Changes it in one place, and compares.
 
 `wrong_copies.py [NAME..]` copies the crates to a temporary folder, makes one change there,
-compiles replay without a proof and makes the quick run's comparison of listings, or of
-parameters, with it, or has it replay the stored lists. A line for each change says how many
-images, calls or lines differ; it fails if a change is not found. The harness must be built.
-NAMEs choose changes.
+compiles replay without a proof and makes the quick run's comparison of listings, of
+parameters or of calls on patterns with it, or has it replay the stored lists. A line for each
+change says how many images, calls or lines differ; it fails if a change is not found. The
+harness must be built. NAMEs choose changes.
 """
 
 import shutil
@@ -21,8 +21,11 @@ COMPARE = HERE / "target/release/compare"
 
 # What the program answers is compared with these words of `compare`.
 LISTINGS, PARAMETERS = ("run", "--counts"), ("parameters",)
-# What it prints is compared with what is stored.
-STORED = ()
+# What it prints is compared with what is stored, and what it prints for scripts on patterns with the
+# lines of samples/calls.py and with what the Rust makes of each call.
+STORED, SCRIPTS = (), ("calls",)
+# So many scripts, from this seed.
+SCRIPT_COUNT, SCRIPT_SEED = 400, 1851
 
 # Edits that the prover must refuse, of crates that the program stands on, whose effect a listing
 # shows: crates/CRATE/must-fail/LABEL.edit.
@@ -62,6 +65,46 @@ REFUSED_OF_PARAMETERS = (
     "params_start/a_scope_where_none_is_asked",
     "params_start/scope_by_the_word_of_self",
     "params_start/self_not_counted",
+)
+
+# The same of what only calls on patterns show: with an else, a projection, visits, several scopes.
+REFUSED_OF_MATCHES = (
+    "handed/seventeen_elements",
+    "handed/else_equal_to_the_start",
+    "pattern_calls/self_by_reference",
+    "pattern_calls/assignment_refuses_always",
+    "pattern_parts/a_visit_not_counted",
+    "place/variant_behind_the_last",
+)
+
+MATCHED = "        Lowered::Done(c, d, then, other) => MatchCall::Matched(c, d, then, other),\n"
+BACK = ("            put_back(blocks, current, row);\n            clear_above(blocks, statements, locals, scopes, entries, counts);\n"
+        "            clear_from(visits, 0);\n            MatchCall::Refused(e, q)\n        }\n    }\n}\n\n// `pattern_match_assignment`")
+# Further changes that only these show: a name, the file below crates/, the text, and what it becomes.
+OF_MATCHES = (
+    ("the else that is supplied is not taken", "pattern_calls/src/steps.rt",
+     "        MatchingMode::Check,\n        p,\n        current,\n        els,\n",
+     "        MatchingMode::Check,\n        p,\n        current,\n        OptBlock::None,\n"),
+    ("the projection that is handed in is dropped", "pattern_calls/src/lib.rt",
+     "                els,\n                place,\n            )\n        }\n",
+     "                els,\n                Place { local: place.local, len: 0, elems: [0u32; 16] },\n            )\n        }\n"),
+    ("what is live enters the scope before the last", "pattern_calls/src/steps.rt",
+     "        els,\n        place,\n    ) {\n" + MATCHED,
+     "        els,\n        place,\n    ) {\n        Lowered::Done(c, d, then, other) => {\n"
+     "            if 1 < counts.scopes {\n                scopes[(counts.scopes - 1) as usize] = c.entries;\n            }\n"
+     "            MatchCall::Matched(c, d, then, other)\n        }\n"),
+    ("the visits of an assignment are not counted", "pattern_calls/src/steps.rt",
+     "        OptBlock::None,\n        place,\n    ) {\n" + MATCHED,
+     "        OptBlock::None,\n        place,\n    ) {\n        Lowered::Done(c, d, then, other) => {\n"
+     "            clear_from(visits, 0);\n            MatchCall::Matched(c, d, then, other)\n        }\n"),
+    ("the discriminant local that is handed in is not shared", "pattern_calls/src/lib.rt",
+     "                discr,\n                p,\n                current,\n                els,\n                place,\n            )\n        }\n",
+     "                DiscrTemp::None,\n                p,\n                current,\n                els,\n                place,\n            )\n        }\n"),
+    ("the start stays ended after a refusal", "pattern_calls/src/steps.rt", BACK,
+     BACK.replace("            put_back(blocks, current, row);\n", "")),
+    ("a part of an array is an array of its type", "place/src/place_ty.rt",
+     "TypeKind::Array => PlaceTy::Part(row.a),",
+     "TypeKind::Array => PlaceTy::Ty(s),"),
 )
 
 # Further changes: a name, the file below crates/, the text, and what it becomes.
@@ -179,6 +222,8 @@ def all_changes():
     yield from ((LISTINGS, label, must_fail(label)) for label in REFUSED)
     yield from ((PARAMETERS, label, must_fail(label)) for label in REFUSED_OF_PARAMETERS)
     yield from ((STORED, name, [(file, old, new)]) for name, file, old, new in OF_BODIES)
+    yield from ((SCRIPTS, name, [(file, old, new)]) for name, file, old, new in OF_MATCHES)
+    yield from ((SCRIPTS, label, must_fail(label)) for label in REFUSED_OF_MATCHES)
 
 
 def changed_copy(folder, changes):
@@ -202,6 +247,19 @@ def against_stored(program):
     return f"{len(wanted)} lines compared, {differing} differ", differing > 0
 
 
+def against_scripts(program, folder):
+    """How many lines of scripts on patterns are others than those of samples/calls.py and of the Rust, and whether any is."""
+    given, printed, replayed = (folder / name for name in ("given", "printed", "replayed"))
+    subprocess.run([sys.executable, HERE / "chance_calls.py", str(SCRIPT_SEED), "0", str(SCRIPT_COUNT), given, printed], check=True)
+    lines = subprocess.run([program], input=given.read_bytes(), capture_output=True, check=False).stdout
+    replayed.write_bytes(lines)
+    wanted = printed.read_bytes().splitlines()
+    differing = sum(line != want for line, want in zip_longest(lines.splitlines(), wanted))
+    rust = subprocess.run([COMPARE, "calls", given, replayed], capture_output=True, text=True, check=False)
+    told = rust.stdout.rstrip().rsplit("\n", 1)[-1]
+    return f"{len(wanted)} lines compared, {differing} differ; with the Rust: {told}", differing > 0 and rust.returncode != 0
+
+
 def found(how, changes):
     """What the comparison says last of the changed program, and whether it differs."""
     with tempfile.TemporaryDirectory() as folder:
@@ -211,6 +269,8 @@ def found(how, changes):
         subprocess.run([HERE / "build_unproved", "replay", program, folder], check=True)
         if how == STORED:
             return against_stored(program)
+        if how == SCRIPTS:
+            return against_scripts(program, folder)
         done = subprocess.run([COMPARE, *how, "--other", program, "--count", "1500", "--stored",
                                REPOSITORY / "crates/replay/stdin"], capture_output=True, text=True, check=False)
     return done.stdout.rstrip().rsplit("\n", 1)[-1], done.returncode == 1

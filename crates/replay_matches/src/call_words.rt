@@ -4,20 +4,34 @@ use lower::temps::DiscrTemp;
 use place::LocalId;
 use place::Place;
 
+// An element by its two words, the low half first.
+fn element(low: u16, high: u16) -> u32 {
+    (low as u32) + 65536 * (high as u32)
+}
+
 // The place. A count above 16 is handed in as it stands.
 pub fn place_of(handed: &[u16; 36]) -> Place {
-    let mut elems = [0u32; 16];
-    let mut i = 0;
-    while i < 16 {
-        let low = handed[2 + 2 * i] as u32;
-        let high = handed[3 + 2 * i] as u32;
-        elems[i] = low + 65536 * high;
-        i += 1;
-    }
     Place {
         local: LocalId(handed[0]),
         len: handed[1],
-        elems: elems,
+        elems: [
+            element(handed[2], handed[3]),
+            element(handed[4], handed[5]),
+            element(handed[6], handed[7]),
+            element(handed[8], handed[9]),
+            element(handed[10], handed[11]),
+            element(handed[12], handed[13]),
+            element(handed[14], handed[15]),
+            element(handed[16], handed[17]),
+            element(handed[18], handed[19]),
+            element(handed[20], handed[21]),
+            element(handed[22], handed[23]),
+            element(handed[24], handed[25]),
+            element(handed[26], handed[27]),
+            element(handed[28], handed[29]),
+            element(handed[30], handed[31]),
+            element(handed[32], handed[33]),
+        ],
     }
 }
 

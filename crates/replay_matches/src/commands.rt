@@ -80,7 +80,7 @@ fn call(
 // A call with so many of the bindings' words as are handed in: all where that is more than there are.
 fn call_with(
     image: &[u8],
-    bindings: &[u16; 256],
+    bindings: &[u16],
     blocks: &mut [u16; 6144],
     stmts: &mut [u16; 50176],
     locals: &mut [u16; 512],
@@ -91,9 +91,21 @@ fn call_with(
     handed: &[u16; 36],
     command: Command,
 ) -> Counts {
-    let mut n = binding_words(handed) as usize;
-    if 256 < n {
-        n = 256;
+    let n = binding_words(handed) as usize;
+    if bindings.len() < n {
+        return call(
+            image,
+            bindings,
+            blocks,
+            stmts,
+            locals,
+            scopes,
+            entries,
+            visits,
+            counts,
+            handed,
+            command,
+        );
     }
     call(
         image,

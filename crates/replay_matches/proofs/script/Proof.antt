@@ -1,17 +1,17 @@
-use Rattle.replay_calls.proofs.script.Statement.{statement}
-use Rattle.replay_calls.proofs.script.Tie as tie
-use Rattle.replay_calls.proofs.script.Reads as reads
-use Rattle.replay_calls.proofs.script.Lts as lts
-use Rattle.replay_calls.proofs.commands.run.Reads as run-reads
-use Rattle.replay_calls.proofs.next_command.Reads as next-command-reads
+use Rattle.replay_matches.proofs.script.Statement.{statement}
+use Rattle.replay_matches.proofs.script.Tie as tie
+use Rattle.replay_matches.proofs.script.Reads as reads
+use Rattle.replay_matches.proofs.script.Lts as lts
+use Rattle.replay_matches.proofs.commands.run_command.Reads as run-command-reads
+use Rattle.replay_matches.proofs.next_command.Reads as next-command-reads
 use Rattle.stored_records.proofs.next_number.Reads as next-number-reads
 use borrow.Author.Needs.{needs}
 
 abbrev Inv-loop : tie.InvT-loop
-Inv-loop image blocks₀ stmts₀ locals₀ scopes₀ entries₀ counts₀ left₀ blocks stmts locals scopes entries counts left = Unit
+Inv-loop image bindings₀ blocks₀ stmts₀ locals₀ scopes₀ entries₀ visits₀ handed₀ counts₀ left₀ bindings blocks stmts locals scopes entries visits handed counts left = Unit
 
 abbrev μ-loop : tie.MeasureT-loop
-μ-loop image blocks₀ stmts₀ locals₀ scopes₀ entries₀ counts₀ left₀ blocks stmts locals scopes entries counts left = left
+μ-loop image bindings₀ blocks₀ stmts₀ locals₀ scopes₀ entries₀ visits₀ handed₀ counts₀ left₀ bindings blocks stmts locals scopes entries visits handed counts left = left
 
 pub script-spec : {M : Type 1} → statement M
 script-spec =
