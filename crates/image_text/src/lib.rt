@@ -71,7 +71,7 @@ pub fn put_answer(
     ensures { λ r. ⌜ Wrote (now (out .entry)) pen (answerText (now (blocks .entry)) (now (statements .entry)) (now (locals .entry)) answer) r (now (out .exit)) ⌝ }
 {
     match answer {
-        MatchCall::Matched(c, _, then, els) => put_listing(
+        MatchCall::Matched(c, then, els) => put_listing(
             out,
             pen,
             blocks,

@@ -94,7 +94,7 @@ pub fn put_params_answer(
     ensures { λ r. ⌜ Wrote (now (out .entry)) pen (answerText (now (blocks .entry)) (now (statements .entry)) (now (locals .entry)) (now (entries .entry)) (now (bindings .entry)) many answer) r (now (out .exit)) ⌝ }
 {
     match answer {
-        ParamsCall::Lowered(c, _, then, first) => {
+        ParamsCall::Lowered(c, then, first) => {
             let listed = put_listing(
                 out,
                 pen,

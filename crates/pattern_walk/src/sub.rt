@@ -242,7 +242,7 @@ pub fn alts(
                 }
                 i += 1;
             }
-            alternatives_end(blocks, c, d, mode, p, here, join, els)
+            alternatives_end(blocks, c, mode, p, here, join, els)
         }
     }
 }
