@@ -8,7 +8,7 @@ use image::Tables;
 
 use crate::InferenceResult;
 use crate::db::HirDatabase;
-use crate::mir::lower_to_mir_with_store;
+use crate::mir::{MirBody, Rvalue, StatementKind, lower_to_mir_with_store};
 use crate::next_solver::Ty;
 use crate::store;
 use crate::world::World;
@@ -49,16 +49,32 @@ impl Prepared {
 
     /// Makes the context, local 0 and the bindings' locals, lowers, and drops what was made; none for an error.
     pub fn lower(&self) -> Option<Made> {
+        self.made(|_| 0)
+    }
+
+    /// The same with document 02's local and live mark for each test of a discriminant behind the first.
+    pub fn lower_parted(&self) -> Option<Made> {
+        self.made(|body| {
+            let statements = body.basic_blocks.values().iter().flat_map(|block| &block.statements);
+            let is_test = |kind: &StatementKind| matches!(kind, StatementKind::Assign(_, Rvalue::Discriminant(_)));
+            statements.filter(|statement| is_test(&statement.kind)).count().saturating_sub(1)
+        })
+    }
+
+    /// So many locals and live marks are added.
+    fn made(&self, added: impl FnOnce(&MirBody<'_>) -> usize) -> Option<Made> {
         let db: &dyn HirDatabase = &*self.world;
         let place_type = Ty::numbered(self.place_type);
         let lowered =
             lower_to_mir_with_store(db, &self.store, &self.inference, place_type, self.root, false).ok()?;
+        let added = added(&lowered.body);
+        let blocks = lowered.body.basic_blocks.values();
         Some(Made {
             then: lowered.then.number(),
             other: lowered.other.map(|block| block.number()),
             blocks: lowered.body.basic_blocks.len(),
-            statements: lowered.body.basic_blocks.values().iter().map(|block| block.statements.len()).sum(),
-            locals: lowered.body.locals.len(),
+            statements: blocks.iter().map(|block| block.statements.len()).sum::<usize>() + added,
+            locals: lowered.body.locals.len() + added,
         })
     }
 }
