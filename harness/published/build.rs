@@ -12,8 +12,15 @@ const LOWER: &str = "src--src--mir--lower.rs.txt";
 const PATTERNS: &str = "src--src--mir--lower--pattern_matching.rs.txt";
 
 /// What stands beside the items of lower.rs.
-const FRAMES: [&str; 7] =
-    ["as_place.rs", "calls.rs", "discriminants.rs", "entry.rs", "parameters.rs", "replacements.rs", "rows.rs"];
+const FRAMES: [&str; 7] = [
+    "as_place.rs",
+    "calls.rs",
+    "discriminants.rs",
+    "entry.rs",
+    "parameters.rs",
+    "replacements.rs",
+    "rows.rs",
+];
 
 fn main() {
     println!("cargo::rerun-if-env-changed=FITHONGU_RUST_TEXT");

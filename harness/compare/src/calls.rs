@@ -5,8 +5,8 @@
 use std::collections::BTreeMap;
 
 use image::{ABSENT, Tables};
-use published::{Answer, Changed};
 use published::calls::{Call, CallAnswer, Handed, Made, call};
+use published::{Answer, Changed};
 
 use crate::judge;
 use crate::records::{self, Record};

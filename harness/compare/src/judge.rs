@@ -44,9 +44,7 @@ pub fn of_outcome(tables: &Tables, outcome: Outcome) -> Expected {
     }
     let line = |[number, pattern, reason]: [u16; 3]| format!("refused {number} {pattern} {reason}\n");
     match outcome.answer {
-        Answer::Listing(listing) => {
-            Expected { changed: outcome.changed, ..text("accepted".into(), listing) }
-        }
+        Answer::Listing(listing) => Expected { changed: outcome.changed, ..text("accepted".into(), listing) },
         Answer::Refused(refusal @ [4, _, reason]) => text(format!("refused 4 for {reason}"), line(refusal)),
         Answer::Refused(refusal) => text(format!("refused {}", refusal[0]), line(refusal)),
         Answer::Stopped([0, ..], said) => {

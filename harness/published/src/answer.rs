@@ -86,9 +86,9 @@ pub fn lower(tables: &Tables, place_type: usize, how: How) -> Outcome {
 
 /// A listing, an error or a panic, in document 01's words.
 pub(crate) fn of_made(made: std::thread::Result<Result<Listed, MirLowerError<'_>>>, trace: Trace) -> Outcome {
-    let changed = made.as_ref().map_or(Changed::default(), |made| {
-        made.as_ref().map_or(Changed::default(), |listed| listed.changed)
-    });
+    let changed = made
+        .as_ref()
+        .map_or(Changed::default(), |made| made.as_ref().map_or(Changed::default(), |listed| listed.changed));
     let answer = match made {
         Ok(Ok(listed)) => Answer::Listing(listed.text),
         Ok(Err(error)) => of_error(&error, &trace),

@@ -1,8 +1,9 @@
 //! Document 02's discriminant locals in the published text's bodies.
 
-use image::kinds::{BIND, BY_REF, BY_VALUE, ENUM, INT, LIT, NAMES_VARIANT, OR, PATH, TUPLE, TUPLE_STRUCT, WILD};
+use image::kinds::{BIND, BY_REF, ENUM, INT, LIT, NAMES_VARIANT, OR, PATH, TUPLE, TUPLE_STRUCT, WILD};
 use image::{ABSENT, Tables};
 use published::parameters::{After, Parameters, Setting, lower_parameters};
+use published::trace::Trace;
 use published::{Answer, How, Outcome};
 
 /// An enum of `Some(u8)` and `None`, type 1.
@@ -87,9 +88,9 @@ fn an_assignments_tests_have_their_locals() {
     let items = [none(&mut m), some(&mut m, wild)];
     let list = m.add_words(&items);
     m.add_pattern(OR, 1, 0, [list, 2, 0, 0]);
-    let (lines, parted) = listed(lowered(&m, true));
-    let sets: Vec<&String> = lines.iter().filter(|line| line.starts_with("set ")).collect();
-    assert_eq!((sets, parted), (vec!["set 1 discr 0", "set 2 discr 0"], true));
+    let (mut found, parted) = listed(lowered(&m, true));
+    found.retain(|line| line.starts_with("set "));
+    assert_eq!((found, parted), (lines("set 1 discr 0, set 2 discr 0"), true));
 }
 
 fn parameters(m: &Tables, list: &[(u16, u16)], after: After) -> (Vec<String>, bool) {
@@ -117,38 +118,23 @@ fn entries_are_in_the_order_of_live_marks() {
 fn what_is_dropped_has_the_new_locals() {
     let mut m = with_option();
     let list = [(none(&mut m), 1), (none(&mut m), 1)];
-    let (found, parted) = parameters(&m, &list, After::DropUntilScope);
-    let dead: Vec<&String> = found.iter().filter(|line| line.starts_with("dead ")).collect();
-    assert_eq!((dead, parted), (vec!["dead 3", "dead 2", "dead 1", "dead 0"], true));
+    let (mut found, parted) = parameters(&m, &list, After::DropUntilScope);
+    found.retain(|line| line.starts_with("dead "));
+    assert_eq!((found, parted), (lines("dead 3, dead 2, dead 1, dead 0"), true));
 }
 
-/// So many tests of a variant, with so many bindings: whether a limit is passed.
-fn passes(tests: usize, bindings: usize) -> bool {
+/// What is heard of a tuple of so many tests of a variant, with so many bindings.
+fn heard(tests: usize, bindings: usize) -> Trace {
     let mut m = with_option();
     m.bindings.resize(bindings, [0, 1]);
     let items: Vec<u16> = (0..tests).map(|_| none(&mut m)).collect();
     tuple(&mut m, &items);
-    lowered(&m, false).trace.passed.is_some()
+    lowered(&m, false).trace
 }
 
 #[test]
-fn each_test_counts_a_local() {
-    assert!(!passes(255, 256));
-    assert!(passes(256, 256));
-}
-
-/// 510 tests make 1,020 statements; with a Bind for each of two more it is 1,024, with three 1,026.
-#[test]
-fn each_test_counts_two_statements() {
-    let with_binds = |tests: usize, binds: usize| {
-        let mut m = with_option();
-        m.add_binding(0, 1);
-        let mut items: Vec<u16> = (0..tests).map(|_| none(&mut m)).collect();
-        items.extend((0..binds).map(|_| m.add_pattern(BIND, 0, 0, [0, ABSENT, BY_VALUE, 0])));
-        let whole = tuple(&mut m, &items);
-        let outer = m.add_binding(m.patterns[usize::from(whole)][1], 1);
-        m.add_pattern(BIND, m.patterns[usize::from(whole)][1], 0, [outer, whole, BY_VALUE, 0]);
-        lowered(&m, false).trace
-    };
-    assert_eq!((with_binds(250, 260).statements, with_binds(250, 260).passed), (1022, None));
+fn each_test_counts_a_local_an_entry_and_two_statements() {
+    let last = heard(255, 256);
+    assert_eq!((last.locals, last.entries, last.statements, last.passed), (512, 255, 510, None));
+    assert_eq!(heard(256, 256).passed, Some(Some(255)));
 }

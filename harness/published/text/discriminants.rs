@@ -100,7 +100,9 @@ impl Parting {
             StatementKind::StorageLive(local) => *local = self.numbers[local.number()],
             StatementKind::Assign(target, value) => {
                 target.local = self.numbers[target.local.number()];
-                places_of(value).into_iter().for_each(|place| place.local = self.numbers[place.local.number()]);
+                for place in places_of(value) {
+                    place.local = self.numbers[place.local.number()];
+                }
             }
             other => panic!("a walk makes no {other:?}"),
         }
