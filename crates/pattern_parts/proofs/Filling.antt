@@ -42,9 +42,9 @@ use Rattle.walks.proofs.Sequences.{lowers-skips, lowers-refuses, lowers-by}
 use Rattle.pattern_parts.specs.Parts.{restFilled, Assigns, Fills}
 
 -- the answer of a statement's push, as the code has it
-abbrev pushed : Counted → DiscrTemp → PatId → BasicBlockId → OptBlock → Lowered
-pushed (Counted.Now c) discr p current els = Lowered.Done c current els
-pushed Counted.Full discr p current els = Lowered.Refused MirLowerError.Limit p
+abbrev pushed : Counted → PatId → BasicBlockId → OptBlock → Lowered
+pushed (Counted.Now c) p current els = Lowered.Done c current els
+pushed Counted.Full p current els = Lowered.Refused MirLowerError.Limit p
 
 -- a statement takes nothing away
 statement-grown : (c : Counts) {c₁ : Counts} → Counted.Now c₁ ≡ newStatement c → Grown c c₁
@@ -59,7 +59,7 @@ statement-grown c {c₁ = c₁} is = made (ltb (c .statements) statementLimit) i
     made false e = let z : _≡_ {A = ℕ} 0 1 = cc in absurd (omega arith)
 
 -- where the push of a statement goes on
-pushed-onward : (c : Counts) (r : Counted) (p : PatId) {current : BasicBlockId} {els : OptBlock} → r ≡ newStatement c → Begins c current els → OnwardBy c current els (pushed r discr p current els)
+pushed-onward : (c : Counts) (r : Counted) (p : PatId) {current : BasicBlockId} {els : OptBlock} → r ≡ newStatement c → Begins c current els → OnwardBy c current els (pushed r p current els)
 pushed-onward c (Counted.Now c₁) p is h = onward-grown (statement-grown c is) h
 pushed-onward c Counted.Full p is h = tt
 
@@ -75,7 +75,7 @@ module _ (p : PatId) (current : BasicBlockId) (els : OptBlock) (place : Place) w
   -- the assignment, or no room for it: the statements are s₀ before and s after, and st is any state
   assign-answers : (bl s₀ lo sc e visits : List ℕ) (c : Counts) (st : State) {s : List ℕ} (l : LocalId) (rvalue : PlaceRvalue) (r : Counted) → length (place .elems) ≡ 16 → r ≡ newStatement c →
       s ≡ statementsAfter c s₀ (placeRvalueRow current l rvalue place) → Ready (body bl s₀ lo sc e) c →
-      Answers (body bl s₀ lo sc e) c (current .0) (body bl s lo sc e) (loweredCounts (pushed r discr p current els)) (walkOf (pushed r discr p current els) (body bl s lo sc e) visits)
+      Answers (body bl s₀ lo sc e) c (current .0) (body bl s lo sc e) (loweredCounts (pushed r p current els)) (walkOf (pushed r p current els) (body bl s lo sc e) visits)
       (assigned l rvalue (record { state = st; visits = visits }) (decode (body bl s₀ lo sc e) c))
   assign-answers bl s₀ lo sc e visits c st {s = s} l rvalue r long is after R = by r is
     where
@@ -84,7 +84,7 @@ module _ (p : PatId) (current : BasicBlockId) (els : OptBlock) (place : Place) w
       stored r is = push-statement-answers bl s₀ lo sc e c (current .0) (placeRvalueRow current l rvalue place) (place-rvalue-length current l rvalue place long) is after R
 
       by : (r : Counted) → r ≡ newStatement c →
-          Answers (body bl s₀ lo sc e) c (current .0) (body bl s lo sc e) (loweredCounts (pushed r discr p current els)) (walkOf (pushed r discr p current els) (body bl s lo sc e) visits)
+          Answers (body bl s₀ lo sc e) c (current .0) (body bl s lo sc e) (loweredCounts (pushed r p current els)) (walkOf (pushed r p current els) (body bl s lo sc e) visits)
           (assigned l rvalue (record { state = st; visits = visits }) (decode (body bl s₀ lo sc e) c))
       by (Counted.Now c₁) is = let F = stored (Counted.Now c₁) is in step-then (p .0) (behind visits) F (inl refl) (stays (behind visits (decode (body bl s lo sc e) c₁)) (F .goes .0))
       by Counted.Full is = step-stops (p .0) (behind visits) (stored Counted.Full is)
@@ -105,22 +105,22 @@ module _ (bindings s₀ e₀ : List ℕ) (c : Counts) (p q : PatId) (b : ℕ) (h
     unfolding patternMatchBinding
     binding-unmarked M bl lo P = record {
       answers = λ sc visits R.
-          rw (← bound) (step-stops (p .0) (assigned discr p current els place l (bindingRvalue how) (ctxOf (body bl s₀ lo sc e₀) c visits)) (M bl lo sc R));
+          rw (← bound) (step-stops (p .0) (assigned p current els place l (bindingRvalue how) (ctxOf (body bl s₀ lo sc e₀) c visits)) (M bl lo sc R));
       onward = tt;
     }
 
     -- it is marked, and then it is filled, or there is no room for the statement
     pub binding-filled : {c₁ : Counts} {rvalue : PlaceRvalue} {s₁ e₁ s : List ℕ} (r : Counted) → length (place .elems) ≡ 16 → Begins c current els →
         Marks (λ st. pushStorageLiveForLocal st l current) c current s₀ e₀ (Stepped.Now c₁) s₁ e₁ → rvalue ≡ bindingRvalue how → r ≡ newStatement c₁ → s ≡ statementsAfter c₁ s₁ (placeRvalueRow current l rvalue place) →
-        Bound (pushed r discr p current els) s e₁
+        Bound (pushed r p current els) s e₁
     unfolding patternMatchBinding
     binding-filled {c₁ = c₁} {s₁ = s₁} {e₁ = e₁} {s = s} r long start M same is after bl lo P = record {
       answers = λ sc visits R.
           let F = M bl lo sc R in
           rw (← bound)
-          (step-then (p .0) (assigned discr p current els place l (bindingRvalue how) (ctxOf (body bl s₀ lo sc e₀) c visits)) F (inl refl)
+          (step-then (p .0) (assigned p current els place l (bindingRvalue how) (ctxOf (body bl s₀ lo sc e₀) c visits)) F (inl refl)
           (assign-answers p current els place bl s₁ lo sc e₁ visits c₁ (decode (body bl s₀ lo sc e₀) c) l (bindingRvalue how) r long is (after ∙ ap (λ (v : PlaceRvalue). statementsAfter c₁ s₁ (placeRvalueRow current l v place)) same) (F .goes .0)));
-      onward = let G = M bl lo (zeros 32) P .goes .1 in onward-by (pushed r discr p current els) G (onward-grown G start) (pushed-onward c₁ r p is (begins-grown G start));
+      onward = let G = M bl lo (zeros 32) P .goes .1 in onward-by (pushed r p current els) G (onward-grown G start) (pushed-onward c₁ r p is (begins-grown G start));
     }
 
 -- `local_path`: s₀ is the statements' table at entry
@@ -145,7 +145,7 @@ module _ (bindings s₀ : List ℕ) (c : Counts) (p : PatId) (b : ℕ) (current 
 
   -- it is assigned to, or there is no room for the statement
   pub path-assigned : {l : LocalId} {s : List ℕ} (r : Counted) → length (place .elems) ≡ 16 → Begins c current els → done l ≡ bindingLocal bindings b → r ≡ newStatement c →
-      s ≡ statementsAfter c s₀ (placeRvalueRow current l PlaceRvalue.Copy place) → Path MatchingMode.Assign (pushed r discr p current els) s
+      s ≡ statementsAfter c s₀ (placeRvalueRow current l PlaceRvalue.Copy place) → Path MatchingMode.Assign (pushed r p current els) s
   unfolding localPath
   path-assigned {l = l} r long start bound is after bl lo e = record {
     answers = λ sc visits R. rw (← bound) (assign-answers p current els place bl s₀ lo sc e visits c (decode (body bl s₀ lo sc e) c) l PlaceRvalue.Copy r long is after R);

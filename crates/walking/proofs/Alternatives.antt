@@ -79,7 +79,7 @@ module _ (image bindings : List ℕ) (p : PatId) (from count : ℕ) (mode : Matc
     pub alternatives-over : {r : Lowered} {bl : List ℕ} → count ≤ i →
         ((statements locals entries scopes visits : List ℕ) → Ready (bodyOf (lent (t .blocks) statements locals entries) scopes) c →
         Answers (bodyOf (lent (t .blocks) statements locals entries) scopes) c (here .0) (bodyOf (lent bl statements locals entries) scopes) (loweredCounts r)
-        (walkOf r (bodyOf (lent bl statements locals entries) scopes) visits) (alternativesLeft (p .0) mode (ctxOf (bodyOf (lent (t .blocks) statements locals entries) scopes) c d visits) here join els)) →
+        (walkOf r (bodyOf (lent bl statements locals entries) scopes) visits) (alternativesLeft (p .0) mode (ctxOf (bodyOf (lent (t .blocks) statements locals entries) scopes) c visits) here join els)) →
         JoinedBy c join els r → Rest r (withBlocks t bl) v
     alternatives-over {r = r} h F on = record {
       answers = λ scopes visits R H.
@@ -124,7 +124,7 @@ module _ (image bindings : List ℕ) (p : PatId) (from count : ℕ) (mode : Matc
       pub alternatives-sure : {c₁ : Counts} {then : BasicBlockId} {t₁ : Lent} {v₁ bl : List ℕ} → Begins c here els → join .0 < c .blocks → Primed t c →
           Walks (λ ctx. alternative (patternMatchInner image bindings (tree image (q .0))) mode ctx here place) c here OptBlock.None t v (Lowered.Done c₁ then OptBlock.None) t₁ v₁ →
           bl ≡ stored (t₁ .blocks) (12 * then .0) (termRow (Terminator.Goto join)) → Rest (Lowered.Done c₁ join els) (withBlocks t₁ bl) v₁
-      alternatives-sure {c₁ = c₁} {d₁ = d₁} B inside P W set = joins-by alternative-as (record {
+      alternatives-sure {c₁ = c₁} B inside P W set = joins-by alternative-as (record {
         answers = λ scopes visits R H.
             let F = W .answers scopes visits R H in
             let S = goto-answers W set scopes (F .answers .goes .0) in
@@ -148,7 +148,7 @@ module _ (image bindings : List ℕ) (p : PatId) (from count : ℕ) (mode : Matc
           Walks (λ ctx. alternative (patternMatchInner image bindings (tree image (q .0))) mode ctx here place) c here OptBlock.None t v (Lowered.Done c₁ then (OptBlock.Some on)) t₁ v₁ →
           bl ≡ stored (t₁ .blocks) (12 * then .0) (termRow (Terminator.Goto join)) →
           {r : Lowered} {t₂ : Lent} {v₂ : List ℕ} → Joins (alternativesGo (i + 1) on) c₁ on join els (withBlocks t₁ bl) v₁ r t₂ v₂ → Rest r t₂ v₂
-      alternatives-next {c₁ = c₁} {d₁ = d₁} {on = on} B P W set {r = r} {t₂ = t₂} N = joins-by alternative-as (record {
+      alternatives-next {c₁ = c₁} {on = on} B P W set {r = r} {t₂ = t₂} N = joins-by alternative-as (record {
         answers = λ scopes visits R H.
             let F = W .answers scopes visits R H in
             let S = goto-answers W set scopes (F .answers .goes .0) in

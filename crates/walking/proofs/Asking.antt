@@ -31,7 +31,7 @@ use Rattle.walking.specs.Walk.{Walkable}
 
 module _ {image : List ℕ} {tables : Tables} {bindings : List ℕ} {t : Lent} {v : List ℕ} {c : Counts} {current : BasicBlockId} {els : OptBlock} {place : Place} (W : Walkable image tables bindings t v c current els place) where
   -- where a part goes on
-  pub walkable-after : {defined : Ctx → Walk Out} {discr d₁ : DiscrTemp} {c₁ : Counts} {then : BasicBlockId} {other : OptBlock} {t₁ : Lent} {v₁ : List ℕ} → length v₁ ≡ length v →
+  pub walkable-after : {defined : Ctx → Walk Out} {c₁ : Counts} {then : BasicBlockId} {other : OptBlock} {t₁ : Lent} {v₁ : List ℕ} → length v₁ ≡ length v →
       Walks defined c current els t v (Lowered.Done c₁ then other) t₁ v₁ → Walkable image tables bindings t₁ v₁ c₁ then other place
   walkable-after same F = record {
     image-valid = W .image-valid;
@@ -44,7 +44,7 @@ module _ {image : List ℕ} {tables : Tables} {bindings : List ℕ} {t : Lent} {
   }
 
   -- where one that visits no pattern does
-  pub walkable-behind : {defined : Ctx → Walk Out} {discr d₁ : DiscrTemp} {c₁ : Counts} {then : BasicBlockId} {other : OptBlock} {t₁ : Lent} →
+  pub walkable-behind : {defined : Ctx → Walk Out} {c₁ : Counts} {then : BasicBlockId} {other : OptBlock} {t₁ : Lent} →
       Lowers defined c current els t (Lowered.Done c₁ then other) t₁ → Walkable image tables bindings t₁ v c₁ then other place
   walkable-behind F = walkable-after (λ i. length v) (lowers-walks v F)
 

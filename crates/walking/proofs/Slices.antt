@@ -73,7 +73,7 @@ module _ (image bindings : List ℕ) (p : PatId) (rest from front back : ℕ) (m
     pub slice-behind-none : {c₁ : Counts} {then : BasicBlockId} {other : OptBlock} →
         Fills (λ ctx. restBound (restOf (tree? (tree image) rest)) bindings (p .0) front back mode ctx current els place) c current els s e (Lowered.Done c₁ then other) s₁ e₁ → back ≡ 0 →
         Walks (λ ctx. sliceBehind image bindings (p .0) rest from front back mode ctx current els place) c current els (lent bl s l e) v (Lowered.Done c₁ then other) (lent bl s₁ l e₁) v
-    slice-behind-none {c₁} {d₁} {then} {other} F none =
+    slice-behind-none {c₁} {then} {other} F none =
         slice-behind-then F (walks-by (λ ctx. ap (λ (k : ℕ). argumentsFrom ArgumentRow.LastItems image bindings (p .0) from back 0 k mode ctx then other place) (sym none))
         (arguments-end ArgumentRow.LastItems image bindings p from back 0 mode place 0 c₁ then other (lent bl s₁ l e₁) v (omega arith) (fills-walks v P F .onward .begins)))
 

@@ -34,7 +34,7 @@ beyond-check MatchingMode.Bind test skip e = refl
 beyond-check MatchingMode.Assign test skip e = refl
 
 -- a part without an else, whose place another else takes
-with-else : {defined : Ctx → Walk Out} {c c₁ : Counts} {d d₁ : DiscrTemp} {current then : BasicBlockId} {x : OptBlock} {t t₁ : Lent} {v v₁ : List ℕ} (other : OptBlock) → Begins c current other → Primed t c →
+with-else : {defined : Ctx → Walk Out} {c c₁ : Counts} {current then : BasicBlockId} {x : OptBlock} {t t₁ : Lent} {v v₁ : List ℕ} (other : OptBlock) → Begins c current other → Primed t c →
     Walks defined c current OptBlock.None t v (Lowered.Done c₁ then x) t₁ v₁ →
     Walks (λ ctx. next (defined ctx) (λ b. out (b .ctx) (b .then) other)) c current other t v (Lowered.Done c₁ then other) t₁ v₁
 with-else other B P W = record {

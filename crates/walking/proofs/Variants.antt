@@ -81,7 +81,7 @@ module _ (image bindings : List ℕ) (p : PatId) (mode : MatchingMode) (c : Coun
       pub tuple-like-none-behind : {c₁ : Counts} {then : BasicBlockId} {other : OptBlock} {t₁ : Lent} {v₁ : List ℕ} → Primed t c →
           Walks (λ ctx. argumentsFrom ArgumentRow.Fields image bindings (p .0) from fields 0 m mode ctx current els place) c current els t v (Lowered.Done c₁ then other) t₁ v₁ →
           count ≡ before → TupleLike (Lowered.Done c₁ then other) t₁ v₁
-      tuple-like-none-behind {c₁} {d₁} {then} {other} {t₁} {v₁} P W none =
+      tuple-like-none-behind {c₁} {then} {other} {t₁} {v₁} P W none =
           let e : count - before ≡ 0 = omega (arith, none) in
           tuple-like-then 0 P W (sym (ap (λ (k : ℕ). smaller k fields) e ∙ zero-smaller fields))
           (arguments-end ArgumentRow.LastFields image bindings p (from + count) fields 0 mode place 0 c₁ then other t₁ v₁ (omega arith) (W .onward .begins))

@@ -18,7 +18,7 @@ returns : tie.Need-returns
 returns c = path-unresolved _ _ _ _ _ _ _ _ _ _ _ (c .enum-told .given .1)
 
 returns-2 : tie.Need-returns-2
-returns-2 c = path-variant _ _ _ _ _ _ _ _ _ _ _ _ (c .enum-told2 .given .1)
+returns-2 c = path-variant _ _ _ _ _ _ _ _ _ _ _ (c .enum-told2 .given .1)
 
 returns-3 : tie.Need-returns-3
 returns-3 c = path-local _ _ _ _ _ _ _ _ _ _ (c .before .before .before .before .enum-told3 .given .1) (c .before .before .local-path .ensures)

@@ -27,10 +27,10 @@ abbrev pub calls : ℕ → lts.Claims
 calls t = (argument-pat-reads.Asked, argument-pat-reads.Learnt, nothing-to-do-reads.Asked, nothing-to-do-reads.Learnt, visit-reads.Asked, visit-reads.Learnt, argument-elem-reads.Asked, argument-elem-reads.Learnt, project-reads.Asked, project-reads.Learnt, pattern-match-inner-below t, pattern-match-inner.Post)
 
 abbrev pub Inv-loop : lts.InvT-loop
-Inv-loop image tables bindings blocks₀ statements₀ locals₀ entries₀ visits₀ mode p row from fields count place c₀ d₀ here₀ other₀ i₀ blocks statements locals entries visits c d here other i = ArgumentsGoing row image tables bindings p from fields count mode place c₀ d₀ here₀ other₀ (lent blocks₀ statements₀ locals₀ entries₀) visits₀ c d here other (lent blocks statements locals entries) visits i
+Inv-loop image tables bindings blocks₀ statements₀ locals₀ entries₀ visits₀ mode p row from fields count place c₀ here₀ other₀ i₀ blocks statements locals entries visits c here other i = ArgumentsGoing row image tables bindings p from fields count mode place c₀ here₀ other₀ (lent blocks₀ statements₀ locals₀ entries₀) visits₀ c here other (lent blocks statements locals entries) visits i
 
 abbrev pub μ-loop : lts.MeasureT-loop
-μ-loop image tables bindings blocks₀ statements₀ locals₀ entries₀ visits₀ mode p row from fields count place c₀ d₀ here₀ other₀ i₀ blocks statements locals entries visits c d here other i = count - i
+μ-loop image tables bindings blocks₀ statements₀ locals₀ entries₀ visits₀ mode p row from fields count place c₀ here₀ other₀ i₀ blocks statements locals entries visits c here other i = count - i
 
 pub loop-holds : (t : ℕ) → lts.Need-loop-holds (calls t) (adt·pattern-match-adt-at t) adt·pattern-match-adt.Post Inv-loop μ-loop
 loop-holds t c = arguments-begin (c .before .before .before .before .before .before .before .args .row) _ _ _ _ _ _ _ _ _ _ _ _ _ _ (c .before .before .before .before .before .before .before .pre .1 .0)
