@@ -29,7 +29,7 @@ use Rattle.meaning.specs.Binding.{binds}
 use Rattle.meaning.proofs.Laws as laws
 use Rattle.meaning.proofs.Crossing as crossing
 use Rattle.meaning.proofs.Behind as behind
-use Rattle.correctness.specs.Demand2.{pathOf, IsNotDiscr, Fitting, Distinct, Comes, Ends}
+use Rattle.correctness.specs.Demand2.{pathOf, Fitting, Distinct, Comes, Ends}
 use Rattle.correctness.proofs.Plain as plain
 use Rattle.called.specs.Call.{Call, HandedOut, Accepted, before, after, patternOf, startOf}
 use Rattle.called.proofs.Ended as ended
@@ -105,10 +105,6 @@ another-field-is-not-the-one-handed-in = behind.another-field
 -- "enters no block twice": of the blocks of a run, two at different places of its way differ.
 pub blocks-of-a-run-differ : (xs : List ℕ) → Distinct xs → (i j : ℕ) → i < j → j < length xs → getD xs i 0 ≡ getD xs j 0 → ⊥
 blocks-of-a-run-differ = plain.distinct-differ
-
--- The locals of which the page speaks: all where there is no discriminant's local, and else all others.
-pub locals-other-than-the-discriminant's : (d : LocalId) (l : ℕ) → IsNotDiscr DiscrTemp.None l × (IsNotDiscr (DiscrTemp.Some d) l ↔ (l ≡ d .0 → ⊥))
-locals-other-than-the-discriminant's = plain.other-than-discr
 
 -- Every body goes on from itself: what is said of bodies that go on is said of the one that is handed out.
 pub a-body-goes-on-from-itself : (m : Mir) → GoesOn m m

@@ -41,7 +41,7 @@ fit-accepted call r body visits t P T typed named fit room scope =
     let G = given call T in
     let (o, gave) = rooms.fit-accepted (call .image) (call .bindings) (patternOf call) (startOf call) (call .start) (call .else) (call .place) t (G .image-valid) named typed (G .root) (call .elements) fit
     room scope in
-    let is : r ≡ MatchCall.Matched (countsOf (o .ctx .state)) (o .ctx .discr) (o .then) (o .else) = P .gives .reply ∙ ap answer (walks call T) ∙ ap walkAnswer gave in
+    let is : r ≡ MatchCall.Matched (countsOf (o .ctx .state)) (o .then) (o .else) = P .gives .reply ∙ ap answer (walks call T) ∙ ap walkAnswer gave in
     (record { counts = countsOf (o .ctx .state); then = o .then; else = o .else; body = body; visits = visits }, is, refl, refl, subst (λ (x : MatchCall). Promised call x body visits) is P)
 
 -- a refusal by 11 names a limit that is passed, whether the pattern fits or not

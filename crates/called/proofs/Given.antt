@@ -30,7 +30,7 @@ use Rattle.views.specs.Views.{terminatorOf, lineOf, mirOf}
 use Rattle.lower_calls.specs.Calls.{bodyTaken}
 use Rattle.growth.specs.Opened.{terminator, lines, Below, ElseReady, Ready, Starts}
 use Rattle.growth.proofs.Working.{below-append}
-use Rattle.handed.specs.Handed.{startHolds, elseHolds, placeHolds, bindingsHold, discrHolds, patternHanded, matchHolds}
+use Rattle.handed.specs.Handed.{startHolds, elseHolds, placeHolds, bindingsHold, patternHanded, matchHolds}
 use Rattle.called.specs.Call.{Call, before, startOf}
 use Rattle.called.specs.Acceptance.{Taken}
 
@@ -137,7 +137,6 @@ module _ (call : Call) (T : Taken call) where
   tests =
       patternHanded (patternCount (call .image)) (call .visits) (call .pattern)
       ∷ bindingsHold (bindingCount (call .image)) c (call .bindings)
-      ∷ discrHolds c
       ∷ startHolds (call .body .blocks) c (call .start)
       ∷ elseHolds c (call .start) (call .else)
       ∷ placeHolds (variantCount (call .image)) c (call .place)
@@ -153,7 +152,7 @@ module _ (call : Call) (T : Taken call) where
   pattern-there = ltb-true _ _ (and-left (ltb (call .pattern) (patternCount (call .image))) (eqb (length (call .visits)) 512) (test 0))
 
   starts : Starts (startOf call) (call .start) (call .else)
-  starts = may-start (call .image) (call .body) c (call .start) (call .else) (T .body) (test 3) (test 4)
+  starts = may-start (call .image) (call .body) c (call .start) (call .else) (T .body) (test 2) (test 3)
 
   place-there : (call .place .local .0 < c .locals) × (call .place .len ≤ 16)
   unfolding placeHolds
@@ -162,7 +161,7 @@ module _ (call : Call) (T : Taken call) where
       let root = isLocal c (place .local .0) in
       let short = leb (place .len) 16 in
       let elems = allBelow (λ i. elemHolds (variantCount (call .image)) (elemOf (getD (place .elems) i 0))) (place .len) in
-      let both = and-left (root && short) elems (test 5) in
+      let both = and-left (root && short) elems (test 4) in
       (ltb-true _ _ (and-left root short both), leb-true _ _ (and-right root short both))
 
   -- there are as many locals as the counts say

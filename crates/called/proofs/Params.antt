@@ -25,7 +25,7 @@ use Rattle.views.specs.Growing.{terminatorAt, GoesOn}
 use Rattle.pattern_matching.specs.Walking.{Walk, ok, refused}
 use Rattle.growth.specs.Opened.{Starts}
 use Rattle.walks.specs.Answers.{visitWord}
-use Rattle.handed.specs.Handed.{bindingsHold, discrHolds, startHolds, elseHolds}
+use Rattle.handed.specs.Handed.{bindingsHold, startHolds, elseHolds}
 use Rattle.meaning.specs.Values.{Value}
 use Rattle.meaning.specs.Running.{Env}
 use Rattle.lowered_params.specs.declared.ParamsCall.{ParamsCall}
@@ -71,7 +71,6 @@ record Handing (w : Walk ParamsOut) (c : Counts) (out : ParamsHandedOut) : Type 
   result : ParamsOut
   gave : w ≡ ok result
   counts : out .counts ≡ countsOf (result .ctx .state)
-  discr : out .discr ≡ result .ctx .discr
   then : out .then ≡ result .then
   first : out .first ≡ record { 0 = c .locals }
   reads : decode (out .left .body) (countsOf (result .ctx .state)) ≡ result .ctx .state
@@ -126,12 +125,12 @@ module _ (call : ParamsHanded) (out : ParamsHandedOut) (accepted : AcceptedParam
 
   -- each of the tests of the call's own numbers
   test : (k : ℕ) →
-      getD (selfNamed (call .image) (call .self) ∷ bindingsHold (bindingCount (call .image)) (call .counts) (call .bindings) ∷ discrHolds (call .counts)
+      getD (selfNamed (call .image) (call .self) ∷ bindingsHold (bindingCount (call .image)) (call .counts) (call .bindings)
       ∷ startHolds (call .body .blocks) (call .counts) (call .start) ∷ eqb (length (call .visits)) 512 ∷ []) k true ≡ true
   unfolding paramsHold
   test k =
       all-true-at
-      (selfNamed (call .image) (call .self) ∷ bindingsHold (bindingCount (call .image)) (call .counts) (call .bindings) ∷ discrHolds (call .counts)
+      (selfNamed (call .image) (call .self) ∷ bindingsHold (bindingCount (call .image)) (call .counts) (call .bindings)
       ∷ startHolds (call .body .blocks) (call .counts) (call .start) ∷ eqb (length (call .visits)) 512 ∷ []) k (taken .names)
 
   -- the rows that there are are as many as the counts say
@@ -147,7 +146,7 @@ module _ (call : ParamsHanded) (out : ParamsHandedOut) (accepted : AcceptedParam
   -- the walk may start
   starts : Starts (startOfParams call) (call .start) OptBlock.None
   unfolding elseHolds
-  starts = may-start (call .image) (call .body) (call .counts) (call .start) OptBlock.None (taken .body) (test 3) refl
+  starts = may-start (call .image) (call .body) (call .counts) (call .start) OptBlock.None (taken .body) (test 2) refl
 
   -- what is handed in is what numbers 1 and 2 do not refuse
   handed : ((i : ℕ) → getD (call .image) i 0 < 256) → Handed (call .image) (call .self) (parametersOf call) (call .bindings) (startOfParams call) (call .start)

@@ -53,7 +53,6 @@ pub record Handing (w : Walk Out) (out : HandedOut) : Type 0 where
   pub result : Out
   pub gave : w ≡ ok result
   pub counts : out .counts ≡ countsOf (result .ctx .state)
-  pub discr : out .discr ≡ result .ctx .discr
   pub then : out .then ≡ result .then
   pub else : out .else ≡ result .else
   pub reads : decode (out .body) (countsOf (result .ctx .state)) ≡ result .ctx .state

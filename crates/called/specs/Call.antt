@@ -31,7 +31,7 @@ pub record Call : Type 0 where
   -- a place has room for 16 elements
   pub elements : length (place .elems) ≡ 16
 
--- what a call hands out where it is accepted: the counts, the shared local, the block where a match goes on, the one where a mismatch does, and the words of the tables
+-- what a call hands out where it is accepted: the counts, the block where a match goes on, the one where a mismatch does, and the words of the tables
 pub record HandedOut : Type 0 where
   pub counts : Counts
   pub then : BasicBlockId

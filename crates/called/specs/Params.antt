@@ -54,7 +54,7 @@ definedOf call = paramsCall (call .image) (call .list) (call .self) (call .bindi
 abbrev pub PromisedParams : ParamsHanded → ParamsCall → ParamsLeft → Type 0
 PromisedParams call answer left = GivesParams (call .bindings) (call .body) (call .visits) (call .counts) (definedOf call) answer (left .bindings) (left .body) (left .visits)
 
--- what it hands out where it is accepted: the counts, the shared local, the block to go on from, the first parameter's local, and what is left
+-- what it hands out where it is accepted: the counts, the block to go on from, the first parameter's local, and what is left
 pub record ParamsHandedOut : Type 0 where
   pub counts : Counts
   pub then : BasicBlockId

@@ -80,7 +80,7 @@ module _ {scene : Scene} {bindings : List ℕ} {M : Mir} where
           shares = f .shares;
           walked = λ x env.
               let w = f .walked x env in
-              record { env′ = w .env′; entered = w .entered; run = w .run; locals = λ l i n. w .locals l i n ∙ s .same l (env l); trail = w .trail };
+              record { env′ = w .env′; entered = w .entered; run = w .run; locals = λ l i. w .locals l i ∙ s .same l (env l); trail = w .trail };
         }
 
   -- a visit changes no local
@@ -90,7 +90,7 @@ module _ {scene : Scene} {bindings : List ℕ} {M : Mir} where
   fills-visited p r f =
       record {
         leaves = f .leaves;
-        shares = record { more = f .shares .more; discr = f .shares .discr };
+        shares = record { more = f .shares .more };
         walked = λ x env.
             let w = f .walked x env in
             record { env′ = w .env′; entered = w .entered; run = w .run; locals = w .locals; trail = w .trail };
@@ -154,7 +154,7 @@ fills-binding {scene} {place} {w} bindings M p q b how ctx c els r h s e =
             env′ = update env (l .0) (ofPlaceValue (bindingRvalue how) scene env (pathOf place));
             entered = [];
             run = does-run M env (x .more) d (x .grown);
-            locals = λ k i n. set-after bindings env (l .0) b (ofPlaceValue (bindingRvalue how) scene env (pathOf place)) (boundAs how (pathOf place) w) is (filled-with how env s) k;
+            locals = λ k i. set-after bindings env (l .0) b (ofPlaceValue (bindingRvalue how) scene env (pathOf place)) (boundAs how (pathOf place) w) is (filled-with how env s) k;
             trail = trail-here (lt-of-lt-of-le (h .inside) (subst (λ (x : Out). Leaves (ctx .state) c els x) (sym (ok-is f₃)) good .worked .blocks));
           };
     }))))

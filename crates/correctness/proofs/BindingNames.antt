@@ -18,8 +18,8 @@ use Rattle.meaning.specs.Values.{Value, partAt, partsOf}
 use Rattle.meaning.specs.Matching.{onto, crossed, crossedPath, Bound, boundAs, bindAll, matches, rowFields, recordFields, lastItems, variantPath}
 use Rattle.meaning.specs.Binding.{restBinds, restBinds?, binds, binders, bindFirst, binds?}
 use Rattle.meaning.specs.Fit.{BoundAt, sameCount, standsIn, within, restTy, restBound, restBound?, patCount, boundIn, boundInAll, boundInFirst, boundIn?, bindingsFit, allBindingsFit, bindingsFit?, alternativesFit, allBind, bindOnce, sameBindings}
-use Rattle.meaning.specs.Fits.{present, discrLocals, localsDiffer}
-use Rattle.correctness.proofs.Permuting.{Each, each-append, each-map, Binder, EachBinder, each-binder-map, each-binder-turned, each-bound, HasLocal, LocalsApart, Separate}
+use Rattle.meaning.specs.Fits.{present, localsDiffer}
+use Rattle.correctness.proofs.Permuting.{Each, each-append, each-map, EachBinder, each-binder-map, each-bound, HasLocal, LocalsApart, Separate}
 
 -- the bindings, by their numbers
 abbrev pub names : List BoundAt → List ℕ
@@ -357,6 +357,6 @@ locals-apart (l ∷ ls) d (suc x) (suc y) n e = ap suc (locals-apart ls (by (eqb
     by false d = and-right (not (member l (present ls))) (distinct (present ls)) d
 
 -- so it is where the locals all differ
-pub fits-locals-apart : (bindings : List ℕ) (root : ℕ) → localsDiffer bindings root discr ≡ true → LocalsApart bindings
-unfolding localsDiffer
-fits-locals-apart bindings root discr d = locals-apart bindings (distinct-right (root ∷ discrLocals discr) (present bindings) d)
+pub fits-locals-apart : (bindings : List ℕ) (root : ℕ) → localsDiffer bindings root ≡ true → LocalsApart bindings
+unfolding localsDiffer distinct
+fits-locals-apart bindings root d = locals-apart bindings (and-right (not (member root (present bindings))) (distinct (present bindings)) d)

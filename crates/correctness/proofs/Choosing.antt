@@ -99,7 +99,7 @@ module _ {scene : Scene} {bindings : List ℕ} {M : Mir} {ctx : Ctx} {c : BasicB
         env′ = w .env′;
         entered = t .0 ∷ [];
         run = subst (λ (r : List Line). Run scene M (b .0) r (w .env′) (t .0) (M .lines) (w .env′) (t .0 ∷ [])) er (hop (ctx₂ .state) (b .0) t (w .env′) y et);
-        locals = λ l i n. refl;
+        locals = λ l i. refl;
         trail = trail-one ne (subst Closed (sym et) tt) (lt-of-lt-of-le ib h₁) it;
       } in
       subst (λ (z : List Bound). Walked scene bindings M ctx (c .0) env z ctx₂ (t .0) (M .lines)) (append-nil bs) (walked-seq w u s h h₁ x o f)

@@ -22,7 +22,7 @@ use Rattle.mir.specs.Rvalues.{liveRow}
 use Rattle.state.specs.State.{State}
 use Rattle.state.specs.Steps.{within, nextLocal, newBlock, pushStatement, newLocal, pushEntry, setTerminator, tryBlock, tryStatement, tryLocal, tryEntry}
 use Rattle.lower.specs.declared.merging.OptBlock.{OptBlock}
-use Rattle.lower.specs.Temps.{isSlice, temp, pushStorageLiveForLocal, discrTempPlace}
+use Rattle.lower.specs.Temps.{isSlice, temp, pushStorageLiveForLocal}
 use Rattle.views.specs.Views.{Statement, live, Line, Mir, lineOf, mirOf}
 use Rattle.views.specs.Growing.{terminatorAt, putTerminator, Quiet}
 use Rattle.views.proofs.ReadBack.{Halved, live-back}
@@ -153,13 +153,6 @@ does-temp image st st₁ word block e =
     followed (tryLocal st word) _ (unrefused (isSlice image word) MirLowerError.UnsizedTemporary _ e) (λ st₂ e₂ e₃.
     does-seq (does-none st st₂ (ap (λ (s : State). s .statements) (sym (given (ltb (length (st .locals)) localLimit) (newLocal st word) st₂ e₂))))
     (does-live st₂ st₁ (nextLocal st) block e₃))
-
--- the local that all tests of enums share
-pub does-discr : {scene : Scene} (image : List ℕ) (st st₁ : State) (block : BasicBlockId) → discrTempPlace image st d block ≡ ok st₁ →
-    Does scene st (block .0) st₁ (λ env. env)
-unfolding discrTempPlace
-does-discr image st st₁ (DiscrTemp.Some l) block e = let same : st₁ ≡ st = cc in does-none st st₁ (ap (λ (s : State). s .statements) same)
-does-discr image st st₁ DiscrTemp.None block e = does-temp image st st₁ 258 block e
 
 -- a temporary is one local more
 pub temp-locals : (image : List ℕ) (st st₁ : State) (word : ℕ) (block : BasicBlockId) → temp image st word block ≡ ok st₁ → length (st₁ .locals) ≡ suc (length (st .locals))

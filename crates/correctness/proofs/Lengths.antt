@@ -21,7 +21,7 @@ use Rattle.mir.specs.Rvalues.{placeRvalueRow}
 use Rattle.state.specs.State.{State}
 use Rattle.state.specs.Steps.{nextBlock, nextLocal, tryBlock, tryStatement}
 use Rattle.lower.specs.declared.merging.OptBlock.{OptBlock}
-use Rattle.lower.specs.Temps.{temp, discrTempPlace, discrLocal}
+use Rattle.lower.specs.Temps.{temp, discrTempPlace}
 use Rattle.views.specs.Views.{ofPlace, Mir, mirOf}
 use Rattle.views.specs.Views.{set as puts}
 use Rattle.views.specs.Growing.{GoesOn}
@@ -31,15 +31,15 @@ use Rattle.pattern_matching.specs.Tests.{usizeWord}
 use Rattle.pattern_matching.specs.Variants.{discriminantTest}
 use Rattle.pattern_matching.specs.Slices.{RestOf, lengthConstant, lengthCompared, lengthTest}
 use Rattle.growth.specs.Opened.{count, Ready, Leaves}
-use Rattle.growth.proofs.Opening.{opens-block, opens-else, adds-temp, adds-statement, adds-discr, place-block}
+use Rattle.growth.proofs.Opening.{opens-block, opens-else, adds-temp, adds-statement, place-block}
 use Rattle.growth.proofs.Testing.{good-length, good-discriminant}
 use Rattle.meaning.specs.Values.{Value, Int, partsOf, placeIn}
 use Rattle.meaning.specs.Running.{Held, value, Env, update, valueOf, constantValue, scalarOf, compared, discriminantOf, Scene, partBehind, read, ofPlaceValue, leftValue, rvalueValue, execute, switchNumber}
 use Rattle.correctness.specs.Demand2.{pathOf}
 use Rattle.correctness.proofs.Walking.{Lands}
-use Rattle.correctness.proofs.Sharing.{opens-locals, adds-locals, not-discr}
+use Rattle.correctness.proofs.Sharing.{opens-locals, adds-locals}
 use Rattle.correctness.proofs.Standing.{Rooted, Stands, stands-read, stepped}
-use Rattle.correctness.proofs.Doing.{Does, does-seq, does-block, does-else, does-line, does-temp, does-discr, update-same, update-other}
+use Rattle.correctness.proofs.Doing.{Does, does-seq, does-block, does-else, does-line, does-temp, update-same, update-other}
 use Rattle.correctness.proofs.Tests.{lands-switch, lands-compare}
 
 -- what the test of a slice's length asks: exactly n without a rest, and at least n with one
@@ -87,7 +87,7 @@ module _ {scene : Scene} {bindings : List ℕ} {M : Mir} {word : ℕ} {place : P
       let plain : n + 18446744073709551616 * 0 ≡ n = omega arith in
       let len = length (partsOf (read scene env (pathOf place))) in
       lands-switch ctx c els (nextLocal (ctx .state)) n 0 t e (ctx .visits) r h d new small (omega arith) is q x env
-      (λ k i z. update-other env l (value (Int (pos len))) k (omega arith)) (eqb (length (partsOf w)) n)
+      (λ k i. update-other env l (value (Int (pos len))) k (omega arith)) (eqb (length (partsOf w)) n)
       (ap (λ (y : Held). eqb (switchNumber (scalarOf (valueOf y))) (n + 18446744073709551616 * 0)) (update-same env l (value (Int (pos len)))) ∙ number-switched len n 0
       ∙ ap₂ (λ (a b : ℕ). eqb a b) told plain)
   length-end (RestOf.binds z b how) n t e r h root s small d new more is q x env =
@@ -97,7 +97,7 @@ module _ {scene : Scene} {bindings : List ℕ} {M : Mir} {word : ℕ} {place : P
       subst (λ (y : Bool). Lands scene bindings M ctx (c .0) env [] r y)
       (length-compared scene (measured scene place l env) n len l (root .there) (update-same env l (value (Int (pos len)))) ∙ ap (leb n) told)
       (lands-compare (scene .image) p BinOp.Le (Left.Constant (lengthConstant n)) (localPlace (nextLocal (ctx .state))) ctx c els t e r h d new more (small, omega arith) (omega arith) refl is q x env
-      (λ k i z. update-other env l (value (Int (pos len))) k (omega arith)))
+      (λ k i. update-other env l (value (Int (pos len))) k (omega arith)))
   length-end RestOf.ignores n t e r h root s small d new more is q x env =
       let l = length (ctx .state .locals) in
       let told : length (partsOf (read scene env (pathOf place))) ≡ length (partsOf w) = ap (λ (y : Value). length (partsOf y)) (stands-read env s) in
@@ -105,7 +105,7 @@ module _ {scene : Scene} {bindings : List ℕ} {M : Mir} {word : ℕ} {place : P
       subst (λ (y : Bool). Lands scene bindings M ctx (c .0) env [] r y)
       (length-compared scene (measured scene place l env) n len l (root .there) (update-same env l (value (Int (pos len)))) ∙ ap (leb n) told)
       (lands-compare (scene .image) p BinOp.Le (Left.Constant (lengthConstant n)) (localPlace (nextLocal (ctx .state))) ctx c els t e r h d new more (small, omega arith) (omega arith) refl is q x env
-      (λ k i z. update-other env l (value (Int (pos len))) k (omega arith)))
+      (λ k i. update-other env l (value (Int (pos len))) k (omega arith)))
 
   -- the test of a slice's length
   pub lands-length : (rest : RestOf) (n : ℕ) (r : Out) → Ready (ctx .state) c els → Rooted scene word (ctx .state) → Stands scene word place ty w → n < 18446744073709551616 →
@@ -139,22 +139,22 @@ module _ {scene : Scene} {bindings : List ℕ} {M : Mir} {word : ℕ} {place : P
   lands-discriminant v r h s small is x env =
       let q : Leaves (ctx .state) c els r = good-discriminant (scene .image) p v ctx c els place .leaves h r is in
       let st = ctx .state in
-      let l = discrLocal st in
+      let l = nextLocal st in
       let D = variantOf (scene .image) v .discriminant in
       stepped p (discrTempPlace (scene .image) st c) _ is (λ st₁ e₁ is₁.
       stepped p (tryStatement st₁ (placeRvalueRow c l PlaceRvalue.Discr place)) _ is₁ (λ st₂ e₂ is₂.
       stepped p (tryBlock st₂) _ is₂ (λ st₃ e₃ is₃.
       stepped p (elseState st₃ els) _ is₃ (λ st₄ e₄ is₄.
-      let a₁ = adds-discr (scene .image) st st₁ c e₁ in
+      let a₁ = adds-temp (scene .image) st st₁ 258 c e₁ in
       let a₂ = adds-statement st₁ st₂ (c .0) (placeRvalueRow c l PlaceRvalue.Discr place) (place-block c l PlaceRvalue.Discr place) e₂ in
       let m = discriminantOf (scene .image) (read scene env (pathOf place)) in
-      lands-switch ctx c els l (D % 18446744073709551616) (D / 18446744073709551616) (nextBlock st₂) (elseBlock st₃ els) (DiscrTemp.Some l) (ctx .visits) r h
-      (does-seq (does-seq (does-discr (scene .image) st st₁ c e₁)
+      lands-switch ctx c els l (D % 18446744073709551616) (D / 18446744073709551616) (nextBlock st₂) (elseBlock st₃ els) (ctx .visits) r h
+      (does-seq (does-seq (does-temp (scene .image) st st₁ 258 c e₁)
       (does-line (c .0) st₁ st₂ (placeRvalueRow c l PlaceRvalue.Discr place) (puts (l .0) (ofPlace PlaceRvalue.Discr (pathOf place)))
       (place-rvalue-back c l PlaceRvalue.Discr place (s .within) (s .elements)) e₂))
       (does-seq (does-block (c .0) st₂ st₃ e₃) (does-else (c .0) st₃ st₄ els e₄)))
       (le-trans (a₁ .opens .blocks) (a₂ .opens .blocks)) (low-half D) small is₄ q x env
-      (λ k i z. update-other env (l .0) (value (Int (pos m))) k (not-discr st k i z)) (eqb (discriminantOf (scene .image) w) D)
+      (λ k i. update-other env (l .0) (value (Int (pos m))) k (omega arith)) (eqb (discriminantOf (scene .image) w) D)
       (ap (λ (y : Held). eqb (switchNumber (scalarOf (valueOf y))) (D % 18446744073709551616 + 18446744073709551616 * (D / 18446744073709551616))) (update-same env (l .0) (value (Int (pos m))))
       ∙ number-switched m (D % 18446744073709551616) (D / 18446744073709551616)
       ∙ ap₂ (λ (a b : ℕ). eqb a b) (ap (discriminantOf (scene .image)) (stands-read env s)) (halves D))))))

@@ -2,11 +2,9 @@
 use Prim.Native.Nat.{ℕ, zero, suc, _<_}
 use native.Mathlib.Omega.{arith}
 use mathlib.Core.Path.{_≡_}
-use mathlib.Core.Logic.{_↔_}
 use mathlib.Core.List.{List, [], _∷_}
 use lib.ListN.{length, getD}
-use Rattle.place.specs.declared.LocalId.{LocalId}
-use Rattle.correctness.specs.Demand2.{IsNotDiscr, NoneIs, Distinct}
+use Rattle.correctness.specs.Demand2.{NoneIs, Distinct}
 
 -- what stands nowhere in a list is at none of its places
 none-at : (b : ℕ) (xs : List ℕ) → NoneIs b xs → (j : ℕ) → j < length xs → b ≡ getD xs j 0 → ⊥
@@ -20,7 +18,3 @@ distinct-differ [] h i j less there e = omega arith
 distinct-differ (x ∷ xs) h i zero less there e = omega arith
 distinct-differ (x ∷ xs) h zero (suc j) less there e = none-at x xs (h .0) j (omega arith) e
 distinct-differ (x ∷ xs) h (suc i) (suc j) less there e = distinct-differ xs (h .1) i j (omega arith) (omega arith) e
-
--- every local is another where there is no discriminant's, and where there is one every other local is
-pub other-than-discr : (d : LocalId) (l : ℕ) → IsNotDiscr DiscrTemp.None l × (IsNotDiscr (DiscrTemp.Some d) l ↔ (l ≡ d .0 → ⊥))
-other-than-discr d l = (tt, (λ h. h, λ h. h))

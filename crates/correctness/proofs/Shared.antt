@@ -1,4 +1,4 @@
--- No walk over a pattern loses a local, and the discriminant's local stays or is a new one. Assumes nothing.
+-- No walk over a pattern loses a local. Assumes nothing.
 use Prim.Native.Nat.{ℕ, _+_}
 use mathlib.Core.Path.{_≡_, subst}
 use mathlib.Core.Option.{Option, none, some}
@@ -196,7 +196,7 @@ shares-alternative alt g mode ctx c place =
 -- a terminator set
 pub shares-terminator : (ctx : Ctx) (c : BasicBlockId) (t : Terminator) → Shares ctx (withState ctx (setTerminator (ctx .state) c t))
 unfolding setTerminator
-shares-terminator ctx c t = record { more = shares-same ctx .more; discr = λ l i n. n }
+shares-terminator ctx c t = record { more = shares-same ctx .more }
 
 -- behind an alternative
 shares-behind : {ctx : Ctx} (els : OptBlock) (ctx₁ : Ctx) (rest : BasicBlockId → Walk Alternatives) (l : Alternatives) → Shares ctx ctx₁ →

@@ -1,5 +1,5 @@
 -- No walk loses a local, and the discriminant's local stays or is a new one: tests, and how walks are put together. Assumes nothing.
-use Prim.Native.Nat.{ℕ, zero, suc, _+_, _≤_, _<_}
+use Prim.Native.Nat.{ℕ, zero, suc, _+_, _≤_}
 use native.Mathlib.Nat.{le-refl, le-trans}
 use native.Mathlib.Omega.{arith}
 use mathlib.Core.Path.{_≡_, refl, ap, subst, _∙_}
@@ -26,15 +26,14 @@ use Rattle.state.specs.State.{State}
 use Rattle.state.specs.Steps.{nextBlock, nextLocal, tryBlock, tryStatement, setTerminator}
 use Rattle.literals.specs.Literals.{lowerLiteralToOperand, lowerConstToOperand, lowerLiteralOrConstToOperand}
 use Rattle.lower.specs.declared.merging.OptBlock.{OptBlock}
-use Rattle.lower.specs.Temps.{temp, bindingLocal, pushStorageLiveForLocal, discrTempPlace, discrLocal}
+use Rattle.lower.specs.Temps.{temp, bindingLocal, pushStorageLiveForLocal, discrTempPlace}
 use Rattle.pattern_matching.specs.declared.MatchingMode.{MatchingMode}
 use Rattle.pattern_matching.specs.Walking.{Ctx, Out, Walk, ok, refused, Lowering, next, step, out, withState, project, visited, localPlace, elseState, elseBlock, derefed, entered, inCheck}
 use Rattle.pattern_matching.specs.Tests.{boolWord, usizeWord, compare, patternMatchConst, literal, litBy, constantPath, rangeEnd, rangeEnd?, bindingRvalue, patternMatchBinding, localPath}
 use Rattle.pattern_matching.specs.Variants.{needed, discriminantTest}
 use Rattle.pattern_matching.specs.Slices.{RestOf, lengthConstant, lengthCompared, lengthTest}
-use Rattle.growth.proofs.Opening.{Opens, Adds, opens-block, opens-else, adds-statement, place-block, constant-block, binary-block, adds-live, adds-temp, adds-discr}
+use Rattle.growth.proofs.Opening.{Opens, Adds, opens-block, opens-else, adds-statement, place-block, constant-block, binary-block, adds-live, adds-temp}
 use Rattle.growth.proofs.Walks.{not-ok, ok-is}
-use Rattle.correctness.specs.Demand2.{IsNotDiscr}
 use Rattle.correctness.proofs.Walking.{Shares, shares-seq}
 
 -- what is so of an accepted walk
@@ -43,7 +42,7 @@ pub record Sharing (ctx : Ctx) (w : Walk Out) : Type 0 where
 
 -- nothing done
 pub shares-same : (ctx : Ctx) → Shares ctx ctx
-shares-same ctx = record { more = le-refl _; discr = λ l i n. n }
+shares-same ctx = record { more = le-refl _ }
 
 -- a refusal
 sharing-refused : {ctx : Ctx} (x : MirLowerError) (p : ℕ) → Sharing ctx (refused x p)
@@ -100,7 +99,7 @@ sharing-derefed p (suc n) place k h = sharing-step p (project place ProjectionEl
 -- a visit changes neither
 sharing-visited : {ctx : Ctx} (p : ℕ) (w : Walk Out) → Sharing (visited ctx p) w → Sharing ctx w
 unfolding visited
-sharing-visited p w g = record { shares = λ r e. let s = g .shares r e in record { more = s .more; discr = s .discr } }
+sharing-visited p w g = record { shares = λ r e. let s = g .shares r e in record { more = s .more } }
 
 -- a pattern is entered
 pub sharer-entered : (p n : ℕ) (l : Lowering) → Sharer l → Sharer (entered p n l)
@@ -151,7 +150,7 @@ adds-locals a = opens-locals (a .opens)
 
 -- another state that has lost none
 pub shares-state : (ctx : Ctx) (st : State) → localCount (ctx .state) ≤ localCount st → Shares ctx (withState ctx st)
-shares-state ctx st h = record { more = h; discr = λ l i n. n }
+shares-state ctx st h = record { more = h }
 
 -- and so does a terminator
 pub terminated : (st : State) (c : BasicBlockId) (t : Terminator) (n : ℕ) → n ≤ localCount st → n ≤ localCount (setTerminator st c t)
@@ -256,24 +255,18 @@ sharing-length rest image p n ctx c els place =
     (le-trans (adds-locals (adds-statement st₁ st₂ (c .0) (placeRvalueRow c (nextLocal st) PlaceRvalue.Len place) (place-block c (nextLocal st) PlaceRvalue.Len place) e₂))
     (le-trans (opens-locals (opens-else st₂ st₃ (c .0) els e₃)) (opens-locals (opens-block st₃ st₄ (c .0) e₄)))))))))
 
--- the discriminant's local is the one that there was, or new
-pub not-discr : (st : State) (l : ℕ) → l < localCount st → IsNotDiscr d l → IsNotDiscr (DiscrTemp.Some (discrLocal st d)) l
-unfolding discrLocal
-not-discr st (DiscrTemp.Some d) l i n = n
-not-discr st DiscrTemp.None l i n = λ e. absurd (omega arith)
-
 -- the test of an enum
 pub sharing-discriminant : (image : List ℕ) (p v : ℕ) (ctx : Ctx) (c : BasicBlockId) (els : OptBlock) (place : Place) → Sharing ctx (discriminantTest image p v ctx c els place)
 unfolding discriminantTest
 sharing-discriminant image p v ctx c els place =
     let st = ctx .state in
-    let l = discrLocal st in
+    let l = nextLocal st in
     sharing-step p (discrTempPlace image st c) _ (λ st₁ e₁.
     sharing-step p (tryStatement st₁ (placeRvalueRow c l PlaceRvalue.Discr place)) _ (λ st₂ e₂.
     sharing-step p (tryBlock st₂) _ (λ st₃ e₃.
     sharing-step p (elseState st₃ els) _ (λ st₄ e₄.
     sharing-ok _ (record {
-      more = terminated st₄ c _ (localCount st) (le-trans (adds-locals (adds-discr image st st₁ c e₁))
+      more = terminated st₄ c _ (localCount st) (le-trans (adds-locals (adds-temp image st st₁ 258 c e₁))
           (le-trans (adds-locals (adds-statement st₁ st₂ (c .0) (placeRvalueRow c l PlaceRvalue.Discr place) (place-block c l PlaceRvalue.Discr place) e₂))
           (le-trans (opens-locals (opens-block st₂ st₃ (c .0) e₃)) (opens-locals (opens-else st₃ st₄ (c .0) els e₄)))));
     })))))

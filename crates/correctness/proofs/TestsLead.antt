@@ -53,7 +53,7 @@ module _ {scene : Scene} {bindings : List ℕ} {M : Mir} {word : ℕ} {place : P
       subst (λ (y : Value). Lands scene bindings M ctx (c .0) env [] r (compared BinOp.Eq (constantValue (scene .image) k) y)) (stands-read env s)
       (lands-compare (scene .image) p BinOp.Eq (Left.Constant k) place ctx c els (nextBlock (ctx .state)) (elseBlock st₁ els) r h
       (does-seq (does-block (c .0) (ctx .state) st₁ e₁) (does-else (c .0) st₁ st₂ els e₂)) (le-refl _)
-      (le-trans (opens-locals (opens-block (ctx .state) st₁ (c .0) e₁)) (opens-locals (opens-else st₁ st₂ (c .0) els e₂))) small (s .within) (s .elements) is₂ q x env (λ k i n. refl))))
+      (le-trans (opens-locals (opens-block (ctx .state) st₁ (c .0) e₁)) (opens-locals (opens-else st₁ st₂ (c .0) els e₂))) small (s .within) (s .elements) is₂ q x env (λ k i. refl))))
 
   -- one end of a range
   pub lands-end : (t : ℕ) (op : BinOp) (operand : Operand) (v : Value) (r : Out) → Ready (ctx .state) c els → Stands scene word place ty w →
@@ -69,7 +69,7 @@ module _ {scene : Scene} {bindings : List ℕ} {M : Mir} {word : ℕ} {place : P
       (subst (λ (y : Value). Lands scene bindings M ctx (c .0) env [] r (compared op y (read scene env (pathOf place)))) (worth k e₀ .0)
       (lands-compare (scene .image) p op (Left.Constant k) place ctx c els (nextBlock st₁) (elseBlock (ctx .state) els) r h
       (does-seq (does-else (c .0) (ctx .state) st₁ els e₁) (does-block (c .0) st₁ st₂ e₂)) (opens-else (ctx .state) st₁ (c .0) els e₁ .blocks)
-      (le-trans (opens-locals (opens-else (ctx .state) st₁ (c .0) els e₁)) (opens-locals (opens-block st₁ st₂ (c .0) e₂))) (worth k e₀ .1) (s .within) (s .elements) is₂ q x env (λ k i n. refl))))))
+      (le-trans (opens-locals (opens-else (ctx .state) st₁ (c .0) els e₁)) (opens-locals (opens-block st₁ st₂ (c .0) e₂))) (worth k e₀ .1) (s .within) (s .elements) is₂ q x env (λ k i. refl))))))
 
   -- a constant path: the constant is copied to a temporary first
   pub lands-constant : (t : ℕ) (operand : Operand) (v : Value) (r : Out) → Ready (ctx .state) c els → Stands scene word place ty w →
@@ -104,7 +104,7 @@ module _ {scene : Scene} {bindings : List ℕ} {M : Mir} {word : ℕ} {place : P
       (binary-back c (nextLocal st₂) BinOp.Eq (Left.Local (nextLocal st)) place tt (s .within) (s .elements)) e₄))
       (does-seq (does-block (c .0) st₄ st₅ e₅) (does-else (c .0) st₅ st₆ els e₆))))
       (later st st₁ st₂ st₃ st₄ k e₁ e₂ e₃ e₄) (omega arith) (omega arith) is₆ q x env
-      (λ j i z. update-other env₁ m (value (Bool′ b)) j (omega arith) ∙ update-other env n (value (constantValue (scene .image) k)) j (omega arith)) b
+      (λ j i. update-other env₁ m (value (Bool′ b)) j (omega arith) ∙ update-other env n (value (constantValue (scene .image) k)) j (omega arith)) b
       (ap (λ (y : Held). eqb (switchNumber (scalarOf (valueOf y))) (1 + 18446744073709551616 * 0)) (update-same env₁ m (value (Bool′ b))) ∙ bool-switched b))))))))
     where
       later : (st st₁ st₂ st₃ st₄ : State) (k : Constant) → temp (scene .image) st t c ≡ done st₁ → tryStatement st₁ (constantRow c (nextLocal st) k) ≡ done st₂ →

@@ -18,7 +18,7 @@ use Rattle.pattern_matching.specs.Walking.{Ctx, Out}
 use Rattle.growth.specs.Opened.{count, terminator, lines, From, Worked}
 use Rattle.meaning.specs.Running.{Held, Env, Scene, switched, Run, here, skip, step, jump, branch}
 use Rattle.meaning.specs.Matching.{Bound}
-use Rattle.correctness.specs.Demand2.{IsNotDiscr, after}
+use Rattle.correctness.specs.Demand2.{after}
 use Rattle.correctness.proofs.Trails.{Trail, Landing, trail-here, trail-later, trail-seq}
 
 -- the lines of M that came after st
@@ -102,22 +102,21 @@ module _ {scene : Scene} {M : Mir} where
       let c : Closed (terminator st b) = subst Closed (sym e) tt in
       leave st x c (branch (x .kept b c ∙ e) here)
 
--- From a context to a later one: no local is lost, and a local that there was and that was not the discriminant's is not
+-- From a context to a later one: no local is lost
 pub record Shares (ctx ctx₁ : Ctx) : Type 0 where
   pub more : length (ctx .state .locals) ≤ length (ctx₁ .state .locals)
-  pub discr : (l : ℕ) → l < length (ctx .state .locals) → IsNotDiscr l → IsNotDiscr l
 
 -- from one context to a later one, and on
 pub shares-seq : {ctx ctx₁ ctx₂ : Ctx} → Shares ctx ctx₁ → Shares ctx₁ ctx₂ → Shares ctx ctx₂
-shares-seq f g = record { more = le-trans (f .more) (g .more); discr = λ l i n. g .discr l (lt-of-lt-of-le i (f .more)) (f .discr l i n) }
+shares-seq f g = record { more = le-trans (f .more) (g .more) }
 
 -- A run in M from the block current behind the lines of ctx to the block b with `left` still to be looked at, which the lowering made on its way to ctx₁:
--- the locals of ctx, but the discriminant's, get the bindings bs and are else unchanged
+-- the locals of ctx get the bindings bs and are else unchanged
 pub record Walked (scene : Scene) (bindings : List ℕ) (M : Mir) (ctx : Ctx) (current : ℕ) (env : Env) (bs : List Bound) (ctx₁ : Ctx) (b : ℕ) (left : List Line) : Type 0 where
   pub env′ : Env
   pub entered : List ℕ
   pub run : Run scene M current (rest (ctx .state) M) env b left env′ entered
-  pub locals : (l : ℕ) → l < length (ctx .state .locals) → IsNotDiscr l → env′ l ≡ after bindings bs l (env l)
+  pub locals : (l : ℕ) → l < length (ctx .state .locals) → env′ l ≡ after bindings bs l (env l)
   pub trail : Trail (ctx .state) (ctx₁ .state) current entered b
 
 -- with true: to the block that goes on, behind its lines, with the bindings bs; with false: to the else, on reaching it
@@ -129,7 +128,7 @@ module _ {scene : Scene} {bindings : List ℕ} {M : Mir} where
   -- nothing done
   pub walked-here : (ctx : Ctx) (current : ℕ) (env : Env) → current < count (ctx .state) → Walked scene bindings M ctx current env [] ctx current (rest (ctx .state) M)
   unfolding after
-  walked-here ctx current env h = record { env′ = env; entered = []; run = here; locals = λ l i n. refl; trail = trail-here h }
+  walked-here ctx current env h = record { env′ = env; entered = []; run = here; locals = λ l i. refl; trail = trail-here h }
 
   module _ {ctx ctx₁ ctx₂ : Ctx} {current b₁ : ℕ} {env : Env} {bs : List Bound} where
     -- one walk after another
@@ -142,7 +141,7 @@ module _ {scene : Scene} {bindings : List ℕ} {M : Mir} where
           env′ = u .env′;
           entered = w .entered ++ u .entered;
           run = chain (w .run) (u .run);
-          locals = λ l i n. u .locals l (lt-of-lt-of-le i (s .more)) (s .discr l i n) ∙ ap (after bindings bs′ l) (w .locals l i n) ∙ sym (after-append bindings bs bs′ l (env l));
+          locals = λ l i. u .locals l (lt-of-lt-of-le i (s .more)) ∙ ap (after bindings bs′ l) (w .locals l i) ∙ sym (after-append bindings bs bs′ l (env l));
           trail = trail-seq (w .trail) (u .trail) x h₁ h₂ o f;
         }
 

@@ -24,20 +24,20 @@ unfolding mirOf decode
 mir-same b c = refl
 
 -- an accepted call
-accepted-text : (defined : Called) (b : Body) {c : Counts} {then : BasicBlockId} {els : OptBlock} → MatchCall.Matched c d then els ≡ answer defined → Reads defined b →
+accepted-text : (defined : Called) (b : Body) {c : Counts} {then : BasicBlockId} {els : OptBlock} → MatchCall.Matched c then els ≡ answer defined → Reads defined b →
     listing then els (mirOf (decode (body (b .blocks) (b .statements) (b .locals) [] []) c)) ≡ callText defined
 unfolding callText walkText
 accepted-text badImage b is reads = absurd (let z : _≡_ {A = ℕ} 0 1 = cc in omega arith)
 accepted-text badCall b is reads = absurd (let z : _≡_ {A = ℕ} 0 1 = cc in omega arith)
 accepted-text (walked (refused e p)) b is reads = absurd (let z : _≡_ {A = ℕ} 0 1 = cc in omega arith)
-accepted-text (walked (ok r)) b {c} {d} {then} {els} is reads =
+accepted-text (walked (ok r)) b {c} {then} {els} is reads =
     let count : c ≡ countsOf (r .ctx .state) = cc in
     let goes-on : then ≡ r .then = cc in
     let fails : els ≡ r .else = cc in
     let state : decode b c ≡ r .ctx .state = ap (decode b) count ∙ reads in
     rw (goes-on, fails) (ap (listing (r .then) (r .else)) (mir-same b c ∙ ap mirOf state))
 
-accepted-ready : (defined : Called) (b : Body) {c : Counts} {then : BasicBlockId} {els : OptBlock} → MatchCall.Matched c d then els ≡ answer defined → ReadyAfter defined b → Ready b c
+accepted-ready : (defined : Called) (b : Body) {c : Counts} {then : BasicBlockId} {els : OptBlock} → MatchCall.Matched c then els ≡ answer defined → ReadyAfter defined b → Ready b c
 accepted-ready badImage b is ready = absurd (let z : _≡_ {A = ℕ} 0 1 = cc in omega arith)
 accepted-ready badCall b is ready = absurd (let z : _≡_ {A = ℕ} 0 1 = cc in omega arith)
 accepted-ready (walked (refused e p)) b is ready = absurd (let z : _≡_ {A = ℕ} 0 1 = cc in omega arith)
@@ -73,14 +73,14 @@ module _ {b : Body} {v : List ℕ} {c : Counts} {defined : Called} {b′ : Body}
   -- the text is what the definition prints
   pub answered : (r : MatchCall) → Visits b v c defined r b′ v′ → answerText (b′ .blocks) (b′ .statements) (b′ .locals) r ≡ callText defined
   unfolding answerText
-  answered (MatchCall.Matched c′ d then els) G = accepted-text defined b′ (G .gives .reply) (G .gives .reads)
+  answered (MatchCall.Matched c′ then els) G = accepted-text defined b′ (G .gives .reply) (G .gives .reads)
   answered (MatchCall.Refused e p) G = refused-text defined (G .gives .reply)
   answered MatchCall.BadCall G = bad-call-text defined (G .gives .reply)
   answered MatchCall.BadImage G = bad-image-text defined (G .gives .reply)
 
   -- and the tables can be listed
   pub listable : (r : MatchCall) → Visits b v c defined r b′ v′ → Listable (b′ .blocks) (b′ .statements) (b′ .locals) r
-  listable (MatchCall.Matched c′ d then els) G =
+  listable (MatchCall.Matched c′ then els) G =
       let R = accepted-ready defined b′ (G .gives .reply) (G .gives .ready) in
       (R .blocks, R .statements, R .locals, R .block-count, R .statement-count, R .local-count)
   listable (MatchCall.Refused e p) G = tt
@@ -89,11 +89,11 @@ module _ {b : Body} {v : List ℕ} {c : Counts} {defined : Called} {b′ : Body}
 
 -- the ways through `put_answer`
 module _ (blocks statements locals : List ℕ) {answer : MatchCall} where
-  pub listing-asked : {c : Counts} {then : BasicBlockId} {els : OptBlock} → answer ≡ MatchCall.Matched c d then els → Listable blocks statements locals answer →
-      Listable blocks statements locals (MatchCall.Matched c d then els)
+  pub listing-asked : {c : Counts} {then : BasicBlockId} {els : OptBlock} → answer ≡ MatchCall.Matched c then els → Listable blocks statements locals answer →
+      Listable blocks statements locals (MatchCall.Matched c then els)
   listing-asked is L = subst (Listable blocks statements locals) is L
 
-  pub lists : {c : Counts} {then : BasicBlockId} {els : OptBlock} → answer ≡ MatchCall.Matched c d then els →
+  pub lists : {c : Counts} {then : BasicBlockId} {els : OptBlock} → answer ≡ MatchCall.Matched c then els →
       listing then els (mirOf (decode (body blocks statements locals [] []) c)) ≡ answerText blocks statements locals answer
   unfolding answerText
   lists is = sym (ap (answerText blocks statements locals) is)

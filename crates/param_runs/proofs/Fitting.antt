@@ -1,48 +1,43 @@
--- Parameters that fit: what is asked of each, in a later context too. Assumes nothing.
-use Prim.Native.Nat.{ℕ, _+_, _<_}
-use mathlib.Core.Path.{_≡_, refl, subst}
+-- Parameters that fit: what is asked of each. Assumes nothing.
+use Prim.Native.Nat.{ℕ, _+_}
+use mathlib.Core.Path.{_≡_, subst}
 use mathlib.Core.Bool.{Bool, true, false, cond, _&&_}
-use mathlib.Core.List.{List, [], _∷_}
-use lib.ListN.{length}
+use mathlib.Core.List.{List, _∷_}
 use Rattle.image.specs.Tree.{tree}
-use Rattle.image.proofs.Bools.{and-left, and-right, and-true}
-use Rattle.pattern_matching.specs.Walking.{Ctx}
+use Rattle.image.proofs.Bools.{and-left, and-right}
 use Rattle.lowered_params.specs.Params.{Param}
 use Rattle.meaning.specs.Values.{Value, valueFits}
 use Rattle.meaning.specs.Matching.{matches}
 use Rattle.meaning.specs.Fits.{fits}
-use Rattle.correctness.proofs.Walking.{Shares}
 use Rattle.param_runs.specs.Returned.{ownLocal}
 use Rattle.param_runs.specs.Through.{plain, patternFits, paramFits, paramsFit}
 use Rattle.param_runs.proofs.Plain.{Owns, plain-owns}
-use Rattle.param_runs.proofs.Differing.{BoundBelow, fits-later}
-use Rattle.param_runs.proofs.Typing.{TypedFrom}
 
 -- what is asked of a parameter that is lowered
-abbrev pub Lowered : List ℕ → List ℕ → DiscrTemp → Param → ℕ → Type 0
-Lowered image bindings discr q l = fits image bindings l discr (q .ty) (tree image (q .pattern)) ≡ true
+abbrev pub Lowered : List ℕ → List ℕ → Param → ℕ → Type 0
+Lowered image bindings q l = fits image bindings l (q .ty) (tree image (q .pattern)) ≡ true
 
 -- what is asked of any parameter
 pub record Asked (image bindings : List ℕ) (q : Param) (l : ℕ) (v : Value) : Type 0 where
   pub owns : ownLocal bindings (tree image (q .pattern)) l ≡ true → Owns image bindings (tree image (q .pattern)) l v
-  pub lowered : ownLocal bindings (tree image (q .pattern)) l ≡ false → Lowered image bindings discr q l
+  pub lowered : ownLocal bindings (tree image (q .pattern)) l ≡ false → Lowered image bindings q l
   pub valued : valueFits image v (q .ty) ≡ true
   pub matched : matches image (tree image (q .pattern)) v ≡ true
 
 module _ (image bindings : List ℕ) where
   -- of one that fits
-  pub asked : (q : Param) (l : ℕ) (v : Value) → paramFits image bindings discr q l v ≡ true → Asked image bindings discr q l v
+  pub asked : (q : Param) (l : ℕ) (v : Value) → paramFits image bindings q l v ≡ true → Asked image bindings q l v
   unfolding paramFits patternFits
-  asked discr q l v e =
+  asked q l v e =
       let pat = tree image (q .pattern) in
-      let a = patternFits image bindings discr pat l (q .ty) in
+      let a = patternFits image bindings pat l (q .ty) in
       let b = valueFits image v (q .ty) in
       let c = matches image pat v in
       let first = and-left (a && b) c e in
       let shape = and-left a b first in
       record {
-        owns = λ own. plain-owns image bindings pat l v (chosen (plain pat) (fits image bindings l discr (q .ty) pat) own shape) own;
-        lowered = λ other. left (plain pat) (fits image bindings l discr (q .ty) pat) other shape;
+        owns = λ own. plain-owns image bindings pat l v (chosen (plain pat) (fits image bindings l (q .ty) pat) own shape) own;
+        lowered = λ other. left (plain pat) (fits image bindings l (q .ty) pat) other shape;
         valued = and-right a b first;
         matched = and-right (a && b) c e;
       }
@@ -54,41 +49,11 @@ module _ (image bindings : List ℕ) where
       left x y o e = subst (λ (b : Bool). cond b x y ≡ true) o e
 
   -- the first of those that fit
-  pub fit-first : (q : Param) (qs : List Param) (l : ℕ) (v : Value) (vs : List Value) → paramsFit image bindings discr (q ∷ qs) l (v ∷ vs) ≡ true → paramFits image bindings discr q l v ≡ true
+  pub fit-first : (q : Param) (qs : List Param) (l : ℕ) (v : Value) (vs : List Value) → paramsFit image bindings (q ∷ qs) l (v ∷ vs) ≡ true → paramFits image bindings q l v ≡ true
   unfolding paramsFit
-  fit-first discr q qs l v vs e = and-left (paramFits image bindings discr q l v) (paramsFit image bindings discr qs (l + 1) vs) e
+  fit-first q qs l v vs e = and-left (paramFits image bindings q l v) (paramsFit image bindings qs (l + 1) vs) e
 
   -- and the others
-  pub fit-rest : (q : Param) (qs : List Param) (l : ℕ) (v : Value) (vs : List Value) → paramsFit image bindings discr (q ∷ qs) l (v ∷ vs) ≡ true → paramsFit image bindings discr qs (l + 1) vs ≡ true
+  pub fit-rest : (q : Param) (qs : List Param) (l : ℕ) (v : Value) (vs : List Value) → paramsFit image bindings (q ∷ qs) l (v ∷ vs) ≡ true → paramsFit image bindings qs (l + 1) vs ≡ true
   unfolding paramsFit
-  fit-rest discr q qs l v vs e = and-right (paramFits image bindings discr q l v) (paramsFit image bindings discr qs (l + 1) vs) e
-
-  module _ (ctx ctx₁ : Ctx) (s : Shares ctx ctx₁) (below : BoundBelow bindings (length (ctx .state .locals))) where
-    -- a parameter in a later context
-    one-later : (q : Param) (l : ℕ) (v : Value) → l < length (ctx .state .locals) → paramFits image bindings q l v ≡ true → paramFits image bindings q l v ≡ true
-    unfolding paramFits patternFits
-    one-later q l v i e =
-        let pat = tree image (q .pattern) in
-        let b = valueFits image v (q .ty) in
-        let c = matches image pat v in
-        let a = patternFits image bindings pat l (q .ty) in
-        let first = and-left (a && b) c e in
-        and-true (patternFits image bindings pat l (q .ty) && b) c
-        (and-true (patternFits image bindings pat l (q .ty)) b (by (ownLocal bindings pat l) (and-left a b first)) (and-right a b first)) (and-right (a && b) c e)
-      where
-        by : (t : Bool) → cond t (plain (tree image (q .pattern))) (fits image bindings l (q .ty) (tree image (q .pattern))) ≡ true →
-            cond t (plain (tree image (q .pattern))) (fits image bindings l (q .ty) (tree image (q .pattern))) ≡ true
-        by true e = e
-        by false e = fits-later image bindings l ctx ctx₁ (q .ty) (tree image (q .pattern)) s i below e
-
-    -- all of them
-    pub fit-later : (qs : List Param) (l : ℕ) (vs : List Value) → TypedFrom (ctx .state .locals) l qs → paramsFit image bindings qs l vs ≡ true →
-        paramsFit image bindings qs l vs ≡ true
-    unfolding paramsFit
-    fit-later [] l [] t e = refl
-    fit-later [] l (v ∷ vs) t e = e
-    fit-later (q ∷ qs) l [] t e = e
-    fit-later (q ∷ qs) l (v ∷ vs) (i, is, t) e =
-        and-true (paramFits image bindings q l v) (paramsFit image bindings qs (l + 1) vs)
-        (one-later q l v i (and-left (paramFits image bindings q l v) (paramsFit image bindings qs (l + 1) vs) e))
-        (fit-later qs (l + 1) vs t (and-right (paramFits image bindings q l v) (paramsFit image bindings qs (l + 1) vs) e))
+  fit-rest q qs l v vs e = and-right (paramFits image bindings q l v) (paramsFit image bindings qs (l + 1) vs) e

@@ -10,7 +10,6 @@ mod Tallying
 mod Typing
 pub mod Counts
 pub mod Corners
-mod Differing
 mod Walks
 mod Fitting
 mod Holding

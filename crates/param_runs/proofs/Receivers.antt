@@ -3,15 +3,13 @@ use Prim.Native.Nat.{ℕ, _+_, _<_}
 use native.Mathlib.Omega.{arith}
 use mathlib.Core.Path.{_≡_, refl, sym, ap, _∙_}
 use mathlib.Core.Bool.{Bool, true, false, cond, _&&_}
-use mathlib.Core.List.{List, []}
+use mathlib.Core.List.{List}
 use borrow.Author.Tests.{eqb-true, eq-eqb, ne-eqb, ltb-true}
 use lib.Dec.{eqb, ltb}
 use lib.ListN.{length, getD}
-use Rattle.refusals.specs.declared.MirLowerError.{MirLowerError}
 use Rattle.refusals.specs.Refusals.{Result, noPattern}
 use Rattle.refusals.specs.Refusals.{ok as done, refused as stopped}
 use Rattle.row_tables.specs.Rows.{zeros}
-use Rattle.image.specs.declared.BindingId.{BindingId}
 use Rattle.image.specs.Lists.{allTrue, allIn}
 use Rattle.image.specs.Tables.{typeCount, bindingCount}
 use Rattle.image.specs.Valid.{valid}
@@ -26,11 +24,11 @@ use Rattle.pattern_matching.specs.Walking.{Ctx, Out, Walk, next, step, out, wit
 use Rattle.pattern_matching.specs.Walking.{ok as gives}
 use Rattle.pattern_matching.specs.Patterns.{matchSelfParam}
 use Rattle.walks.specs.Answers.{ctxOf}
-use Rattle.handed.specs.Handed.{bindingHolds, bindingsHold, discrHolds, startHolds}
+use Rattle.handed.specs.Handed.{bindingHolds, bindingsHold}
 use Rattle.lowered_params.specs.declared.SelfParam.{SelfParam}
 use Rattle.lowered_params.specs.Params.{Param, Declared, ParamsOut, declare, shut, unlessBound, lowerParams, selfCount, lowerAll, lowerParamsAndBindings}
 use Rattle.lowered_params.specs.Calls.{ParamsCalled, badImage, badCall, walked, paramsOf, listFormed, receiverApart, listHolds, selfNamed, paramsHold, paramsCall}
-use Rattle.param_runs.proofs.Declaring.{selfTypes, paramTypes, makes-count, all-made}
+use Rattle.param_runs.proofs.Declaring.{makes-count, all-made}
 
 -- self, whose local is l, from the block `current` on: a binding with another local is filled by `match_self_param`
 unfoldable pub lowerSelf : List ℕ → List ℕ → SelfParam → ℕ → Ctx → BasicBlockId → Walk Out

@@ -8,7 +8,7 @@ use mathlib.Core.Option.{Option, none, some}
 use mathlib.Core.List.{List, [], _∷_, _++_}
 use borrow.Author.Tests.{eqb-true, ltb-true}
 use lib.Dec.{ltb}
-use lib.ListN.{length, getD, length-append}
+use lib.ListN.{length, length-append}
 use Rattle.refusals.specs.Refusals.{Result}
 use Rattle.refusals.specs.Refusals.{ok as done}
 use Rattle.image.specs.declared.BindingId.{BindingId}
@@ -147,7 +147,7 @@ finish image self params bindings ctx current M vs env made last declared same p
       through = subst (λ (lines : List Line). Through image M (length (ctx .state .locals)) vs (current .0) lines env (last .then .0) (rest (last .ctx .state) M) (p .env′) (p .entered))
           (rest-same (ctx .state) (made .state) M same) (p .through);
       once = distinct-of (current .0 ∷ p .entered) (p .trail .distinct);
-      locals = λ l i n. p .locals l (subst (λ (x : Result Declared). l < madeCount x) declared i) n;
+      locals = λ l i. p .locals l (subst (λ (x : Result Declared). l < madeCount x) declared i);
     }
 
 -- For parameters that all fit, on values that all match, in every body that goes on from the lowered one.
@@ -172,7 +172,7 @@ module _ (image : List ℕ) (self : SelfParam) (params : List Param) (bindings :
       m = all-made image self params (record { state = ctx .state; bindings = bindings }) .at (s .made) (s .declared)
 
       starts : Starts (withState ctx (s .made .state)) current OptBlock.None
-      starts = leaves-lines {d = ctx .discr} {v = ctx .visits} (handed .starts) (adds-words (ctx .state) (s .made .state) (current .0) _ (m .makes .blocks) (m .makes .statements) (m .makes .locals)) .ready
+      starts = leaves-lines {v = ctx .visits} (handed .starts) (adds-words (ctx .state) (s .made .state) (current .0) _ (m .makes .blocks) (m .makes .statements) (m .makes .locals)) .ready
 
       runs : Runs (record { ctx = s .end .ctx; then = s .end .then; bindings = s .made .bindings })
       runs onward fit =

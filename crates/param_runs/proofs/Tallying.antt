@@ -2,8 +2,7 @@
 use Prim.Native.Nat.{ℕ, _+_, _≤_, _<_}
 use native.Mathlib.Nat.{le-refl, le-trans, lt-of-lt-of-le}
 use native.Mathlib.Omega.{arith}
-use mathlib.Core.Path.{_≡_, refl, sym, ap, _∙_}
-use mathlib.Core.Bool.{Bool, false, _||_, or-assoc, or-false}
+use mathlib.Core.Path.{_≡_, refl, ap, _∙_}
 use mathlib.Core.List.{List, [], _++_}
 use lib.ListN.{length, getD, length-append, List·getD-append}
 use Rattle.image.specs.Tree.{Pat}
@@ -17,22 +16,19 @@ use Rattle.pattern_matching.specs.Variants.{placeTy}
 use Rattle.pattern_matching.specs.Patterns.{patternMatch}
 use Rattle.lowered_params.specs.Params.{shutElse}
 use Rattle.counting.specs.Reaching.{Reached}
-use Rattle.counting.specs.Counting.{total, reachedFrom, visitsOf, newBlocks, statementsOf, someEnum, discrMade}
+use Rattle.counting.specs.Counting.{total, reachedFrom, visitsOf, newBlocks, statementsOf}
 use Rattle.counting.proofs.Building.{built-terminator}
-use Rattle.counting.proofs.Stepping.{has, discr-once}
-use Rattle.counting.proofs.Passing.{total-append, some-append}
+use Rattle.counting.proofs.Passing.{total-append}
 use Rattle.counting.proofs.Whole.{counted, stepped}
 use Rattle.param_runs.proofs.Shutting.{shutOut}
 use Rattle.param_runs.proofs.Declaring.{Makes}
 
--- from c to c′ so many blocks are new, the statements of the patterns reached, and their visits; the locals stay, and a discriminant local is there
--- where one was or an enum is tested
+-- from c to c′ so many blocks are new, the statements of the patterns reached, and their visits; the locals stay
 pub record Tally (c c′ : Ctx) (b : ℕ) (rs : List Reached) : Type 0 where
   pub blocks : length (c′ .state .blocks) ≡ length (c .state .blocks) + b
-  pub statements : length (c′ .state .statements) ≡ length (c .state .statements) + (total statementsOf rs + discrMade (someEnum rs))
+  pub statements : length (c′ .state .statements) ≡ length (c .state .statements) + total statementsOf rs
   pub visits : (n : ℕ) → n < length (c .visits) → getD (c′ .visits) n 0 ≡ getD (c .visits) n 0 + visitsOf n rs
   pub listed : length (c′ .visits) ≡ length (c .visits)
-  pub discr : has (c′ .discr) ≡ (has || someEnum rs)
   pub locals : length (c .state .locals) ≤ length (c′ .state .locals)
   pub kept : (i : ℕ) → i < length (c .state .locals) → getD (c′ .state .locals) i 0 ≡ getD (c .state .locals) i 0
 
@@ -48,47 +44,37 @@ tally-seq {c} {c₁} {rs} {rs′} f g =
       blocks = omega (arith, f .blocks, g .blocks);
       statements =
           let t = total-append statementsOf rs rs′ in
-          let d = discr-once (someEnum rs) (someEnum rs′) in
-          let e : discrMade (someEnum (rs ++ rs′)) ≡ discrMade (someEnum rs || someEnum rs′) = ap (λ (x : Bool). discrMade x) (some-append rs rs′) in
-          omega (arith, f .statements, g .statements, t, d, e);
+          omega (arith, f .statements, g .statements, t);
       visits = λ n l.
           let i : n < length (c₁ .visits) = omega (arith, f .listed) in
           omega (arith, f .visits n l, g .visits n i, visits-append n rs rs′);
       listed = g .listed ∙ f .listed;
-     
       locals = le-trans (f .locals) (g .locals);
       kept = λ i l. g .kept i (lt-of-lt-of-le l (f .locals)) ∙ f .kept i l;
     }
 
--- nothing made but locals
-plain-made : → discrMade false d ≡ 0
-plain-made DiscrTemp.None = refl
-plain-made (DiscrTemp.Some l) = refl
-
 -- a state with other locals behind those that there were
 pub tally-locals : (c : Ctx) (st : State) (types : List ℕ) → Makes (c .state) types st → Tally c (withState c st) 0 []
-unfolding total someEnum visitsOf
+unfolding total visitsOf
 tally-locals c st types m =
     record {
       blocks = let e : length (st .blocks) ≡ length (c .state .blocks) = ap (λ (x : List (List ℕ)). length x) (m .blocks) in omega arith;
-      statements = let e : length (st .statements) ≡ length (c .state .statements) = ap (λ (x : List (List ℕ)). length x) (m .statements) in omega (arith, plain-made);
+      statements = let e : length (st .statements) ≡ length (c .state .statements) = ap (λ (x : List (List ℕ)). length x) (m .statements) in omega arith;
       visits = λ n l. omega arith;
       listed = refl;
-     
       locals = let e : length (st .locals) ≡ length (c .state .locals) + length types = ap (λ (x : List ℕ). length x) (m .locals) ∙ length-append (c .state .locals) types in omega arith;
       kept = λ i l. ap (λ (x : List ℕ). getD x i 0) (m .locals) ∙ List·getD-append (c .state .locals) types 0 i l;
     }
 
 -- nothing done
 pub tally-none : (c : Ctx) → Tally c c 0 []
-unfolding total someEnum visitsOf
+unfolding total visitsOf
 tally-none c =
     record {
       blocks = omega arith;
-      statements = omega (arith, plain-made);
+      statements = omega arith;
       visits = λ n l. omega arith;
       listed = refl;
-     
       locals = le-refl _;
       kept = λ i l. refl;
     }
@@ -104,7 +90,6 @@ tally-shut {c′} (OptBlock.Some e) f =
       statements = omega (arith, f .statements, built .statements);
       visits = f .visits;
       listed = f .listed;
-     
       locals = le-trans (f .locals) (built .locals);
       kept = λ i l. built .kept i (lt-of-lt-of-le l (f .locals)) ∙ f .kept i l;
     }
@@ -123,7 +108,6 @@ module _ (image bindings : List ℕ) (ctx : Ctx) (current : BasicBlockId) (r : O
         statements = omega (arith, c .statements);
         visits = c .visits;
         listed = s .went .listed;
-       
         locals = s .went .locals;
         kept = s .went .kept;
       }

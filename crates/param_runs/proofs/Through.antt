@@ -27,7 +27,7 @@ use Rattle.meaning.specs.Running.{Env, value, here}
 use Rattle.meaning.specs.Matching.{Bound}
 use Rattle.meaning.specs.Binding.{binds}
 use Rattle.meaning.specs.Fit.{boundIn}
-use Rattle.correctness.specs.Demand2.{IsNotDiscr, after}
+use Rattle.correctness.specs.Demand2.{after}
 use Rattle.correctness.proofs.Trails.{Trail, Landing, trail-here, trail-seq}
 use Rattle.correctness.proofs.Walking.{rest, after-append, Shares, Walked}
 use Rattle.correctness.proofs.Sharing.{shares-same}
@@ -36,25 +36,25 @@ use Rattle.param_runs.specs.Through.{whole, paramsFit, paramsBind, param
 use Rattle.param_runs.proofs.Owning.{unchanged, param-case}
 use Rattle.param_runs.proofs.OpenBlocks.{param-opens, params-open}
 use Rattle.param_runs.proofs.Typing.{TypedFrom, typed-grown, NamedParam, named-first, named-rest}
-use Rattle.param_runs.proofs.Words.{WordsBelow, words-more, present-below}
+use Rattle.param_runs.proofs.Words.{WordsBelow, words-more}
 use Rattle.param_runs.proofs.Walks.{sceneAt, param-shares, lowered-walks}
-use Rattle.param_runs.proofs.Fitting.{asked, fit-first, fit-rest, fit-later}
+use Rattle.param_runs.proofs.Fitting.{asked, fit-first, fit-rest}
 use Rattle.param_runs.proofs.Holding.{SmallFrom, held-later}
 
 module _ (image bindings : List ℕ) (M : Mir) where
-  -- a run through values that the lowering made on its way from ctx to ctx₁, from the block current to the block b: the locals of ctx, but the discriminant's, get
-  -- the bindings bs and are else unchanged
+  -- a run through values that the lowering made on its way from ctx to ctx₁, from the block current to the block b: the locals of ctx get the bindings bs and are
+  -- else unchanged
   pub record Passed (ctx : Ctx) (current : ℕ) (env : Env) (l : ℕ) (vs : List Value) (bs : List Bound) (ctx₁ : Ctx) (b : ℕ) : Type 0 where
     pub env′ : Env
     pub entered : List ℕ
     pub through : Through image M l vs current (rest (ctx .state) M) env b (rest (ctx₁ .state) M) env′ entered
-    pub locals : (k : ℕ) → k < length (ctx .state .locals) → IsNotDiscr k → env′ k ≡ after bindings bs k (env k)
+    pub locals : (k : ℕ) → k < length (ctx .state .locals) → env′ k ≡ after bindings bs k (env k)
     pub trail : Trail (ctx .state) (ctx₁ .state) current entered b
 
   -- no value
   passed-end : (ctx : Ctx) (current : ℕ) (env : Env) (l : ℕ) → current < count (ctx .state) → Passed ctx current env l [] [] ctx current
   unfolding after
-  passed-end ctx current env l i = record { env′ = env; entered = []; through = end; locals = λ k i n. refl; trail = trail-here i }
+  passed-end ctx current env l i = record { env′ = env; entered = []; through = end; locals = λ k i. refl; trail = trail-here i }
 
   -- a value, and then others
   passed-next : {ctx ctx₁ ctx₂ : Ctx} {current b₁ b₂ : ℕ} {env : Env} {l : ℕ} {v : Value} {vs : List Value} {bs bs′ : List Bound} → env l ≡ value v →
@@ -66,7 +66,7 @@ module _ (image bindings : List ℕ) (M : Mir) where
         env′ = u .env′;
         entered = w .entered ++ u .entered;
         through = next is (w .run) (u .through);
-        locals = λ k i n. u .locals k (lt-of-lt-of-le i (s .more)) (s .discr k i n) ∙ ap (after bindings bs′ k) (w .locals k i n) ∙ sym (after-append bindings bs bs′ k (env k));
+        locals = λ k i. u .locals k (lt-of-lt-of-le i (s .more)) ∙ ap (after bindings bs′ k) (w .locals k i) ∙ sym (after-append bindings bs bs′ k (env k));
         trail = trail-seq (w .trail) (u .trail) x h₁ h₂ o f;
       }
 
@@ -75,7 +75,7 @@ module _ (image bindings : List ℕ) (M : Mir) where
       Walked (sceneAt image l v) bindings M ctx current env (record { binding = b; what = value v } ∷ []) ctx current (rest (ctx .state) M)
   unfolding after
   own-walked ctx current env b l v i own is =
-      record { env′ = env; entered = []; run = here; locals = λ k j n. by k (eqb k (getD bindings b 65535)) refl; trail = trail-here i }
+      record { env′ = env; entered = []; run = here; locals = λ k j. by k (eqb k (getD bindings b 65535)) refl; trail = trail-here i }
     where
       by : (k : ℕ) (t : Bool) → eqb k (getD bindings b 65535) ≡ t → env k ≡ cond t (value v) (env k)
       by k true e = ap env (eqb-true k (getD bindings b 65535) e ∙ own) ∙ is
@@ -135,11 +135,9 @@ module _ (image bindings : List ℕ) (M : Mir) where
         let on = leaves-goes-on (p .ready) o in
         let step = param-step q qs l v vs ctx current env r₁ (named-first image q qs named) starts typed small fit differ held e₁ (goes-on-trans on onward) in
         let s = param-shares image bindings (q .pattern) l ctx current r₁ starts e₁ in
-        let below = present-below bindings (length (ctx .state .locals)) words in
-        let later = fit-later image bindings ctx (r₁ .ctx) s below qs (l + 1) vs (typed .2) (fit-rest image bindings q qs l v vs fit) in
         passed-next (held .0) (step .walk)
         (params-pass qs (l + 1) vs (r₁ .ctx) (r₁ .then) (step .walk .env′) r (named-rest image q qs named) (p .ready)
         (typed-grown (ctx .state .locals) (r₁ .ctx .state .locals) (p .worked .moreLocals) (l + 1) qs (p .worked .locals) (typed .2)) (small .1)
-        (words-more bindings (length (ctx .state .locals)) (length (r₁ .ctx .state .locals)) (s .more) words) later
+        (words-more bindings (length (ctx .state .locals)) (length (r₁ .ctx .state .locals)) (s .more) words) (fit-rest image bindings q qs l v vs fit)
         (distinct-right (names (boundIn image (tree image (q .pattern)))) (paramsBound image qs) differ) (step .held) e₂ onward)
         s (p .worked .blocks) (o .worked .blocks) on (inl (o .ready .opened)) (p .then))

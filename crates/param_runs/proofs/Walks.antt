@@ -63,7 +63,7 @@ shut-stays ctx then (OptBlock.Some e) q =
       goes = goes-on (worked-terminator (ctx .state) e Terminator.Unreachable) (q .else .1);
       blocks = omega (arith, count-terminator (ctx .state) e Terminator.Unreachable);
       statements = refl;
-      shares = record { more = le-refl _; discr = λ l i n. n };
+      shares = record { more = le-refl _ };
     }
 
 -- both walks of `pattern_match`
@@ -76,7 +76,7 @@ match-shares image bindings pat l ctx current r e =
     shares-seq (sharer image bindings pat MatchingMode.Check ctx current OptBlock.None place .shares r₁ e₁)
     (sharer image bindings pat MatchingMode.Bind (r₁ .ctx) (r₁ .then) (r₁ .else) place .shares r e₂))
 
--- a parameter loses no local, and the discriminant's local stays or is a new one
+-- a parameter loses no local
 pub param-shares : (image bindings : List ℕ) (p l : ℕ) (ctx : Ctx) (current : BasicBlockId) (r : Out) → Starts ctx current OptBlock.None →
     lowerParam image bindings p l ctx current ≡ ok r → Shares ctx (r .ctx)
 param-shares image bindings p l ctx current r s e =

@@ -33,13 +33,13 @@ state-same b c then first many bindings = refl
 
 -- an accepted call
 accepted-text : (c : Counts) (many : ℕ) (defined : ParamsCalled) (b : Body) (bindings : List ℕ) {m : List ℕ} {c′ : Counts} {then : BasicBlockId} {first : LocalId} →
-    ParamsCall.Lowered c′ d then first ≡ answer c defined → Reads defined b → m ≡ bindingsAfter bindings defined →
+    ParamsCall.Lowered c′ then first ≡ answer c defined → Reads defined b → m ≡ bindingsAfter bindings defined →
     stateText then (first .0) many m (decode b c′) ≡ callText (c .locals) many defined
 unfolding callText walkText stateText
 accepted-text c many badImage b bindings is reads bound = absurd (let z : _≡_ {A = ℕ} 0 1 = cc in omega arith)
 accepted-text c many badCall b bindings is reads bound = absurd (let z : _≡_ {A = ℕ} 0 1 = cc in omega arith)
 accepted-text c many (walked (refused e p)) b bindings is reads bound = absurd (let z : _≡_ {A = ℕ} 0 1 = cc in omega arith)
-accepted-text c many (walked (ok r)) b bindings {m} {c′} {d} {then} {first} is reads bound =
+accepted-text c many (walked (ok r)) b bindings {m} {c′} {then} {first} is reads bound =
     let count : c′ ≡ countsOf (r .ctx .state) = cc in
     let goes-on : then ≡ r .then = cc in
     let begins : first ≡ record { 0 = c .locals } = cc in
@@ -47,7 +47,7 @@ accepted-text c many (walked (ok r)) b bindings {m} {c′} {d} {then} {first} is
     λ i. stateText (goes-on i) (begins i .0) many (bound i) (state i)
 
 accepted-ready : (c : Counts) (defined : ParamsCalled) (b : Body) {c′ : Counts} {then : BasicBlockId} {first : LocalId} →
-    ParamsCall.Lowered c′ d then first ≡ answer c defined → ReadyAfter defined b → Ready b c′ × (first .0 ≡ c .locals)
+    ParamsCall.Lowered c′ then first ≡ answer c defined → ReadyAfter defined b → Ready b c′ × (first .0 ≡ c .locals)
 accepted-ready c badImage b is ready = absurd (let z : _≡_ {A = ℕ} 0 1 = cc in omega arith)
 accepted-ready c badCall b is ready = absurd (let z : _≡_ {A = ℕ} 0 1 = cc in omega arith)
 accepted-ready c (walked (refused e p)) b is ready = absurd (let z : _≡_ {A = ℕ} 0 1 = cc in omega arith)
@@ -87,7 +87,7 @@ module _ {bindings : List ℕ} {b : Body} {v : List ℕ} {c : Counts} {defined :
   -- the text is what the definition prints
   pub answered : (r : ParamsCall) → GivesParams bindings b v c defined r m b′ v′ → answerText (b′ .blocks) (b′ .statements) (b′ .locals) (b′ .entries) m many r ≡ callText (c .locals) many defined
   unfolding answerText
-  answered (ParamsCall.Lowered c′ d then first) G =
+  answered (ParamsCall.Lowered c′ then first) G =
       state-same b′ c′ then (first .0) many m ∙ accepted-text c many defined b′ bindings (G .reply) (G .reads) (G .locals)
   answered (ParamsCall.Refused e p) G = refused-text c many defined (G .reply)
   answered ParamsCall.BadCall G = bad-call-text c many defined (G .reply)
@@ -95,7 +95,7 @@ module _ {bindings : List ℕ} {b : Body} {v : List ℕ} {c : Counts} {defined :
 
   -- and the tables can be listed
   pub listable : c .locals + many ≤ 65535 → (r : ParamsCall) → GivesParams bindings b v c defined r m b′ v′ → Listable (b′ .blocks) (b′ .statements) (b′ .locals) (b′ .entries) many r
-  listable few (ParamsCall.Lowered c′ d then first) G =
+  listable few (ParamsCall.Lowered c′ then first) G =
       let (R, begins) = accepted-ready c defined b′ (G .reply) (G .ready) in
       ((R .blocks, R .statements, R .locals, R .block-count, R .statement-count, R .local-count), R .entries, R .entry-count, omega (arith, few, begins))
   listable few (ParamsCall.Refused e p) G = tt
@@ -104,11 +104,11 @@ module _ {bindings : List ℕ} {b : Body} {v : List ℕ} {c : Counts} {defined :
 
 -- the ways through `put_params_answer`
 module _ (blocks statements locals entries bindings : List ℕ) (many : ℕ) {answer : ParamsCall} where
-  pub listing-asked : {c : Counts} {then : BasicBlockId} {first : LocalId} → answer ≡ ParamsCall.Lowered c d then first →
-      Listable blocks statements locals entries many answer → Listable blocks statements locals entries many (ParamsCall.Lowered c d then first)
+  pub listing-asked : {c : Counts} {then : BasicBlockId} {first : LocalId} → answer ≡ ParamsCall.Lowered c then first →
+      Listable blocks statements locals entries many answer → Listable blocks statements locals entries many (ParamsCall.Lowered c then first)
   listing-asked is L = subst (Listable blocks statements locals entries many) is L
 
-  pub lists : {c : Counts} {then : BasicBlockId} {first : LocalId} → answer ≡ ParamsCall.Lowered c d then first →
+  pub lists : {c : Counts} {then : BasicBlockId} {first : LocalId} → answer ≡ ParamsCall.Lowered c then first →
       listing then OptBlock.None (mirOf (decode (body blocks statements locals [] []) c)) ++ linesText (first .0) many bindings (take (c .entries) entries)
       ≡ answerText blocks statements locals entries bindings many answer
   unfolding answerText

@@ -19,10 +19,10 @@ match-holds-requires c κs =
 
 returns : tie.Need-returns
 unfolding patternMatchAssignmentCall
-returns c = bad-number _ _ _ _ _ (sym (c .before .before .before .before .before .tables .given .1) ∙ c .before .before .before .before .before .before .before .«open» .ensures) (handed-by _ _ _ _ _ _ _ _ _ ((taken _ _ _ (sym (c .before .before .before .before .before .tables .given .1) ∙ c .before .before .before .before .before .before .before .«open» .ensures)) .whole) (c .before .match-holds .ensures) ∙ not-true (c .before .match-holds .result) (c .if1 .taken))
+returns c = bad-number _ _ _ _ _ (sym (c .before .before .before .before .before .tables .given .1) ∙ c .before .before .before .before .before .before .before .«open» .ensures) (handed-by _ _ _ _ _ _ _ _ ((taken _ _ _ (sym (c .before .before .before .before .before .tables .given .1) ∙ c .before .before .before .before .before .before .before .«open» .ensures)) .whole) (c .before .match-holds .ensures) ∙ not-true (c .before .match-holds .result) (c .if1 .taken))
 
 assignment-step-requires : tie.Need-assignment-step-requires
-assignment-step-requires c κs = ((taken _ _ _ (sym (c .before .before .before .before .before .before .before .before .before .before .before .tables .given .1) ∙ c .before .before .before .before .before .before .before .before .before .before .before .before .before .«open» .ensures)), handed-by _ _ _ _ _ _ _ _ _ ((taken _ _ _ (sym (c .before .before .before .before .before .before .before .before .before .before .before .tables .given .1) ∙ c .before .before .before .before .before .before .before .before .before .before .before .before .before .«open» .ensures)) .whole) (c .before .before .before .before .before .before .before .match-holds .ensures) ∙ not-false (c .before .before .before .before .before .before .before .match-holds .result) (c .before .before .before .before .before .before .if1 .left))
+assignment-step-requires c κs = ((taken _ _ _ (sym (c .before .before .before .before .before .before .before .before .before .before .before .tables .given .1) ∙ c .before .before .before .before .before .before .before .before .before .before .before .before .before .«open» .ensures)), handed-by _ _ _ _ _ _ _ _ ((taken _ _ _ (sym (c .before .before .before .before .before .before .before .before .before .before .before .tables .given .1) ∙ c .before .before .before .before .before .before .before .before .before .before .before .before .before .«open» .ensures)) .whole) (c .before .before .before .before .before .before .before .match-holds .ensures) ∙ not-false (c .before .before .before .before .before .before .before .match-holds .result) (c .before .before .before .before .before .before .if1 .left))
 
 returns-2 : tie.Need-returns-2
 unfolding patternMatchAssignmentCall
@@ -34,7 +34,7 @@ returns-3 c = bad-body _ _ _ _ _ (sym (c .enum-told2 .given .1) ∙ c .before .b
 
 returns-4 : tie.Need-returns-4
 unfolding patternMatchAssignmentCall
-returns-4 c = goes-on _ _ _ _ _ (sym (c .before .before .before .before .before .before .before .before .before .before .before .before .before .before .before .before .before .before .before .before .before .before .before .before .tables .given .1) ∙ c .before .before .before .before .before .before .before .before .before .before .before .before .before .before .before .before .before .before .before .before .before .before .before .before .before .before .«open» .ensures) (handed-by _ _ _ _ _ _ _ _ _ ((taken _ _ _ (sym (c .before .before .before .before .before .before .before .before .before .before .before .before .before .before .before .before .before .before .before .before .before .before .before .before .tables .given .1) ∙ c .before .before .before .before .before .before .before .before .before .before .before .before .before .before .before .before .before .before .before .before .before .before .before .before .before .before .«open» .ensures)) .whole) (c .before .before .before .before .before .before .before .before .before .before .before .before .before .before .before .before .before .before .before .before .match-holds .ensures) ∙ not-false (c .before .before .before .before .before .before .before .before .before .before .before .before .before .before .before .before .before .before .before .before .match-holds .result) (c .before .before .before .before .before .before .before .before .before .before .before .before .before .before .before .before .before .before .before .if1 .left)) (c .before .before .before .before .before .before .before .before .before .before .before .before .assignment-step .ensures)
+returns-4 c = goes-on _ _ _ _ _ (sym (c .before .before .before .before .before .before .before .before .before .before .before .before .before .before .before .before .before .before .before .before .before .before .before .before .tables .given .1) ∙ c .before .before .before .before .before .before .before .before .before .before .before .before .before .before .before .before .before .before .before .before .before .before .before .before .before .before .«open» .ensures) (handed-by _ _ _ _ _ _ _ _ ((taken _ _ _ (sym (c .before .before .before .before .before .before .before .before .before .before .before .before .before .before .before .before .before .before .before .before .before .before .before .before .tables .given .1) ∙ c .before .before .before .before .before .before .before .before .before .before .before .before .before .before .before .before .before .before .before .before .before .before .before .before .before .before .«open» .ensures)) .whole) (c .before .before .before .before .before .before .before .before .before .before .before .before .before .before .before .before .before .before .before .before .match-holds .ensures) ∙ not-false (c .before .before .before .before .before .before .before .before .before .before .before .before .before .before .before .before .before .before .before .before .match-holds .result) (c .before .before .before .before .before .before .before .before .before .before .before .before .before .before .before .before .before .before .before .if1 .left)) (c .before .before .before .before .before .before .before .before .before .before .before .before .assignment-step .ensures)
 
 pub pattern-match-assignment-spec : {M : Type 1} → statement M
 pattern-match-assignment-spec =

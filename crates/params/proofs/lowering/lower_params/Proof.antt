@@ -9,10 +9,10 @@ use Rattle.param_lists.proofs.Listing.{first-pattern, first-words}
 use Rattle.params_laws.proofs.Lowering.{ParamsGoing, params-begin, params-end, param-walkable, local-small, param-stops, params-again}
 
 abbrev Inv-loop : tie.InvT-loop
-Inv-loop image tables bindings blocks₀ statements₀ locals₀ entries₀ visits₀ words first c₀ d₀ here₀ l₀ k₀ left₀ blocks statements locals entries visits c d here l k left = ParamsGoing image words bindings first c₀ d₀ here₀ (lent blocks₀ statements₀ locals₀ entries₀) visits₀ c d here (lent blocks statements locals entries) visits l k left
+Inv-loop image tables bindings blocks₀ statements₀ locals₀ entries₀ visits₀ words first c₀ here₀ l₀ k₀ left₀ blocks statements locals entries visits c here l k left = ParamsGoing image words bindings first c₀ here₀ (lent blocks₀ statements₀ locals₀ entries₀) visits₀ c here (lent blocks statements locals entries) visits l k left
 
 abbrev μ-loop : tie.MeasureT-loop
-μ-loop image tables bindings blocks₀ statements₀ locals₀ entries₀ visits₀ words first c₀ d₀ here₀ l₀ k₀ left₀ blocks statements locals entries visits c d here l k left = left
+μ-loop image tables bindings blocks₀ statements₀ locals₀ entries₀ visits₀ words first c₀ here₀ l₀ k₀ left₀ blocks statements locals entries visits c here l k left = left
 
 loop-holds : tie.Need-loop-holds Inv-loop μ-loop
 loop-holds c = params-begin (c .before .before .before .before .before .before .before .before .pre)
