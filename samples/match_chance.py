@@ -61,7 +61,11 @@ def bent(rng, m, way):
     way, others = list(way), [("deref",), ("f", rng.choice((0, 7, 65535))), ("i", 3), ("e", 0), ("s", 1, 1),
                               ("v", rng.randrange(max(1, len(m.variants))))]
     at = rng.randint(0, len(way))
-    if rng.random() < 0.5 and at < len(way):
+    variants = [at for at, element in enumerate(way) if element[0] == "v"]
+    if variants and rng.random() < 0.5:
+        at = rng.choice(variants)
+        way[at] = "v", max(0, min(len(m.variants) - 1, way[at][1] + rng.choice((-1, 1))))
+    elif rng.random() < 0.5 and at < len(way):
         way[at] = rng.choice(others)
     else:
         way.insert(at, rng.choice(others))

@@ -41,7 +41,7 @@ pub struct StoredTy {
 
 impl StoredTy {
     pub fn as_ref<'db>(&self) -> Ty<'db> {
-        assert!(!WITHOUT_TYPES.get(), "the place that is handed in has no type");
+        assert!(cfg!(feature = "quiet") || !WITHOUT_TYPES.get(), "the place that is handed in has no type");
         Ty::numbered(self.number)
     }
 
