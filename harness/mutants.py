@@ -2,7 +2,7 @@
 """Does the comparison find errors? Changes samples/lowering.py, builder.py or params.py in one place, and compares.
 
 `mutants.py [FILE..]` prints a line for each change, with how many images or calls differ; it fails if a
-change is not found. FILEs choose changes. The harness must be built.
+change is not found. FILEs, or names of changes, choose some. The harness must be built.
 """
 
 import shutil
@@ -144,9 +144,32 @@ CHANGES = (
     ('a temporary of str is refused', 'builder.py',
      '        if isinstance(type_, int) and self.m.types[type_][0] == SLICE_TYPE:',
      '        if isinstance(type_, int) and self.m.types[type_][0] in (SLICE_TYPE, 4):'),
-    ('every variant test has its own discriminant local', 'builder.py',
-     '            self.body.discriminant = self.temp("i128", block, p)',
-     '            return self.temp("i128", block, p)'),
+    ('all variant tests share one discriminant local', 'builder.py',
+     'return self.temp("i128", block, p)',
+     'return self.body.locals.index("i128") if "i128" in self.body.locals else self.temp("i128", block, p)'),
+    ("a variant test's new local is live, and the first one is used", 'builder.py',
+     'return self.temp("i128", block, p)',
+     'self.temp("i128", block, p)\n'
+     '        return self.body.locals.index("i128")'),
+    ("a variant test's switch looks at the first one's local", 'lowering.py',
+     'self.branch(current, other, local, value, p)',
+     'self.branch(current, other, self.body.locals.index("i128"), value, p)'),
+    ("a discriminant's local is live in the next block", 'lowering.py',
+     '                current, other = self.branch(current, other, local, value, p)\n',
+     '                mark = self.body.statements[current].pop(-2)\n'
+     '                current, other = self.branch(current, other, local, value, p)\n'
+     '                self.body.statements[current].append(mark)\n'),
+    ("a discriminant's local is live behind its set", 'lowering.py',
+     '                self.set(current, local, ("discr", place), p)\n',
+     '                mark = self.body.statements[current].pop()\n'
+     '                self.set(current, local, ("discr", place), p)\n'
+     '                self.body.statements[current].append(mark)\n'),
+    ('statements are counted as with one discriminant local', 'builder.py',
+     '        if len(self.body.created) == MOST_STATEMENTS:',
+     '        if len(self.body.created) - max(0, self.body.locals.count("i128") - 1) == MOST_STATEMENTS:'),
+    ('locals are counted as with one discriminant local', 'builder.py',
+     '        if len(self.body.locals) == MOST_LOCALS:',
+     '        if len(self.body.locals) - max(0, self.body.locals.count("i128") - 1) == MOST_LOCALS:'),
     ('an integer literal on another type is taken', 'builder.py',
      '            if self.m.types[type_][0] != INTEGER:\n'
      '                raise Refused(6, p)\n'
@@ -161,8 +184,18 @@ CHANGES = (
 )
 
 
-# Changes of the judge of parameters.
+# Changes of the judge of parameters, and those that its lines alone show.
 PARAMETERS = (
+    ("a discriminant's local is missing from its scope", 'builder.py',
+     'return self.temp("i128", block, p)',
+     'local = self.temp("i128", block, p)\n'
+     '        self.body.scopes[-1].pop()\n'
+     '        return local'),
+    ("a discriminant's local enters its scope first", 'builder.py',
+     'return self.temp("i128", block, p)',
+     'local = self.temp("i128", block, p)\n'
+     '        self.body.scopes[-1].insert(0, self.body.scopes[-1].pop())\n'
+     '        return local'),
     ("a refutable parameter's else is left open", 'params.py',
      '        if other is not None:\n'
      '            self.end(other, "unreachable")\n',
@@ -258,7 +291,7 @@ def found(name, file, old, new):
         judge, call, options = f"python3 {folder}/harness/judge.py", "run", []
         if name in ASSIGNED:
             judge, options = f"{judge} assigns", ["--assigns"]
-        if file == "params.py":
+        if (name, file, old, new) in PARAMETERS:
             words, options = SETTINGS.get(name, ("visits", ("--visits",)))
             judge, call = f"python3 {folder}/samples/params.py - {words}", "parameters"
         done = subprocess.run([COMPARE, call, "--counts", "--other", judge, "--count", "300", *options],
@@ -269,7 +302,7 @@ def found(name, file, old, new):
 def main():
     """Tries all changes."""
     missed = 0
-    changes = [change for change in CHANGES + PARAMETERS if change[1] in sys.argv[1:] or not sys.argv[1:]]
+    changes = [change for change in CHANGES + PARAMETERS if {*change[:2]} & {*sys.argv[1:]} or not sys.argv[1:]]
     for change in changes:
         told, differs = found(*change)
         missed += not differs

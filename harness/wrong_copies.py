@@ -47,6 +47,8 @@ REFUSED = (
     "literals/integer_of_any_size",
     "literals/lower_half_twice",
     "lower/str_for_slice",
+    "lower/an_earlier_local_used_again",
+    "lower/live_in_the_next_block",
     "mir/next_block_terminated",
     "read_image/one_pattern_more",
     "marks/second_use",
@@ -107,6 +109,19 @@ OF_MATCHES = (
      "ProjectionElem::IndexFromEnd(_) => PlaceTy::Inapplicable,"),
 )
 
+# Where the local of a test of an enum is made: a file and its text.
+TEST_LOCAL = "lower/src/temps.rt", (
+    "    temp(\n"
+    "        image,\n"
+    "        tables,\n"
+    "        statements,\n"
+    "        locals,\n"
+    "        entries,\n"
+    "        counts,\n"
+    "        I128,\n"
+    "        block,\n"
+    "    )\n")
+
 # Further changes: a name, the file below crates/, the text, and what it becomes.
 CHANGES = (
     ("a match left open", "pattern_walk/src/sub.rt",
@@ -163,9 +178,35 @@ CHANGES = (
     ("a CString's closing zero is not counted", "literals/src/lib.rt",
      "(row.count as u64) + 1",
      "(row.count as u64) + 0"),
-    ("every test of an enum has its own local", "lower/src/temps.rt",
-     "        DiscrTemp::Some(l) => NewTemp::Local(counts, l),\n",
-     "        DiscrTemp::Some(_) => temp(image, tables, statements, locals, entries, counts, I128, block),\n"),
+    ("all tests of enums share one local", *TEST_LOCAL,
+     "    let mut i = 0;\n"
+     "    while i < counts.locals {\n"
+     "        if locals[i as usize] == I128 {\n"
+     "            return NewTemp::Local(counts, LocalId(i));\n"
+     "        }\n"
+     "        i += 1;\n"
+     "    }\n"
+     f"{TEST_LOCAL[1]}"),
+    ("a test of an enum uses an earlier one's local again", *TEST_LOCAL,
+     "    let mut i = 0;\n"
+     "    while i < counts.locals && locals[i as usize] != I128 {\n"
+     "        i += 1;\n"
+     "    }\n"
+     "    match temp(image, tables, statements, locals, entries, counts, I128, block) {\n"
+     "        NewTemp::Refused(e) => NewTemp::Refused(e),\n"
+     "        NewTemp::Local(c, _) => NewTemp::Local(c, LocalId(i)),\n"
+     "    }\n"),
+    ("the local of a test of an enum is live in the next block", "pattern_tests/src/discriminants.rt",
+     "discr_temp_place(image, tables, statements, locals, entries, counts, current)",
+     "discr_temp_place(image, tables, statements, locals, entries, counts, BasicBlockId(counts.blocks))"),
+    ("the local of a test of an enum is not marked live", *TEST_LOCAL,
+     "    match new_local(locals, counts, I128) {\n"
+     "        NewLocal::Full => NewTemp::Refused(MirLowerError::Limit),\n"
+     "        NewLocal::Local(c, l) => match push_entry(entries, c, l) {\n"
+     "            Counted::Full => NewTemp::Refused(MirLowerError::Limit),\n"
+     "            Counted::Now(c1) => NewTemp::Local(c1, l),\n"
+     "        },\n"
+     "    }\n"),
     ("a half-open range takes its end", "pattern_ranges/src/lib.rt",
      "        return BinOp::Gt;",
      "        return BinOp::Ge;"),

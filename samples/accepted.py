@@ -13,7 +13,7 @@ from readable import (
     array, constant, first_three, half_open, last_two, literal7, or_1_2, range_, reference,
     string, tuple_ellipsis,
 )
-from refusals import SEVEN, many, option, with_u8
+from refusals import SEVEN, many, option, with_tests, with_u8
 
 VALUE, BY_REF, BY_MUT = range(3)
 
@@ -77,7 +77,7 @@ def surplus():
 
 
 def enum_twice():
-    """`Some(_) | None`: two tests of one discriminant local."""
+    """`Some(_) | None`: two tests of discriminants, each with a local of its own."""
     m, u8, maybe, some, none = option()
     inner = m.add_pattern(WILD, u8)
     first = m.add_pattern(TUPLE_STRUCT, maybe, m.add_words(inner), 1, ABSENT, some)
@@ -300,6 +300,16 @@ def statements_1024():
     return m
 
 
+def test_locals_512():
+    """255 tests of a variant with 256 bindings: 512 locals, all that there are."""
+    return with_tests(0, 255, 0, bindings=256)
+
+
+def test_statements_1024():
+    """4 statements of a constant, 500 of tests, and 260 Binds: 1,024 statements, all that there are."""
+    return with_tests(1, 250, 260)
+
+
 # The first line of each accepted corner's listing.
 FIRST_LINES = {
     wild: "then 0 else -", literal7: "then 1 else 2", range_: "then 3 else 1",
@@ -317,5 +327,6 @@ FIRST_LINES = {
     suffix_three: "then 6 else 1", suffix_in_suffix: "then 1 else 2", reference: "then 0 else -",
     deref_1: "then 1 else 2", deref_lowest: "then 0 else -", derefs_16: "then 0 else -",
     blocks_512: "then 511 else 2", locals_512: "then 256 else 2",
-    statements_1024: "then 0 else -",
+    statements_1024: "then 0 else -", test_locals_512: "then 256 else 2",
+    test_statements_1024: "then 252 else 2",
 }

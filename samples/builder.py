@@ -31,14 +31,11 @@ class Body:
     `then` and `other` are the start and the supplied else, later the blocks returned.
     """
 
-    def __init__(self, m, place_type, binding_locals=None, scopes=1, supplied=False,
-                 discriminant=False):
+    def __init__(self, m, place_type, binding_locals=None, scopes=1, supplied=False):
         self.locals = [place_type] + [type_ for type_, _ in m.bindings]
         self.binding_locals = (list(range(1, len(self.locals)))
                                if binding_locals is None else binding_locals)
         self.scopes = [[] for _ in range(scopes)]
-        self.discriminant = len(self.locals) if discriminant else None
-        self.locals += ["i128"] if discriminant else []
         self.then, self.other, self.refusal = 0, 1 if supplied else None, None
         self.terminators, self.created = [None] * (1 + supplied), []
         self.statements = [[] for _ in self.terminators]
@@ -130,6 +127,7 @@ class Builder:
         return local
 
     def discr_temp(self, block, p):
+        """discr_temp_place, as document 02 has it: a local of its own for each test."""
         return self.temp("i128", block, p)
 
     def binding_local(self, binding, asker):

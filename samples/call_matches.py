@@ -11,9 +11,9 @@ from lowering import Walk
 MATCH, ASSIGNMENT, SELF_PARAM = 7, 8, 9
 BINDINGS, PLACE = 6, 7
 BLOCKS, STATEMENTS, LOCALS, SCOPES, ENTRIES = range(5)
-# Table 7: the place's local and count, its elements' words, how many of the bindings' words are
-# handed in, and the discriminant local.
-ELEMENTS_AT, BOUND_AT, DISCR_AT = 2, 34, 35
+# Table 7: the place's local and count, its elements' words, and how many of the bindings' words are
+# handed in.
+ELEMENTS_AT, BOUND_AT = 2, 34
 ELEMENT_KINDS = "deref", "f", "i", "e", "s", "v"
 STATEMENT_KINDS = "live", "dead", "copy", "ref", "mut", "len", "discr", "const", "eq", "le", "ge", "gt"
 TERMINATOR_KINDS = "open", "goto", "switch", "unreachable"
@@ -22,7 +22,7 @@ TYPE_NUMBERS = {name: word for word, name in NAMED_TYPES.items()}
 
 # What number 2 is given for besides the body.
 MATCH_RULES = (
-    "matchNamesPattern", "bindingsCounted", "bindingNamesLocal", "discriminantNamesLocal",
+    "matchNamesPattern", "bindingsCounted", "bindingNamesLocal",
     "startNamesBlock", "startIsOpen", "elseNamesBlock", "elseIsNotStart",
     "handedNamesLocal", "handedAtMost16", "handedKindExists", "handedNamesVariant",
     "selfNamesBinding", "selfNamesLocal",
@@ -33,7 +33,7 @@ class Handed:
     """The tables 6 and 7, and the visits of the last call that was not refused with 1 or 2."""
 
     def __init__(self):
-        self.bindings, self.words, self.visits = [0] * 256, [0] * 36, [0] * 512
+        self.bindings, self.words, self.visits = [0] * 256, [0] * 35, [0] * 512
 
     def poke(self, table, at, word):
         words = self.bindings if table == BINDINGS else self.words
@@ -80,7 +80,6 @@ def match_faults(m, body, handed, op, a, b, c):
             yield "selfNamesLocal", is_local(c)
             return
         yield "matchNamesPattern", a < len(m.patterns)
-        yield "discriminantNamesLocal", handed.words[DISCR_AT] == ABSENT or is_local(handed.words[DISCR_AT])
         if op == MATCH and c != ABSENT:
             yield "elseNamesBlock", c < body.counts[BLOCKS]
             yield "elseIsNotStart", c != b
@@ -106,7 +105,6 @@ class HandedBody(builder.Body):
         edges = [body.word(SCOPES, at) for at in range(counts[SCOPES])] + [counts[ENTRIES]]
         entries = [body.word(ENTRIES, at) for at in range(counts[ENTRIES])]
         self.scopes = [entries[first:end] for first, end in zip(edges, edges[1:])]
-        self.discriminant = or_none(handed.words[DISCR_AT])
         self.then, self.other, self.refusal = start, other, None
         self.terminators, self.created = [None] * counts[BLOCKS], [None] * counts[STATEMENTS]
         self.statements = [[] for _ in self.terminators]
@@ -191,5 +189,4 @@ def match_call(m, body, handed, op, a, b, c):
         then, other = walk.match(handed.place(), a) if op == MATCH else walk.assign(handed.place(), a)
         handed.visits[:len(lowered.visits)] = lowered.visits
     take(body, lowered, b)
-    answer = f"then {then} else {told(other)}"
-    return answer if op == SELF_PARAM else f"{answer} discr {told(lowered.discriminant)}"
+    return f"then {then} else {told(other)}"

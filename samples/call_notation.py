@@ -10,14 +10,14 @@ Commands stand one behind the other with `; ` between them; `3 x push` is three 
 - `match seven 0 -`, `assign pair 0`, `self x 0 1`: the calls on patterns, which name patterns
   and bindings of `match_corners.py`.
 - `binding 0: 1 -` sets bindings' locals, and `bound=2` how many are handed in; `place 1 f0 v2
-  s1-2 deref` the place, all its words; `elements=17` its count alone, `discr=-` the
-  discriminant local, `handed 2: 6` words of table 7 as they stand.
+  s1-2 deref` the place, all its words; `elements=17` its count alone, `handed 2: 6`
+  words of table 7 as they stand.
 """
 
 import re
 
 from call_matches import (
-    ASSIGNMENT, BINDINGS, BOUND_AT, DISCR_AT, MATCH, PLACE, SELF_PARAM, place_words,
+    ASSIGNMENT, BINDINGS, BOUND_AT, MATCH, PLACE, SELF_PARAM, place_words,
 )
 from calls import (
     ASSUME, BOOL_WORD, COUNTS, I128_WORD, LIMITS, MERGE, POKE, POP, PUSH, TABLES, TEMP,
@@ -30,7 +30,7 @@ from images import (
 CALL_WORDS = {"temp": TEMP, "merge": MERGE, "push": PUSH, "assume": ASSUME, "pop": POP,
               "until": UNTIL, "match": MATCH, "assign": ASSIGNMENT, "self": SELF_PARAM}
 HANDED_TABLES = {"binding": BINDINGS, "handed": PLACE}
-HANDED_WORDS = {"elements": 1, "bound": BOUND_AT, "discr": DISCR_AT}
+HANDED_WORDS = {"elements": 1, "bound": BOUND_AT}
 ROW_WORDS = "block", "statement", "local", "scope", "entry"
 COUNT_WORDS = "blocks", "statements", "locals", "scopes", "entries"
 TYPE_WORDS = {"bool": BOOL_WORD, "usize": USIZE_WORD, "i128": I128_WORD}

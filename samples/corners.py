@@ -81,11 +81,12 @@ def check_document():
 
 
 def check_variants():
-    """Each test of an enum has a discriminant local of its own."""
+    """Each test of an enum has a discriminant local of its own, live in the test's block."""
     body = lowered(on.enum_twice)
     assert body.locals == [1] + ["i128"] * 4
-    assert sorted(statements(body)) == sorted(f"{word} {local}{what}" for local in range(1, 5)
-                                              for word, what in (("live", ""), ("set", " discr 0")))
+    assert statements(body) == [
+        line for local in range(1, 5) for line in (f"live {local}", f"set {local} discr 0")]
+    assert [body.scopes, body.visits] == [[[1, 2, 3, 4]], [3, 3, 3, 2]]
     assert ends(on.enum_twice)[0] == "switch 1 1 2 3"
     assert ends(on.enum_twice)[3] == "switch 2 0 4 5"
     body = lowered(on.bind_some)
@@ -115,6 +116,8 @@ def check_others():
     assert len(lowered(on.blocks_512).terminators) == 512
     assert len(lowered(on.locals_512).locals) == 512
     assert len(lowered(on.statements_1024).created) == 1024
+    assert len(lowered(on.test_locals_512).locals) == 512
+    assert len(lowered(on.test_statements_1024).created) == 1024
 
 
 def tests(make):

@@ -1,6 +1,7 @@
 """Counts visits, blocks and statements from the tree, as document 01 says them.
 
-Follows the paragraph "`pattern_match` walks its pattern ..", not the lowering. `compare`
+Follows the paragraph "`pattern_match` walks its pattern ..", with 2 statements for every test of
+a variant as document 02 has it, not the lowering. `compare`
 holds a lowering against it, and against demand 3. `python3 samples/counts.py [N [SEED]]`
 compares on N random images of both sorts, of any shape and following their types, every
 pattern as the root against a place of every type.
@@ -136,35 +137,31 @@ class Tree:
             count += ors + 2 if self.m.patterns[p][0] == OR else 0
         return count
 
-    def statements(self, discriminant):
-        """The new statements, with a discriminant local handed in or not."""
-        count = int(not discriminant and any(self.names_enum(p)
-                                             for p, _, _ in self.reached))
+    def statements(self):
+        """The new statements."""
+        count = 0
         for p, ors, _ in self.reached:
-            kind, _, _, _, _, _, d = self.m.patterns[p]
-            each = 2
-            if kind == PATH or (kind == SLICE and d != ABSENT):
-                each = 4
-            if self.names_enum(p):
-                each = 1
+            kind, _, _, a, _, _, d = self.m.patterns[p]
+            constant = kind == PATH and a == NAMES_CONSTANT
+            each = 4 if constant or (kind == SLICE and d != ABSENT) else 2
             count += (ors + 1) * self.tests(p) * each
             rest = kind == SLICE and d != ABSENT and self.m.patterns[d][0] == BIND
             count += 2 * ((kind == BIND) + rest)
         return count
 
 
-def differences(m, root, place_type, body, supplied=False, discriminant=False):
+def differences(m, root, place_type, body, supplied=False):
     """What an accepted lowering does not keep of the counts and of demand 3."""
     tree = Tree(m, root, place_type)
     blocks, statements = len(body.terminators) - 1 - supplied, len(body.created)
     open_blocks = {b for b, end in enumerate(body.terminators) if end is None}
     span = len(tree.reached) * (max(ors for _, ors, _ in tree.reached) + 2)
-    first_new = 1 + len(m.bindings) + discriminant
+    first_new = 1 + len(m.bindings)
     live = [local for _, (word, local, *_) in body.created if word == "live"]
     kept = {
         "visits": body.visits == tree.visits(),
         "blocks": blocks == tree.blocks(supplied),
-        "statements": statements == tree.statements(discriminant),
+        "statements": statements == tree.statements(),
         "open blocks": open_blocks == {body.then} | ({body.other} - {None}),
         "else": (body.other == 1 if supplied
                  else (body.other is None) == (not tree.root_fails)),
@@ -181,7 +178,7 @@ def compare_all(m, rng, tally):
     """Compares every pattern over every type; prints what differs."""
     for root in range(len(m.patterns)):
         for place_type in range(len(m.types)):
-            handed = {"supplied": rng.random() < 0.3, "discriminant": rng.random() < 0.3}
+            handed = {"supplied": rng.random() < 0.3}
             body = lower(m, root, place_type, **handed)
             if body.refusal:
                 tally[f"refused {body.refusal[0]}"] += 1

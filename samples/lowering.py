@@ -1,9 +1,9 @@
 """Judges listings: lowers a pattern as the Rust does, and prints what document 01 says.
 
 Written from pattern_matching.rs and from the documents alone, so that the project's own
-definitions have something to differ from. The end of a half-open range and the offsets
-of suffix items are document 02's. `listing` takes the bytes of an image, `lower` and
-`assign` a decoded image and a pattern.
+definitions have something to differ from. The end of a half-open range, the offsets of
+suffix items and a discriminant local for each test are document 02's. `listing` takes the
+bytes of an image, `lower` and `assign` a decoded image and a pattern.
 
 `python3 samples/lowering.py FILE` prints the listing of an image file, or of standard
 input if no file is named.
@@ -301,7 +301,7 @@ def lower(m, p, place_type=None, **handed):
 
     Without a place type it is the listing program's. `handed` may give binding_locals,
     None for a binding without a local; the number of open scopes; supplied=True, block 1
-    as the else; discriminant=True, a discriminant local behind the bindings' locals.
+    as the else.
     """
     return run(m, p, lambda walk: walk.match((0, ()), p), place_type, handed)
 

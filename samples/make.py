@@ -72,13 +72,13 @@ same; with `--check` it writes none and fails if one differs.
 
 Written from the documents and the Rust alone, not from the definitions:
 
-- `lowering.py`: what the listing program prints; the end of a half-open range and the
-  offsets of suffix items are document 02's, all else is the Rust's. `python3
-  samples/lowering.py FILE` prints the listing of an image. `builder.py` holds what lower.rs
-  and mir.rs give it.
-- `corners.py`: checks document 01's corners and document 02's on these two shapes, which are
-  in `accepted.py` and `refusals.py`. `python3 samples/corners.py` prints each with its
-  listing's first line.
+- `lowering.py`: what the listing program prints; the end of a half-open range, the offsets
+  of suffix items and a local for each discriminant test are document 02's, all else is the
+  Rust's. `python3 samples/lowering.py FILE` prints the listing of an image. `builder.py`
+  holds what lower.rs and mir.rs give it.
+- `corners.py`: checks document 01's corners and document 02's on these three, which are in
+  `accepted.py` and `refusals.py`: images at each limit and one past it are among them.
+  `python3 samples/corners.py` prints each with its listing's first line.
 - `judged.py`: whether patterns fit, which values match, what they bind and where a run comes,
   judged by hand from document 01 and the Reference; `sketch.py` is the short notation for
   their images. `corner_theorems.py` prints these and the corners as rows of theorems.
@@ -126,15 +126,14 @@ on a pattern, or sets a word of their tables, or a count:
 | 9 `match_self_param` | binding, block, local |
 
 The tables are 0 to 4 as `docs/BODY.md` has them, 5 the five counts, 6 the bindings' locals, 256
-words, and 7 what else a call on a pattern is handed, 36 words: the place's local, its count of
-elements, 16 elements of two words as a row has them (0 where the count does not reach), how many
-of the bindings' words are handed in, and the discriminant local or 65535. All start as zeros.
+words, and 7 what else a call on a pattern is handed, 35 words: the place's local, its count of
+elements, 16 elements of two words as a row has them (0 where the count does not reach), and how
+many of the bindings' words are handed in. All start as zeros.
 
 For each call a line is printed: its answer, the five counts, and a checksum of each table. The
-answer to a call on a pattern is `then N else N discr N`, `-` for none and without `discr` for
-`match_self_param`, or the refusal; behind the five checksums stand those of the visits' 512 words
-and of the bindings' locals. `calls.txt` has for each script the number of its first line in
-`crates/replay/stdout`, its name, and what it shows.
+answer to a call on a pattern is `then N else N`, `-` for none, or the refusal; behind the five
+checksums stand those of the visits' 512 words and of the bindings' locals. `calls.txt` has for
+each script the number of its first line in `crates/replay/stdout`, its name, and what it shows.
 
 - `calls.py`: answers the calls, by the documents and the rows of `docs/BODY.md` alone, and
   names the rules that number 2 is given for. `call_matches.py` has the calls on patterns, which
@@ -142,8 +141,8 @@ and of the bindings' locals. `calls.txt` has for each script the number of its f
 - `call_notation.py`: the scripts' image, and a short notation for commands.
 - `call_scripts.py`: document 01's corners, the limits, restoration, zeros above the counts.
 - `match_corners.py`: the same for calls on patterns: an else that is supplied, places with a
-  projection of every sort, of 16 and of 17 elements, several scopes, bindings without a local;
-  and number 2, every rule broken alone.
+  projection of every sort, of 16 and of 17 elements, several scopes, bindings without a local,
+  discriminant tests at each limit; and number 2, every rule broken alone.
 - `call_faults.py`: numbers 1 and 2 on bodies; every rule is broken alone at least once. Of a
   statement's kinds 12 is the last one and 13 the first that there is not.
 - `call_chance.py`, `match_chance.py`: random scripts, from a fixed seed.

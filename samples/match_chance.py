@@ -8,7 +8,7 @@ refused with 2 is put back after it.
 import random
 
 from call_matches import (
-    ASSIGNMENT, BINDINGS, BLOCKS, BOUND_AT, DISCR_AT, ELEMENTS_AT, ENTRIES, LOCALS, MATCH, PLACE,
+    ASSIGNMENT, BINDINGS, BLOCKS, BOUND_AT, ELEMENTS_AT, ENTRIES, LOCALS, MATCH, PLACE,
     SCOPES, SELF_PARAM, STATEMENTS, place_words,
 )
 from calls import ASSUME, COUNTS, LIMITS, MERGE, POKE, POP, PUSH, TEMP, UNTIL, Replay
@@ -121,7 +121,6 @@ class MatchChance:
         for binding, local in enumerate(self.bound):
             self.poke(BINDINGS, binding, ABSENT if local is None else local)
         self.poke(PLACE, BOUND_AT, len(self.m.bindings))
-        self.poke(PLACE, DISCR_AT, ABSENT)
         self.roots = {p: self.local(type_) for p, (type_, _) in self.ways.items()}
         for _ in range(rng.choice((0, 1, 1, 1, 2, 3))):
             self.do(PUSH, 0, 0, 0)
@@ -161,8 +160,6 @@ class MatchChance:
         p = rng.choice(sorted(self.ways) or [0])
         if p in self.ways:
             self.hand_in(p)
-        if rng.random() < 0.15:
-            self.poke(PLACE, DISCR_AT, rng.choice((ABSENT, rng.randrange(max(1, self.replay.body.counts[LOCALS])))))
         if rng.random() < 0.1:
             self.disturb(p)
             return
@@ -194,7 +191,7 @@ class MatchChance:
         """A table, a word's place and what it becomes. Words that an element does not use stay 0."""
         rng, handed, locals_ = self.rng, self.replay.handed.words, self.replay.body.counts[LOCALS]
         yet = [(PLACE, 0, locals_), (PLACE, 1, rng.choice((16, 17, 18, ABSENT))), (PLACE, BOUND_AT, len(self.m.bindings) + 1),
-               (PLACE, DISCR_AT, locals_), (BINDINGS, 0, locals_), (BINDINGS, 0, ABSENT), (BINDINGS, 0, 0)]
+               (BINDINGS, 0, locals_), (BINDINGS, 0, ABSENT), (BINDINGS, 0, 0)]
         if handed[1]:
             yet.append((PLACE, ELEMENTS_AT, rng.choice((6, 7, 5))))
         if handed[1] and handed[ELEMENTS_AT] % 8:

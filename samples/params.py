@@ -1,6 +1,6 @@
 """Judges lists of parameters: lowers them as `lower_params_and_bindings` of lower.rs does.
 
-Written from lower.rs, from document 01 and from S-13 of document 02 alone. `called` judges a
+Written from lower.rs, from document 01 and from S-5 and S-13 of document 02 alone. `called` judges a
 call: an image's bytes, the receiver and the words of a list. `PARAM_CORNERS` has the corners
 of document 01 on parameters, and those of S-13: name, image, receiver, parameters and values
 of each. A value is a number, or a list: "tuple" or the number of a variant, and then its
@@ -231,7 +231,7 @@ def refutable():
 
 
 def two_enums():
-    """`Some(_)` and `None`: two parameters that can fail share the discriminant local."""
+    """`Some(_)` and `None`: two parameters that can fail, each with a discriminant local of its own."""
     m, u8, maybe, some, none = option()
     first = some_in(m, u8, maybe, some)
     second = m.add_pattern(PATH, maybe, NAMES_VARIANT, none)

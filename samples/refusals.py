@@ -307,6 +307,31 @@ def statements_1025():
     return m
 
 
+def with_tests(constants, tests, binds, bindings=1):
+    """A tuple of so many constant paths, paths to `None` and Binds of one binding."""
+    m, u8, maybe, _, none = option()
+    for _ in range(bindings):
+        m.add_binding(u8)
+    seven = m.add_operand(*SEVEN)
+    items = [m.add_pattern(PATH, u8, NAMES_CONSTANT, seven) for _ in range(constants)]
+    items += [m.add_pattern(PATH, maybe, NAMES_VARIANT, none) for _ in range(tests)]
+    items += [m.add_pattern(BIND, u8, 0, ABSENT) for _ in range(binds)]
+    fields = [m.patterns[p][1] for p in items]
+    whole = m.add_type(TUPLE_TYPE, m.add_words(*fields), len(fields))
+    m.add_pattern(TUPLE, whole, m.add_words(*items), len(items), ABSENT)
+    return m
+
+
+def test_locals_513():
+    """256 tests of a variant with 256 bindings: the last one's local passes the limit."""
+    return with_tests(0, 256, 0, bindings=256)
+
+
+def test_statements_1025():
+    """8 statements of constants, 500 of tests, and 259 Binds: the last one's live mark passes the limit."""
+    return with_tests(2, 250, 259)
+
+
 def deref_of_u8(kind, *words):
     """A pattern with a deref on the u8 of a tuple."""
     m = lone(kind, *words)
@@ -353,7 +378,8 @@ NUMBERS = {
     end_on_char: (6, 0, 0), ellipsis_3: (7, 2, 0), struct_ellipsis_1: (7, 0, 0),
     slice_constant: (8, 0, 0), expr: (10, 0, 0), place_17: (11, 0, 0), unit_17: (11, 0, 0),
     missing_17: (11, 0, 0), blocks_513: (11, 510, 0), locals_513: (11, 255, 0),
-    statements_1025: (11, 341, 0), tuple_no_place: (12, 0, 0), adt_no_place: (12, 0, 0),
+    statements_1025: (11, 341, 0), test_locals_513: (11, 255, 0),
+    test_statements_1025: (11, 510, 0), tuple_no_place: (12, 0, 0), adt_no_place: (12, 0, 0),
     ref_no_place: (12, 1, 0), unresolved: (13, 0, 0),
 }
 REFUSALS = {make: "refused {} {} {}".format(*numbers) for make, numbers in NUMBERS.items()}

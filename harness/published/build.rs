@@ -11,6 +11,17 @@ const MIR: &str = "src--src--mir.rs.txt";
 const LOWER: &str = "src--src--mir--lower.rs.txt";
 const PATTERNS: &str = "src--src--mir--lower--pattern_matching.rs.txt";
 
+/// What stands beside the items of lower.rs.
+const FRAMES: [&str; 7] = [
+    "as_place.rs",
+    "calls.rs",
+    "discriminants.rs",
+    "entry.rs",
+    "parameters.rs",
+    "replacements.rs",
+    "rows.rs",
+];
+
 fn main() {
     println!("cargo::rerun-if-env-changed=FITHONGU_RUST_TEXT");
     println!("cargo::rerun-if-changed=text");
@@ -31,7 +42,7 @@ fn main() {
     for name in ["eval.rs", "monomorphization.rs", "pretty.rs"] {
         write(&out.join("mir").join(name), &stand_in(name));
     }
-    for name in ["as_place.rs", "calls.rs", "entry.rs", "parameters.rs", "replacements.rs", "rows.rs"] {
+    for name in FRAMES {
         write(&out.join("mir/lower").join(name), &stand_in(name));
     }
     let root = format!("#[path = {:?}]\npub mod mir;\n", out.join("mir/mod.rs"));

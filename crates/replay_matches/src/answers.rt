@@ -1,9 +1,7 @@
-// What is printed of the answer to a call on a pattern: then, else and the discriminant local, or why it was refused.
+// What is printed of the answer to a call on a pattern: then and else, or why it was refused.
 use libc::STDOUT_FILENO;
 use lower::merging::OptBlock;
-use lower::temps::DiscrTemp;
 use match_calls::MatchCall;
-use match_calls::SelfCall;
 use mir::Counts;
 use replay_calls::answers::print_error;
 use replay_calls::answers::print_number;
@@ -21,18 +19,6 @@ fn print_else(els: OptBlock) {
     }
 }
 
-fn print_discr(discr: DiscrTemp) {
-    match discr {
-        DiscrTemp::None => {
-            io::write_all(STDOUT_FILENO, b"discr - ");
-        }
-        DiscrTemp::Some(l) => {
-            io::write_all(STDOUT_FILENO, b"discr ");
-            print_number(l.0 as u32);
-        }
-    }
-}
-
 fn print_then(then: u16, els: OptBlock) {
     io::write_all(STDOUT_FILENO, b"then ");
     print_number(then as u32);
@@ -42,27 +28,13 @@ fn print_then(then: u16, els: OptBlock) {
 // The counts behind a call: those of its answer, or after a refusal those before.
 pub fn print_match(answer: MatchCall, before: Counts) -> Counts {
     match answer {
-        MatchCall::Matched(counts, discr, then, els) => {
+        MatchCall::Matched(counts, then, els) => {
             print_then(then.0, els);
-            print_discr(discr);
             return counts;
         }
         MatchCall::Refused(e, p) => print_error(e, p.0),
         MatchCall::BadCall => print_refusal(2, 65535, 0),
         MatchCall::BadImage => print_refusal(1, 65535, 0),
-    }
-    before
-}
-
-pub fn print_self(answer: SelfCall, before: Counts) -> Counts {
-    match answer {
-        SelfCall::Matched(counts, then, els) => {
-            print_then(then.0, els);
-            return counts;
-        }
-        SelfCall::Refused(e, p) => print_error(e, p.0),
-        SelfCall::BadCall => print_refusal(2, 65535, 0),
-        SelfCall::BadImage => print_refusal(1, 65535, 0),
     }
     before
 }

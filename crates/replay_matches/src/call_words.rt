@@ -1,6 +1,5 @@
-// What a script hands to the calls on patterns besides the body: the bindings' locals and 36 words. Word 0 is the place's local, 1 its count of elements, 2 to 33 are its 16
-// elements of two words as docs/BODY.md has them in a row, 34 is how many of the bindings' words are handed in, and 35 the discriminant local or 65535.
-use lower::temps::DiscrTemp;
+// What a script hands to the calls on patterns besides the body: the bindings' locals and 35 words. Word 0 is the place's local, 1 its count of elements, 2 to 33 are its 16
+// elements of two words as docs/BODY.md has them in a row, and 34 is how many of the bindings' words are handed in.
 use place::LocalId;
 use place::Place;
 
@@ -10,7 +9,7 @@ fn element(low: u16, high: u16) -> u32 {
 }
 
 // The place. A count above 16 is handed in as it stands.
-pub fn place_of(handed: &[u16; 36]) -> Place {
+pub fn place_of(handed: &[u16; 35]) -> Place {
     Place {
         local: LocalId(handed[0]),
         len: handed[1],
@@ -36,15 +35,6 @@ pub fn place_of(handed: &[u16; 36]) -> Place {
 }
 
 // How many of the bindings' words are handed in.
-pub fn binding_words(handed: &[u16; 36]) -> u16 {
+pub fn binding_words(handed: &[u16; 35]) -> u16 {
     handed[34]
-}
-
-// The discriminant local; 65535 is none.
-pub fn discr_handed(handed: &[u16; 36]) -> DiscrTemp {
-    let word = handed[35];
-    if word == 65535 {
-        return DiscrTemp::None;
-    }
-    DiscrTemp::Some(LocalId(word))
 }

@@ -23,7 +23,7 @@ fn call(
     entries: &mut [u16; 1024],
     visits: &mut [u16; 512],
     counts: Counts,
-    handed: &[u16; 36],
+    handed: &[u16; 35],
     command: Command,
 ) -> Counts {
     let op = command.op;
@@ -88,7 +88,7 @@ fn call_with(
     entries: &mut [u16; 1024],
     visits: &mut [u16; 512],
     counts: Counts,
-    handed: &[u16; 36],
+    handed: &[u16; 35],
     command: Command,
 ) -> Counts {
     let n = binding_words(handed) as usize;
@@ -133,7 +133,7 @@ fn run_match(
     entries: &mut [u16; 1024],
     visits: &mut [u16; 512],
     counts: Counts,
-    handed: &[u16; 36],
+    handed: &[u16; 35],
     command: Command,
 ) -> Counts {
     let next = call_with(
@@ -171,7 +171,7 @@ pub fn run_command(
     entries: &mut [u16; 1024],
     visits: &mut [u16; 512],
     counts: Counts,
-    handed: &mut [u16; 36],
+    handed: &mut [u16; 35],
     command: Command,
 ) -> Counts {
     let op = command.op;

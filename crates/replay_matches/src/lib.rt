@@ -42,7 +42,7 @@ fn script(
     scopes: &mut [u16; 32],
     entries: &mut [u16; 1024],
     visits: &mut [u16; 512],
-    handed: &mut [u16; 36],
+    handed: &mut [u16; 35],
 ) {
     let mut counts = Counts {
         blocks: 0,
@@ -80,7 +80,7 @@ pub fn replay_script(image: &[u8]) {
     let mut scopes = [0u16; 32];
     let mut entries = [0u16; 1024];
     let mut visits = [0u16; 512];
-    let mut handed = [0u16; 36];
+    let mut handed = [0u16; 35];
     script(
         image,
         &mut bindings,

@@ -1,7 +1,5 @@
 // Each call on a pattern, on the body and scopes of a script: it prints the answer, and answers the counts behind it.
 use super::answers::print_match;
-use super::answers::print_self;
-use super::call_words::discr_handed;
 use super::call_words::place_of;
 use image::BindingId;
 use image::PatId;
@@ -23,12 +21,11 @@ pub fn call_match(
     entries: &mut [u16; 1024],
     visits: &mut [u16; 512],
     counts: Counts,
-    handed: &[u16; 36],
+    handed: &[u16; 35],
     pattern: u16,
     block: u16,
     els: u16,
 ) -> Counts {
-    let discr = discr_handed(handed);
     let place = place_of(handed);
     let answer = pattern_match(
         image,
@@ -40,7 +37,6 @@ pub fn call_match(
         entries,
         visits,
         counts,
-        discr,
         PatId(pattern),
         BasicBlockId(block),
         opt_block(els),
@@ -59,11 +55,10 @@ pub fn call_assignment(
     entries: &mut [u16; 1024],
     visits: &mut [u16; 512],
     counts: Counts,
-    handed: &[u16; 36],
+    handed: &[u16; 35],
     pattern: u16,
     block: u16,
 ) -> Counts {
-    let discr = discr_handed(handed);
     let place = place_of(handed);
     let answer = pattern_match_assignment(
         image,
@@ -75,7 +70,6 @@ pub fn call_assignment(
         entries,
         visits,
         counts,
-        discr,
         PatId(pattern),
         BasicBlockId(block),
         place,
@@ -109,5 +103,5 @@ pub fn call_self(
         BasicBlockId(block),
         LocalId(local),
     );
-    print_self(answer, counts)
+    print_match(answer, counts)
 }

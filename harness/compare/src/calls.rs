@@ -5,8 +5,8 @@
 use std::collections::BTreeMap;
 
 use image::{ABSENT, Tables};
-use published::Answer;
 use published::calls::{Call, CallAnswer, Handed, Made, call};
+use published::{Answer, Changed};
 
 use crate::judge;
 use crate::records::{self, Record};
@@ -22,13 +22,12 @@ const ENTRIES: usize = 4;
 const SET_WORD: u16 = 6;
 
 /// What a call on a pattern is handed besides the body, as op 6 sets it: the bindings' locals, and
-/// words: the place's local and count, from 2 on its elements of two words, how many of the
-/// bindings' locals are handed in, and the discriminant local.
+/// words: the place's local and count, from 2 on its elements of two words, and how many of the
+/// bindings' locals are handed in.
 const BINDINGS: usize = 256;
-const WORDS: usize = 36;
+const WORDS: usize = 35;
 const MOST_ELEMENTS: usize = 16;
 const BOUND_AT: usize = 34;
-const DISCR_AT: usize = 35;
 const VISITS: usize = 512;
 
 /// A script: an image, and commands of four words.
@@ -56,7 +55,6 @@ impl Script {
         }
         set(7, 1, elements.len());
         set(7, BOUND_AT, bound);
-        set(7, DISCR_AT, ABSENT.into());
         for (number, &[kind, a, b]) in elements.iter().enumerate() {
             set(7, 2 + 2 * number, (kind + 8 * b).into());
             set(7, 3 + 2 * number, a.into());
@@ -153,7 +151,6 @@ impl Body {
             bindings: self.bindings[..bound].iter().map(|&word| number(word)).collect(),
             root: self.words[0].into(),
             elements: elements.map(|word| [word[0] % 8, word[1], word[0] / 8]).collect(),
-            discr: number(self.words[DISCR_AT]),
             listed: self.listed,
         }
     }
@@ -276,10 +273,14 @@ fn match_line(tables: &Tables, body: &mut Body, command: Call, made: Made, mut a
         *body = after;
     }
     let line = |answer: String| answer.trim_end().to_owned() + &body.told(true);
-    let replaced = if expected.replaced { " by document 02's replacements" } else { "" };
+    let changed = match expected.changed {
+        Changed { parted: true, .. } => " with a local for each discriminant test",
+        Changed { replaced: true, .. } => " by the replacements",
+        _ => "",
+    };
     Line {
         lines: expected.answers().into_iter().map(line).collect(),
-        sort: format!("{}{replaced} (on a pattern)", expected.sort),
+        sort: format!("{}{changed} (on a pattern)", expected.sort),
         listing: made.listing,
     }
 }

@@ -33,20 +33,20 @@ pub fn questions(count: usize, seed: u64) -> Vec<u8> {
     list
 }
 
-/// The last pattern, the type of its place, the root, the discriminant local, and the bindings'
-/// locals; most times all differ and are there.
+/// The last pattern, the type of its place, the root, and the bindings' locals; most times all differ
+/// and are there.
 fn words(rng: &mut Rng, m: &Tables) -> Vec<u16> {
     let Some(pattern) = m.patterns.len().checked_sub(1) else { return Vec::new() };
     let bound = m.bindings.len() as u16;
     let own = m.patterns[pattern][1];
     let type_ = m.root_type(pattern).map_or(own, |type_| type_ as u16);
-    let mut words = vec![pattern as u16, type_, 0, rng.pick(&[ABSENT, bound + 1])];
-    words.extend(1..=bound);
-    let at = 3 + usize::from(rng.row(1 + usize::from(bound)));
+    let mut words = vec![pattern as u16, type_];
+    words.extend(0..=bound);
+    let at = 2 + usize::from(rng.row(1 + usize::from(bound)));
     match rng.below(8) {
         0 => words[at] = 0,
         1 => words[at] = 1,
-        2 if at > 3 => words[at] = ABSENT,
+        2 if at > 2 => words[at] = ABSENT,
         _ => {}
     }
     words

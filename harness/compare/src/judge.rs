@@ -2,13 +2,13 @@
 //! text for everything else; and whether an answer is that.
 
 use image::{ABSENT, Tables};
-use published::{Answer, How, Outcome};
+use published::{Answer, Changed, How, Outcome};
 
 /// What is expected of the other side, and by what it is counted.
 pub struct Expected {
     pub sort: String,
-    /// It is a listing that is another without document 02's two replacements.
-    pub replaced: bool,
+    /// What document 02 has changed in a listing of the Rust's.
+    pub changed: Changed,
     rule: Rule,
 }
 
@@ -34,7 +34,7 @@ pub fn expected(image: &[u8], how: How) -> Expected {
 }
 
 pub fn text(sort: String, text: String) -> Expected {
-    Expected { sort, replaced: false, rule: Rule::Text(text) }
+    Expected { sort, changed: Changed::default(), rule: Rule::Text(text) }
 }
 
 /// What must be answered where the published text came to an outcome.
@@ -44,13 +44,11 @@ pub fn of_outcome(tables: &Tables, outcome: Outcome) -> Expected {
     }
     let line = |[number, pattern, reason]: [u16; 3]| format!("refused {number} {pattern} {reason}\n");
     match outcome.answer {
-        Answer::Listing(listing) => {
-            Expected { replaced: outcome.replaced, ..text("accepted".into(), listing) }
-        }
+        Answer::Listing(listing) => Expected { changed: outcome.changed, ..text("accepted".into(), listing) },
         Answer::Refused(refusal @ [4, _, reason]) => text(format!("refused 4 for {reason}"), line(refusal)),
         Answer::Refused(refusal) => text(format!("refused {}", refusal[0]), line(refusal)),
         Answer::Stopped([0, ..], said) => {
-            Expected { sort: "unexplained".into(), replaced: false, rule: Rule::Unknown(said) }
+            Expected { sort: "unexplained".into(), changed: Changed::default(), rule: Rule::Unknown(said) }
         }
         Answer::Stopped(refusal, _) => {
             text(format!("refused {} (the Rust panics or goes on)", refusal[0]), line(refusal))
@@ -61,7 +59,7 @@ pub fn of_outcome(tables: &Tables, outcome: Outcome) -> Expected {
 /// A number at the pattern that was entered last or at one above it.
 pub fn near(tables: &Tables, number: u16, entered: Option<usize>, sort: &str) -> Expected {
     let patterns = entered.map_or(vec![ABSENT], |entered| with_those_above(tables, entered));
-    Expected { sort: sort.to_owned(), replaced: false, rule: Rule::Near(number, patterns) }
+    Expected { sort: sort.to_owned(), changed: Changed::default(), rule: Rule::Near(number, patterns) }
 }
 
 /// A pattern and all those above it.

@@ -61,8 +61,10 @@ const SHRUNK: usize = 24;
 struct Tally<T> {
     sorts: BTreeMap<String, usize>,
     given: usize,
-    /// Agreed listings that are others without document 02's two replacements.
+    /// Agreed listings that are others without document 02's replacements, and without a local for
+    /// each discriminant test.
     replaced: usize,
+    parted: usize,
     differences: usize,
     /// The smallest ones that were printed.
     printed: HashSet<T>,
@@ -75,7 +77,7 @@ struct Tally<T> {
 pub fn compare<T: Given>(sources: Vec<Source<T>>, other: &Other, counts: bool) -> usize {
     let shrunk = if counts { SHRUNK } else { 0 };
     let (sorts, printed) = (BTreeMap::new(), HashSet::new());
-    let mut tally = Tally::<T> { sorts, given: 0, replaced: 0, differences: 0, printed, shrunk };
+    let mut tally = Tally::<T> { sorts, given: 0, replaced: 0, parted: 0, differences: 0, printed, shrunk };
     for source in sources {
         let (started, before) = (Instant::now(), tally.given);
         let differed = tally.differences;
@@ -94,11 +96,13 @@ pub fn compare<T: Given>(sources: Vec<Source<T>>, other: &Other, counts: bool) -
         println!("  {sort}: {count}");
     }
     println!(
-        "{} {} compared, {} differ; {} agree by document 02's replacements alone",
+        "{} {} compared, {} differ; {} agree only by document 02's replacements, {} only with a local for \
+         each discriminant test",
         tally.given,
         T::NAME,
         tally.differences,
-        tally.replaced
+        tally.replaced,
+        tally.parted
     );
     tally.differences
 }
@@ -124,7 +128,8 @@ fn one_chunk<T: Given>(source: &str, chunk: &[T], other: &Other, tally: &mut Tal
         tally.given += 1;
         *tally.sorts.entry(expected.sort.clone()).or_default() += 1;
         if expected.agrees(answer) {
-            tally.replaced += usize::from(expected.replaced);
+            tally.replaced += usize::from(expected.changed.replaced);
+            tally.parted += usize::from(expected.changed.parted);
         } else {
             tally.differences += 1;
             if tally.printed.len() < PRINTED && tally.shrunk < SHRUNK {

@@ -27,19 +27,27 @@ pub enum Answer {
     Stopped(Refusal, String),
 }
 
-/// A listing after document 02's two replacements.
+/// What document 02 has changed in a body of the Rust's.
+#[derive(Debug, Clone, Copy, Default, PartialEq, Eq)]
+pub struct Changed {
+    /// The test of a half-open range's end, or the offset of a suffix item.
+    pub replaced: bool,
+    /// Each of several discriminant tests has a local of its own.
+    pub parted: bool,
+}
+
+/// A listing of a body that document 02 has changed.
 #[derive(Debug, Clone, Default)]
 pub struct Listed {
     pub text: String,
-    /// Without them it is another.
-    pub replaced: bool,
+    pub changed: Changed,
 }
 
 pub struct Outcome {
     pub answer: Answer,
     pub trace: Trace,
-    /// The answer is a listing that is another without document 02's two replacements.
-    pub replaced: bool,
+    /// What is another in a listing that is the answer.
+    pub changed: Changed,
 }
 
 /// How the last pattern of an image is lowered and listed.
@@ -66,7 +74,7 @@ pub fn lower(tables: &Tables, place_type: usize, how: How) -> Outcome {
     let made = quietly(|| {
         panic::catch_unwind(AssertUnwindSafe(|| {
             lower_to_mir_with_store(db, &store, &inference, place_type, pattern, how.assigns)
-                .map(|lowered| lowered.listing(db, tables, &[root as u16], how.contents))
+                .map(|lowered| lowered.listing(db, tables, root as u16, how.contents))
         }))
     });
     let mut outcome = of_made(made, trace::so_far());
@@ -78,13 +86,15 @@ pub fn lower(tables: &Tables, place_type: usize, how: How) -> Outcome {
 
 /// A listing, an error or a panic, in document 01's words.
 pub(crate) fn of_made(made: std::thread::Result<Result<Listed, MirLowerError<'_>>>, trace: Trace) -> Outcome {
-    let replaced = matches!(&made, Ok(Ok(listed)) if listed.replaced);
+    let changed = made
+        .as_ref()
+        .map_or(Changed::default(), |made| made.as_ref().map_or(Changed::default(), |listed| listed.changed));
     let answer = match made {
         Ok(Ok(listed)) => Answer::Listing(listed.text),
         Ok(Err(error)) => of_error(&error, &trace),
         Err(_) => of_panic(&trace),
     };
-    Outcome { answer, trace, replaced }
+    Outcome { answer, trace, changed }
 }
 
 fn number(pattern: Option<usize>) -> u16 {

@@ -11,8 +11,8 @@ use crate::trace;
 use crate::world::World;
 
 /// What a call finds: how many blocks and statements there are, the locals' types, and each scope's
-/// locals; and what is handed to a call on a pattern besides: the bindings' locals, the place's
-/// root and elements, each a kind with its numbers, and the discriminant local.
+/// locals; and what is handed to a call on a pattern besides: the bindings' locals, and the place's
+/// root and elements, each a kind with its numbers.
 #[derive(Debug, Clone, Default)]
 pub struct Handed {
     pub blocks: usize,
@@ -22,7 +22,6 @@ pub struct Handed {
     pub bindings: Vec<Option<usize>>,
     pub root: usize,
     pub elements: Vec<[u16; 3]>,
-    pub discr: Option<usize>,
     /// The listing is asked for, with the memory of strings in it.
     pub listed: bool,
 }

@@ -24,7 +24,7 @@ use hir_def::base::Crate;
 use hir_def::resolver::Resolver;
 use hir_def::{ExpressionStoreOwnerId, FunctionId};
 
-pub use answer::{Answer, How, Outcome, lower};
+pub use answer::{Answer, Changed, How, Outcome, lower};
 pub use infer::InferenceResult;
 pub use layout::ParamEnvAndCrate;
 use rustc_ast_ir::Mutability;

@@ -56,7 +56,8 @@ impl Prepared {
     pub fn lower_parted(&self) -> Option<Made> {
         self.made(|body| {
             let statements = body.basic_blocks.values().iter().flat_map(|block| &block.statements);
-            let is_test = |kind: &StatementKind| matches!(kind, StatementKind::Assign(_, Rvalue::Discriminant(_)));
+            let is_test =
+                |kind: &StatementKind| matches!(kind, StatementKind::Assign(_, Rvalue::Discriminant(_)));
             statements.filter(|statement| is_test(&statement.kind)).count().saturating_sub(1)
         })
     }

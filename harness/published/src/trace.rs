@@ -1,11 +1,12 @@
 //! What a lowering did besides the body it made: visits, the pattern that was entered last, the
 //! Bind whose local was asked for last, and the first limit of document 01 that was passed. The
-//! Rust has no limits, and goes on.
+//! Rust has no limits, and goes on. Each test of a discriminant behind the first counts a local, an
+//! entry and a statement more than the Rust makes, as document 02 has it.
 
 use std::any::Any;
 use std::cell::RefCell;
 
-use crate::mir::{BasicBlock, Local, StatementKind};
+use crate::mir::{BasicBlock, Local, Rvalue, StatementKind};
 
 pub const MOST_BLOCKS: usize = 512;
 pub const MOST_STATEMENTS: usize = 1024;
@@ -22,6 +23,11 @@ pub struct Trace {
     /// The pattern that was entered last, if there is one, when the first limit was passed.
     pub passed: Option<Option<usize>>,
     pub statements: usize,
+    /// How many locals there are, and how many there were when the first pattern was entered.
+    pub locals: usize,
+    pub base: usize,
+    /// The tests of discriminants.
+    pub tests: usize,
     /// The locals in all scopes: one for each that is marked live.
     pub entries: usize,
     /// The block of each statement, in the order in which they were made.
@@ -62,6 +68,9 @@ pub fn entered(pattern: usize) {
         return;
     }
     TRACE.with_borrow_mut(|trace| {
+        if trace.visits.iter().all(|&count| count == 0) {
+            trace.base = trace.locals;
+        }
         trace.visits[pattern] += 1;
         trace.entered = Some(pattern);
     });
@@ -96,10 +105,19 @@ pub fn left(blocks: &[BasicBlock]) {
     TRACE.with_borrow_mut(|trace| trace.entered = None);
 }
 
+/// The statements of these blocks are others now, made in this order.
+pub fn ordered(order: Vec<usize>, blocks: &[BasicBlock]) {
+    TRACE.with_borrow_mut(|trace| {
+        trace.order = order;
+        trace.touched.had = blocks[trace.touched.block].statements.len();
+    });
+}
+
 fn changes(entries: &dyn Any, number: usize) {
     TRACE.with_borrow_mut(|trace| {
         if let Some(locals) = entries.downcast_ref::<Vec<Local>>() {
-            trace.limit(locals.len() > MOST_LOCALS, trace.entered);
+            trace.locals = locals.len() + trace.tests.saturating_sub(1);
+            trace.limit(trace.locals > MOST_LOCALS, trace.entered);
         } else if let Some(blocks) = entries.downcast_ref::<Vec<BasicBlock>>() {
             trace.count_pushed(blocks);
             trace.limit(blocks.len() > MOST_BLOCKS, trace.entered);
@@ -122,6 +140,16 @@ impl Trace {
         }
     }
 
+    /// A discriminant is tested: behind the first test the local is a new one all the same.
+    fn test(&mut self) {
+        if self.tests > 0 {
+            self.locals += 1;
+            self.statements += 1;
+            self.entries += 1;
+        }
+        self.tests += 1;
+    }
+
     /// Counts what the touched block got since.
     fn count_pushed(&mut self, blocks: &[BasicBlock]) {
         let Touched { block: number, had, entered } = self.touched;
@@ -129,9 +157,14 @@ impl Trace {
         for statement in &block.statements[had..] {
             self.order.push(number);
             self.statements += 1;
-            self.entries += usize::from(matches!(statement.kind, StatementKind::StorageLive(_)));
+            match statement.kind {
+                StatementKind::StorageLive(_) => self.entries += 1,
+                StatementKind::Assign(_, Rvalue::Discriminant(_)) => self.test(),
+                _ => {}
+            }
         }
         self.touched.had = block.statements.len();
-        self.limit(self.statements > MOST_STATEMENTS || self.entries > MOST_ENTRIES, entered);
+        let marks = self.statements > MOST_STATEMENTS || self.entries > MOST_ENTRIES;
+        self.limit(marks || self.locals > MOST_LOCALS, entered);
     }
 }

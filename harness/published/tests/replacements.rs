@@ -9,7 +9,7 @@ use published::{Answer, How, Outcome};
 fn sets(outcome: Outcome) -> (Vec<String>, bool) {
     let Answer::Listing(listing) = outcome.answer else { panic!("{:?}", outcome.answer) };
     let lines = listing.lines().filter(|line| line.starts_with("set ")).map(str::to_owned);
-    (lines.collect(), outcome.replaced)
+    (lines.collect(), outcome.changed.replaced)
 }
 
 fn lowered(m: &Tables, assigns: bool) -> (Vec<String>, bool) {

@@ -4,6 +4,7 @@
 use std::panic::{self, AssertUnwindSafe};
 use std::thread;
 
+use super::discriminants::part;
 use super::replacements::replace;
 use super::rows::{self, Element, Rows};
 use super::{
@@ -11,7 +12,7 @@ use super::{
     InferBodyId, InferenceResult, Local, LocalId, MirLowerCtx, MirSpan, PatId, Place, PlaceElem,
     ProjectionElem, Result, Ty,
 };
-use crate::answer::Listed;
+use crate::answer::{Changed, Listed};
 use crate::calls::{Call, CallAnswer, Handed, Made};
 use crate::mir::{FieldIndex, Projection, pretty};
 use crate::trace;
@@ -46,7 +47,7 @@ pub fn lower_body_to_mir<'db>(
         trace::finish(ctx.result.basic_blocks.values());
         return (made(&ctx, world, answer.unwrap_or(CallAnswer::Panicked)), None);
     }
-    hand_in(&mut ctx, handed);
+    bind(&mut ctx, handed);
     let mut listing = None;
     let matched =
         panic::catch_unwind(AssertUnwindSafe(|| matched(&mut ctx, world, handed, call, &mut listing)));
@@ -54,15 +55,14 @@ pub fn lower_body_to_mir<'db>(
     (Made { listing, ..made(&ctx, world, CallAnswer::Done) }, Some(matched))
 }
 
-/// The bindings' locals and the discriminant local.
-fn hand_in(ctx: &mut MirLowerCtx<'_, '_>, handed: &Handed) {
+/// Hands in the bindings' locals.
+fn bind(ctx: &mut MirLowerCtx<'_, '_>, handed: &Handed) {
     for (binding, local) in handed.bindings.iter().enumerate() {
         if let &Some(local) = local {
             let binding = BindingId::from_number(binding);
             ctx.result.binding_locals.insert(binding, LocalId::from_number(local));
         }
     }
-    ctx.discr_temp = handed.discr.map(|local| Place::from(LocalId::from_number(local)).store());
 }
 
 fn element(world: &World, [kind, a, b]: Element) -> PlaceElem {
@@ -76,8 +76,8 @@ fn element(world: &World, [kind, a, b]: Element) -> PlaceElem {
     }
 }
 
-/// Answers a call on a pattern, and makes document 02's replacements in what it made; where that is
-/// asked for, its listing too.
+/// Answers a call on a pattern, and changes what it made as document 02 has it; where that is asked
+/// for, its listing too.
 fn matched<'db>(
     ctx: &mut MirLowerCtx<'_, 'db>,
     world: &'db World,
@@ -103,15 +103,15 @@ fn matched<'db>(
         Call::MatchSelfParam(binding, current, local) => {
             let (binding, local) = (BindingId::from_number(binding), LocalId::from_number(local));
             let text = words(ctx.match_self_param(binding, block(current), local)?);
-            return Ok(Listed { text, replaced: false });
+            return Ok(Listed { text, changed: Changed::default() });
         }
         other => panic!("{other:?} is on no pattern"),
     };
-    let discr = told(ctx.discr_temp.as_ref().map(|place| place.local.number()));
     trace::finish(ctx.result.basic_blocks.values());
+    let parted = part(&mut ctx.result, &mut ctx.drop_scopes);
     let replaced = replace(&mut ctx.result, &world.tables, &[pattern as u16], handed.elements.len());
     *listing = handed.listed.then(|| pretty::listing(&ctx.result, blocks.0, blocks.1, world, true));
-    Ok(Listed { text: format!("{} discr {discr}", words(blocks)), replaced })
+    Ok(Listed { text: words(blocks), changed: Changed { replaced, parted } })
 }
 
 fn answer(ctx: &mut MirLowerCtx<'_, '_>, call: Call) -> CallAnswer {

@@ -6,12 +6,13 @@ use std::panic::{self, AssertUnwindSafe};
 
 use image::Tables;
 
+use super::discriminants::part;
 use super::replacements::replace;
 use super::{
     BasicBlockId, BindingId, ExpressionStore, HirDatabase, InferBodyId, InferenceResult, Local, LocalId,
     MirBody, MirLowerCtx, PatId, Result, Ty,
 };
-use crate::answer::Listed;
+use crate::answer::{Changed, Listed};
 use crate::mir::pretty;
 use crate::trace;
 
@@ -23,11 +24,25 @@ pub struct LoweredPattern<'db> {
 }
 
 impl LoweredPattern<'_> {
-    /// Document 01's listing after document 02's replacements, for the patterns that were walked from
-    /// a whole local; with `contents` the memory of strings stands in it too.
-    pub fn listing(mut self, db: &dyn HirDatabase, tables: &Tables, roots: &[u16], contents: bool) -> Listed {
+    /// Document 01's listing of the body as document 02 changes it, for the pattern that was walked
+    /// from a whole local; with `contents` the memory of strings stands in it too.
+    pub fn listing(mut self, db: &dyn HirDatabase, tables: &Tables, root: u16, contents: bool) -> Listed {
+        let parted = part(&mut self.body, &mut []);
+        self.replaced(db, tables, &[root], contents, parted)
+    }
+
+    /// The same of a body whose tests have their locals, and of several patterns.
+    pub(super) fn replaced(
+        mut self,
+        db: &dyn HirDatabase,
+        tables: &Tables,
+        roots: &[u16],
+        contents: bool,
+        parted: bool,
+    ) -> Listed {
         let replaced = replace(&mut self.body, tables, roots, 0);
-        Listed { text: pretty::listing(&self.body, self.then, self.other, db, contents), replaced }
+        let text = pretty::listing(&self.body, self.then, self.other, db, contents);
+        Listed { text, changed: Changed { replaced, parted } }
     }
 }
 

@@ -37,6 +37,7 @@ use super::{OperandKind, Place};
 
 mod as_place;
 mod calls;
+mod discriminants;
 mod entry;
 mod parameters;
 mod pattern_matching;

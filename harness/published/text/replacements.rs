@@ -24,7 +24,9 @@ pub(super) fn replace(body: &mut MirBody<'_>, tables: &Tables, roots: &[u16], ha
             let mut ways = roots.iter().filter_map(|&root| passed(&steps, root, pattern.number() as u16));
             ways.find(|way| way.len() == offsets)
         };
-        replaced |= place_of(value).is_some_and(|place| replace_offsets(place, handed, way));
+        for place in places_of(value) {
+            replaced |= replace_offsets(place, handed, &way);
+        }
     }
     replaced
 }
@@ -40,16 +42,21 @@ fn replace_operator(value: &mut Rvalue, &[kind, _, _, _, _, c, _]: &[u16; 7]) ->
     }
 }
 
-/// The place that a value is of, or that an operand is compared with.
-fn place_of(value: &mut Rvalue) -> Option<&mut StoredPlace> {
-    match value {
-        Rvalue::Use(operand) | Rvalue::CheckedBinaryOp(_, _, operand) => match &mut operand.kind {
-            OperandKind::Copy(place) => Some(place),
-            _ => None,
-        },
-        Rvalue::Ref(_, place) | Rvalue::Len(place) | Rvalue::Discriminant(place) => Some(place),
-        _ => None,
+/// The places that a value is of: one, or those that are compared.
+pub(super) fn places_of(value: &mut Rvalue) -> Vec<&mut StoredPlace> {
+    let operands = match value {
+        Rvalue::Use(operand) => vec![operand],
+        Rvalue::CheckedBinaryOp(_, left, right) => vec![left, right],
+        Rvalue::Ref(_, place) | Rvalue::Len(place) | Rvalue::Discriminant(place) => return vec![place],
+        _ => return Vec::new(),
+    };
+    let mut places = Vec::new();
+    for operand in operands {
+        if let OperandKind::Copy(place) = &mut operand.kind {
+            places.push(place);
+        }
     }
+    places
 }
 
 /// The j-th `.e` behind the elements handed in belongs to the j-th suffix item on the way.

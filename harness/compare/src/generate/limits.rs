@@ -19,6 +19,7 @@ pub fn images() -> Vec<(String, Vec<u8>)> {
         add(format!("tuple of {n} ranges"), tuple_of(n, 0, range));
         add(format!("tuple of {n} literals with 256 bindings"), tuple_of(n, 256, literal));
         add(format!("tuple of {n} variants"), tuple_of(n, 0, variant));
+        add(format!("tuple of {n} variants with 256 bindings"), tuple_of(n, 256, variant));
     }
     for n in 502..=511 {
         add(format!("tuple of {n} literals"), tuple_of(n, 0, same_literal));
@@ -144,8 +145,7 @@ fn tuple_of(n: usize, bindings: usize, item: impl Fn(&mut Tables, usize) -> u16)
     m
 }
 
-/// A tuple of constants, Binds and variants: 4, 2 and 1 statements each, and 1 more for the first
-/// variant.
+/// A tuple of constants, Binds and variants: 4, 2 and 2 statements each.
 fn mixed(constants: usize, binds: usize, variants: usize) -> Tables {
     let mut m = with_u8();
     m.bindings.push([0, 1]);

@@ -130,6 +130,13 @@ impl<T: 'static> Arena<T> {
     }
 }
 
+/// The probe is not told of these.
+impl<T> FromIterator<T> for Arena<T> {
+    fn from_iter<I: IntoIterator<Item = T>>(entries: I) -> Self {
+        Arena { data: entries.into_iter().collect() }
+    }
+}
+
 impl<T> Index<Idx<T>> for Arena<T> {
     type Output = T;
 
