@@ -30,8 +30,6 @@ use Rattle.meaning.specs.Typing.{TypeNumber}
 use Rattle.meaning.proofs.Children.{Placed, Valued}
 use Rattle.correctness.proofs.Walking.{Lands, on, walked-here}
 use Rattle.correctness.proofs.Landing.{lands-both}
-use Rattle.correctness.proofs.Sharing.{Sharer, AllShare, share-take}
-use Rattle.correctness.proofs.Shared.{sharer-adt}
 use Rattle.correctness.proofs.Standing.{Rooted, rooted-more, Stands, stands-as, stands-onward, stepped}
 use Rattle.correctness.proofs.Rows.{zipMatch}
 
@@ -58,7 +56,6 @@ accepted false w e p is = absurd (not-ok is)
 -- In Check, a lowering leads every value of a type that f admits where m says: m is what its pattern means
 pub record Meant (scene : Scene) (bindings : List ℕ) (M : Mir) (word : ℕ) (l : Lowering) (m : Value → Bool) (f : TypeNumber → Bool) : Type 0 where
   pub grows : Grows l
-  pub shares : Sharer l
   pub lands : (t : ℕ) → f (some t) ≡ true → (ctx : Ctx) (c : BasicBlockId) (els : OptBlock) (place : Place) (w : Value) → Rooted scene word (ctx .state) →
       Stands scene word place (PlaceTy.Ty t) w → valueFits (scene .image) w t ≡ true → Ready (ctx .state) c els → (r : Out) → l MatchingMode.Check ctx c els place ≡ ok r →
       GoesOn (mirOf (r .ctx .state)) M → (env : Env) → Lands scene bindings M ctx (c .0) env [] r (m w)
@@ -104,11 +101,6 @@ module _ {scene : Scene} {bindings : List ℕ} {M : Mir} {word : ℕ} where
   meant-grow nil = tt
   meant-grow (cons h a) = (h .grows, meant-grow a)
 
-  -- none of them loses a local
-  pub meant-share : {ls : List Lowering} {ms : List (Value → Bool)} {fs : List (TypeNumber → Bool)} → AllMeant scene bindings M word ls ms fs → AllShare ls
-  meant-share nil = tt
-  meant-share (cons h a) = (h .shares, meant-share a)
-
   -- there are as many of each
   pub meant-count : {ls : List Lowering} {ms : List (Value → Bool)} {fs : List (TypeNumber → Bool)} → AllMeant scene bindings M word ls ms fs → (length ls ≡ length ms) × (length ls ≡ length fs)
   meant-count nil = (refl, refl)
@@ -128,7 +120,7 @@ module _ {scene : Scene} {bindings : List ℕ} {M : Mir} {word : ℕ} where
       walked (l MatchingMode.Check ctx c els place′) _ is₁ (λ r₁ e₂ e₃.
       let q : Leaves (ctx .state) c els r₁ = m .grows MatchingMode.Check ctx c els place′ .leaves h r₁ e₂ in
       let q′ : Leaves (r₁ .ctx .state) (r₁ .then) (r₁ .else) r = grows-adt p elems ls (meant-grow a) MatchingMode.Check (r₁ .ctx) (r₁ .then) (r₁ .else) place .leaves (q .ready) r e₃ in
-      lands-both r₁ r h q q′ (m .shares MatchingMode.Check ctx c els place′ .shares r₁ e₂)
+      lands-both r₁ r h q q′
       (m .lands (at .0 .ty) (at .0 .fits) ctx c els place′ (partAt elem w) root (stands-as (at .0 .at .0 .0) (stands-onward elem place′ holds (at .0 .at .1) s e₁)) (at .0 .at .0 .1) h r₁ e₂ (before r₁ r q q′ x) env)
       (λ env _. lands-adt p elems holds a (r₁ .ctx) (r₁ .then) (r₁ .else) place ty w (at .1) (rooted-after r₁ q root) s (q .ready) r e₃ x env)))
 
@@ -146,6 +138,6 @@ module _ {scene : Scene} {bindings : List ℕ} {M : Mir} {word : ℕ} where
       let q : Leaves (ctx .state) c els r₁ = grows-adt p (fieldsUpTo n) (take at ls) (all-take at ls g) MatchingMode.Check ctx c els place .leaves h r₁ e₁ in
       let q′ : Leaves (r₁ .ctx .state) (r₁ .then) (r₁ .else) r =
       grows-adt p (reverse (fieldsUpTo n)) (reverse (drop at ls)) (all-reverse (drop at ls) (all-drop at ls g)) MatchingMode.Check (r₁ .ctx) (r₁ .then) (r₁ .else) place .leaves (q .ready) r e₂ in
-      lands-both r₁ r h q q′ (sharer-adt p (fieldsUpTo n) (take at ls) (share-take at ls (meant-share a)) MatchingMode.Check ctx c els place .shares r₁ e₁)
+      lands-both r₁ r h q q′
       (lands-adt p (fieldsUpTo n) holds (meant-take at a) ctx c els place ty w front root s h r₁ e₁ (before r₁ r q q′ x) env)
       (λ env _. lands-adt p (reverse (fieldsUpTo n)) holds (meant-reverse (meant-drop at a)) (r₁ .ctx) (r₁ .then) (r₁ .else) place ty w back (rooted-after r₁ q root) s (q .ready) r e₂ x env))

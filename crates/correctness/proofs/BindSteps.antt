@@ -36,9 +36,8 @@ use Rattle.meaning.specs.Running.{Held, value, Env, update, Scene, ofPlaceValue
 use Rattle.meaning.specs.Matching.{Bound, boundAs}
 use Rattle.correctness.specs.Demand2.{pathOf, after}
 use Rattle.correctness.proofs.Trails.{trail-here}
-use Rattle.correctness.proofs.Walking.{rest, Shares, shares-seq, Walked, walked-here}
+use Rattle.correctness.proofs.Walking.{rest, Walked, walked-here}
 use Rattle.correctness.proofs.Landing.{follow}
-use Rattle.correctness.proofs.Sharing.{shares-same, sharing-binding}
 use Rattle.correctness.proofs.Standing.{Stands, stands-read, stepped}
 use Rattle.correctness.proofs.Doing.{does-seq, does-run, does-live, does-line}
 use Rattle.correctness.proofs.Permuting.{Same}
@@ -46,7 +45,6 @@ use Rattle.correctness.proofs.Permuting.{Same}
 -- a run over what a walk left gives the locals these bindings
 pub record Fills (scene : Scene) (bindings : List ℕ) (M : Mir) (ctx : Ctx) (c : BasicBlockId) (els : OptBlock) (bs : List Bound) (r : Out) : Type 0 where
   pub leaves : Leaves (ctx .state) c els r
-  pub shares : Shares ctx (r .ctx)
   pub walked : GoesOn (mirOf (r .ctx .state)) M → (env : Env) → Walked scene bindings M ctx (c .0) env bs (r .ctx) (r .then .0) (rest (r .ctx .state) M)
 
 module _ {scene : Scene} {bindings : List ℕ} {M : Mir} where
@@ -55,7 +53,6 @@ module _ {scene : Scene} {bindings : List ℕ} {M : Mir} where
   fills-here ctx c els h =
       record {
         leaves = leaves-lines h (adds-same (ctx .state) (c .0));
-        shares = shares-same ctx;
         walked = λ x env. walked-here ctx (c .0) env (h .inside);
       }
 
@@ -66,10 +63,9 @@ module _ {scene : Scene} {bindings : List ℕ} {M : Mir} where
     fills-seq r r′ h f g =
         record {
           leaves = leaves-seq r r′ (f .leaves) (g .leaves);
-          shares = shares-seq (f .shares) (g .shares);
           walked = λ x env.
               let w = f .walked (goes-on-trans (goes-on (g .leaves .worked) (f .leaves .ready .opened)) x) env in
-              follow r r′ h (f .leaves) (g .leaves) (f .shares) w (g .walked x (w .env′)) (inl (g .leaves .ready .opened));
+              follow r r′ h (f .leaves) (g .leaves) w (g .walked x (w .env′)) (inl (g .leaves .ready .opened));
         }
 
     -- the same bindings in another order
@@ -77,7 +73,6 @@ module _ {scene : Scene} {bindings : List ℕ} {M : Mir} where
     fills-as r s f =
         record {
           leaves = f .leaves;
-          shares = f .shares;
           walked = λ x env.
               let w = f .walked x env in
               record { env′ = w .env′; entered = w .entered; run = w .run; locals = λ l i. w .locals l i ∙ s .same l (env l); trail = w .trail };
@@ -90,7 +85,6 @@ module _ {scene : Scene} {bindings : List ℕ} {M : Mir} where
   fills-visited p r f =
       record {
         leaves = f .leaves;
-        shares = record { more = f .shares .more };
         walked = λ x env.
             let w = f .walked x env in
             record { env′ = w .env′; entered = w .entered; run = w .run; locals = w .locals; trail = w .trail };
@@ -148,7 +142,6 @@ fills-binding {scene} {place} {w} bindings M p q b how ctx c els r h s e =
     subst (λ (x : Out). Fills scene bindings M ctx c els (bound ∷ []) x) (ok-is f₃)
     (record {
       leaves = subst (λ (x : Out). Leaves (ctx .state) c els x) (sym (ok-is f₃)) good;
-      shares = subst (λ (x : Out). Shares ctx (x .ctx)) (sym (ok-is f₃)) (sharing-binding bindings p q b how ctx c els place .shares r e);
       walked = λ x env.
           record {
             env′ = update env (l .0) (ofPlaceValue (bindingRvalue how) scene env (pathOf place));

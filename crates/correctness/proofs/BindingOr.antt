@@ -25,10 +25,9 @@ use Rattle.meaning.specs.Typing.{TypeNumber}
 use Rattle.meaning.specs.Fitting.{itemsAllFit}
 use Rattle.image.proofs.Bools.{and-left, and-right}
 use Rattle.correctness.specs.Demand2.{pathOf}
-use Rattle.correctness.proofs.Walking.{rest, Shares, Walked, Lands, on, off, walked-seq, walked-later}
-use Rattle.correctness.proofs.Shared.{sharer-or}
+use Rattle.correctness.proofs.Walking.{rest, worked-locals, Walked, Lands, on, off, walked-seq, walked-later}
 use Rattle.correctness.proofs.Standing.{Rooted, rooted-more, Stands}
-use Rattle.correctness.proofs.Arguments.{Meant, AllMeant, nil, cons, meant-grow, meant-share, rooted-after}
+use Rattle.correctness.proofs.Arguments.{Meant, AllMeant, nil, cons, meant-grow, rooted-after}
 use Rattle.correctness.proofs.Choosing.{anyOf, firstOf, Choice, Choices, nil as no-choice, cons as choice}
 use Rattle.correctness.proofs.Joined.{walked-or}
 use Rattle.correctness.proofs.Permuting.{Binder}
@@ -37,12 +36,12 @@ use Rattle.correctness.proofs.BindingFields.{FillsOn, Can, AllCan, no-c
 module _ (scene : Scene) (word : ℕ) (bindings : List ℕ) (M : Mir) where
   -- tests, and then the bindings where they led on: a mismatch goes where the tests led it
   twice : {ctx : Ctx} {c : BasicBlockId} {env : Env} {bs : List Bound} {b : Bool} (r n : Out) → Leaves (ctx .state) c OptBlock.None r → Leaves (r .ctx .state) (r .then) OptBlock.None n →
-      Shares ctx (r .ctx) → Lands scene bindings M ctx (c .0) env [] r b →
+      Lands scene bindings M ctx (c .0) env [] r b →
       ((env : Env) → b ≡ true → Walked scene bindings M (r .ctx) (r .then .0) env bs (n .ctx) (n .then .0) (rest (n .ctx .state) M)) →
       Lands scene bindings M ctx (c .0) env bs (record { ctx = n .ctx; then = n .then; else = r .else }) b
-  twice r n q q′ s (on w) k =
-      on (walked-seq w (k (w .env′) refl) s (q .worked .blocks) (q′ .worked .blocks) (goes-on (q′ .worked) (q .ready .opened)) (inl (q′ .ready .opened)) (q .then))
-  twice r n q q′ s (off e i w) k = off e i (walked-later w (goes-on (q′ .worked) (q .ready .opened)) (q′ .worked .blocks))
+  twice r n q q′ (on w) k =
+      on (walked-seq w (k (w .env′) refl) (worked-locals (q .worked)) (q .worked .blocks) (q′ .worked .blocks) (goes-on (q′ .worked) (q .ready .opened)) (inl (q′ .ready .opened)) (q .then))
+  twice r n q q′ (off e i w) k = off e i (walked-later w (goes-on (q′ .worked) (q .ready .opened)) (q′ .worked .blocks))
 
   module _ (t : ℕ) (w : Value) (value : valueFits (scene .image) w t ≡ true) (place : Place) (stands : Stands scene word place (PlaceTy.Ty t) w) where
     -- an alternative
@@ -51,7 +50,6 @@ module _ (scene : Scene) (word : ℕ) (bindings : List ℕ) (M : Mir) where
     alternative-binds {l} {m} {f} {b} h k fits =
         record {
           grows = h .grows;
-          shares = h .shares;
           lands = λ ctx c root ready r e x env.
               walked (l MatchingMode.Check ctx c OptBlock.None place) _ e (λ r₁ e₁ e₂.
               walked (l MatchingMode.Bind (r₁ .ctx) (r₁ .then) OptBlock.None place) _ e₂ (λ n e₃ e₄.
@@ -60,7 +58,7 @@ module _ (scene : Scene) (word : ℕ) (bindings : List ℕ) (M : Mir) where
               let q′ : Leaves (r₁ .ctx .state) (r₁ .then) OptBlock.None n = h .grows MatchingMode.Bind (r₁ .ctx) (r₁ .then) OptBlock.None place .leaves again n e₃ in
               let y : GoesOn (mirOf (n .ctx .state)) M = subst (λ (z : Out). GoesOn (mirOf (z .ctx .state)) M) (sym (ok-is e₄)) x in
               subst (λ (z : Out). Lands scene bindings M ctx (c .0) env (b (pathOf place) w) z (m w)) (ok-is e₄)
-              (twice r₁ n q q′ (h .shares MatchingMode.Check ctx c OptBlock.None place .shares r₁ e₁)
+              (twice r₁ n q q′
               (h .lands t fits ctx c OptBlock.None place w root stands value ready r₁ e₁ (goes-on-trans (goes-on (q′ .worked) (q .ready .opened)) y) env)
               (λ env matches.
               k .fills t w fits matches value .fill (r₁ .ctx) (r₁ .then) OptBlock.None place n (rooted-after r₁ q root) again stands e₃ .walked y env))));
@@ -84,9 +82,8 @@ module _ (scene : Scene) (word : ℕ) (bindings : List ℕ) (M : Mir) where
         fill = λ ctx c els place r root ready s e.
             record {
               leaves = grows-or p ls (meant-grow hs) MatchingMode.Bind ctx c els place .leaves ready r e;
-              shares = sharer-or p ls (meant-share hs) MatchingMode.Bind ctx c els place .shares r e;
               walked = λ x env.
-                  walked-or (λ ctx ctx₁ c f s h. rooted-more scene word (ctx .state) (ctx₁ .state) (f .moreLocals) (f .locals) h) p (choices t w value place s hs ks fits) ctx c els root ready r e x env
+                  walked-or (λ ctx ctx₁ c f h. rooted-more scene word (ctx .state) (ctx₁ .state) (f .moreLocals) (f .locals) h) p (choices t w value place s hs ks fits) ctx c els root ready r e x env
                   matches;
             };
       }

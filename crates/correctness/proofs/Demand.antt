@@ -32,7 +32,6 @@ use Rattle.meaning.specs.Fits.{fits, nothingRefused, localsDiffer}
 use Rattle.correctness.specs.Demand2.{pathOf, Handed, Fitting, Stops, Comes}
 use Rattle.correctness.proofs.Walking.{rest, Lands}
 use Rattle.correctness.proofs.Landing.{led-on, led-off, lands-bound}
-use Rattle.correctness.proofs.Shared.{sharer}
 use Rattle.correctness.proofs.Arguments.{rooted-after}
 use Rattle.correctness.proofs.OfImages.{OfImage}
 use Rattle.correctness.proofs.CheckHalf.{sceneOf, rootWord, handed-root, handed-stands, check-half, comes}
@@ -71,7 +70,7 @@ module _ (image bindings : List ℕ) (pat : Pat) (ctx : Ctx) (current : BasicBlo
       let keep = inner-keeps image bindings pat MatchingMode.Bind (r₁ .ctx) (r₁ .then) (r₁ .else) place r tt e₂ in
       let apart = fits-locals-apart bindings (place .local .0) (c .locals) in
       let can = bound scene word bindings M (fitting .image-valid) (fitting .image-bytes) apart pat (c .bindings-fit) (all-local image bindings pat (c .reached)) of in
-      lands-bound r₁ r (handed .starts) q q′ (sharer image bindings pat MatchingMode.Check ctx current els place .shares r₁ e₁) keep
+      lands-bound r₁ r (handed .starts) q q′ keep
       (check-half image bindings pat ctx current els place t v r₁ M env handed fitting of e₁ (goes-on-trans (goes-on (q′ .worked) (q .ready .opened)) onward))
       (λ env m.
       can .fills t v (c .types) m (fitting .value) .fill (r₁ .ctx) (r₁ .then) (r₁ .else) place r (rooted-after r₁ q (handed-root handed v)) (q .ready) (handed-stands handed v) e₂ .walked onward env))

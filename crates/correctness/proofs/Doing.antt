@@ -1,5 +1,5 @@
 -- Lines at the end of a block, and what they do to the locals. Assumes nothing.
-use Prim.Native.Nat.{ℕ, suc, _≤_, _<_}
+use Prim.Native.Nat.{ℕ, suc, _≤_, _<_, _+_}
 use native.Mathlib.Omega.{arith}
 use mathlib.Core.Path.{_≡_, refl, sym, ap, subst, _∙_}
 use mathlib.Core.Logic.{_≢_}
@@ -7,7 +7,7 @@ use mathlib.Core.Bool.{Bool, true, false, cond}
 use mathlib.Core.List.{List, [], _∷_, _++_, map, append-assoc, append-nil}
 use borrow.Author.Tests.{eq-eqb, ne-eqb}
 use lib.Dec.{eqb, ltb}
-use lib.ListN.{length}
+use lib.ListN.{length, length-append}
 use lib.Seq.{getD-set-same}
 use Rattle.refusals.specs.declared.MirLowerError.{MirLowerError}
 use Rattle.refusals.specs.Refusals.{Result, ok, refused, andThen}
@@ -31,7 +31,7 @@ use Rattle.pattern_matching.specs.Walking.{elseState}
 use Rattle.growth.specs.Opened.{count, terminator, lines, Below}
 use Rattle.growth.proofs.States.{count-is, lines-statement}
 use Rattle.growth.proofs.Working.{quiet-append, below-quiet}
-use Rattle.growth.proofs.Opening.{Own, own-quiet}
+use Rattle.growth.proofs.Opening.{Own, own-quiet, Opens, Adds}
 use Rattle.meaning.specs.Running.{Held, Env, update, Scene, execute, Run, here, step}
 use Rattle.correctness.proofs.Walking.{rest, rest-is, chain}
 
@@ -153,6 +153,18 @@ does-temp image st st₁ word block e =
     followed (tryLocal st word) _ (unrefused (isSlice image word) MirLowerError.UnsizedTemporary _ e) (λ st₂ e₂ e₃.
     does-seq (does-none st st₂ (ap (λ (s : State). s .statements) (sym (given (ltb (length (st .locals)) localLimit) (newLocal st word) st₂ e₂))))
     (does-live st₂ st₁ (nextLocal st) block e₃))
+
+-- a list with more behind it is not shorter
+longer : (xs ys zs : List ℕ) → ys ≡ xs ++ zs → length xs ≤ length ys
+longer xs ys zs e = let n : length ys ≡ length xs + length zs = ap length e ∙ length-append xs zs in omega arith
+
+-- steps lose no local
+pub opens-locals : {st st₁ : State} {c : ℕ} → Opens st c st₁ → length (st .locals) ≤ length (st₁ .locals)
+opens-locals {st} {st₁} o = longer (st .locals) (st₁ .locals) (o .moreLocals) (o .locals)
+
+-- nor do lines
+pub adds-locals : {st st₁ : State} {c : ℕ} → Adds st c st₁ → length (st .locals) ≤ length (st₁ .locals)
+adds-locals a = opens-locals (a .opens)
 
 -- a temporary is one local more
 pub temp-locals : (image : List ℕ) (st st₁ : State) (word : ℕ) (block : BasicBlockId) → temp image st word block ≡ ok st₁ → length (st₁ .locals) ≡ suc (length (st .locals))

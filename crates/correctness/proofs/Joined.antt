@@ -33,13 +33,11 @@ use Rattle.growth.proofs.Joining.{grows-or}
 use Rattle.meaning.specs.Running.{Env, Scene}
 use Rattle.meaning.specs.Matching.{Bound}
 use Rattle.correctness.proofs.Trails.{Landing, trail-earlier}
-use Rattle.correctness.proofs.Walking.{rest, Shares, shares-seq, Walked, Lands, on, off, walked-later, walked-enter}
+use Rattle.correctness.proofs.Walking.{rest, worked-locals, Walked, Lands, on, off, walked-later, walked-enter}
 use Rattle.correctness.proofs.Landing.{landing-else}
-use Rattle.correctness.proofs.Sharing.{opens-locals, shares-state}
-use Rattle.correctness.proofs.Shared.{shares-alternatives}
 use Rattle.correctness.proofs.Standing.{stepped}
 use Rattle.correctness.proofs.Doing.{given, terminator-is}
-use Rattle.correctness.proofs.Choosing.{Waits, waits-carry, Tries, found, missed, anyOf, firstOf, Choices, choices-grow, choices-share, walked-goto, tries}
+use Rattle.correctness.proofs.Choosing.{Waits, waits-carry, Tries, found, missed, anyOf, firstOf, Choices, choices-grow, walked-goto, tries}
 
 -- the start is the state with one block more
 walked-start : {scene : Scene} {bindings : List ℕ} {M : Mir} {ctx ctx₁ : Ctx} {c b : ℕ} {env : Env} {bs : List Bound} {left : List Line} (st₀ : State) → tryBlock (ctx .state) ≡ done st₀ →
@@ -101,7 +99,7 @@ module _ {scene : Scene} {bindings : List ℕ} {M : Mir} {ctx : Ctx} {c : BasicB
 
   -- the end of the alternatives in Check: where none of them matched
   missed-ends : (p : ℕ) (a : Ctx) (left : OptBlock) (join : BasicBlockId) (els : OptBlock) (b : BasicBlockId) (r : Out) → left ≡ OptBlock.Some b → count (ctx .state) ≤ count (a .state) →
-      From (ctx .state) (c .0) (b .0) → b .0 < count (a .state) → terminator (a .state) (b .0) ≡ Terminator.Open → Shares ctx a →
+      From (ctx .state) (c .0) (b .0) → b .0 < count (a .state) → terminator (a .state) (b .0) ≡ Terminator.Open → length (ctx .state .locals) ≤ length (a .state .locals) →
       Walked scene bindings M ctx (c .0) env [] a (b .0) (rest (a .state) M) → Ready (ctx .state) c els → alternativesEnd p MatchingMode.Check (tried a left) join els ≡ ok r →
       Leaves (ctx .state) c els r → GoesOn (mirOf (r .ctx .state)) M → Lands scene bindings M ctx (c .0) env bs r false
   unfolding alternativesEnd
@@ -148,7 +146,6 @@ pub record Started (st : State) (c : BasicBlockId) (st₀ : State) : Type 0 wher
   pub ready : Ready st₀ c OptBlock.None
   pub waits : Waits st₀ (c .0) (count st)
   pub worked : Worked st (c .0) st₀
-  pub more : length (st .locals) ≤ length (st₀ .locals)
 
 -- with one block more the alternatives may start
 started : {st : State} {c : BasicBlockId} {els : OptBlock} (st₀ : State) → Ready st c els → tryBlock st ≡ done st₀ → Started st c st₀
@@ -160,15 +157,14 @@ started {st} {c} st₀ h e =
       ready = record { inside = lt-of-lt-of-le inn (o .blocks); opened = o .terms (c .0) ∙ h .opened; else = tt; lines = lines-below (opens-worked inn o) (h .lines) };
       waits = record { inside = omega (arith, count-tried st st₀ e); opened = new .0; quiet = new .1; apart = omega arith };
       worked = opens-worked inn o;
-      more = opens-locals o;
     }
 
 module _ {Inv : Ctx → Type 0} {scene : Scene} {bindings : List ℕ} {M : Mir} {mode : MatchingMode} {place : Place}
-    (keep : (ctx ctx₁ : Ctx) (c : ℕ) → Worked (ctx .state) c (ctx₁ .state) → Shares ctx ctx₁ → Inv ctx → Inv ctx₁) where
+    (keep : (ctx ctx₁ : Ctx) (c : ℕ) → Worked (ctx .state) c (ctx₁ .state) → Inv ctx → Inv ctx₁) where
   -- the parts of an Or that was walked, and what its alternatives lead to
   or-parts : {C : Type 0} {ls : List Lowering} {bs : List Bool} {bss : List (List Bound)} (p : ℕ) → Choices Inv scene bindings M mode place ls bs bss →
       (ctx : Ctx) (c : BasicBlockId) (els : OptBlock) → Inv ctx → Ready (ctx .state) c els → (r : Out) → orPattern p ls mode ctx c els place ≡ ok r → GoesOn (mirOf (r .ctx .state)) M → (env : Env) →
-      ((st₀ : State) (a : Ctx) (left : OptBlock) → tryBlock (ctx .state) ≡ done st₀ → Started (ctx .state) c st₀ → Shares (withState ctx st₀) a → Tried st₀ (c .0) (tried a left) →
+      ((st₀ : State) (a : Ctx) (left : OptBlock) → tryBlock (ctx .state) ≡ done st₀ → Started (ctx .state) c st₀ → Tried st₀ (c .0) (tried a left) →
       Tries scene bindings M (withState ctx st₀) (c .0) env (firstOf bs bss) (nextBlock (ctx .state)) (tried a left) (anyOf bs) →
       alternativesEnd p mode (tried a left) (nextBlock (ctx .state)) els ≡ ok r → C) → C
   unfolding orPattern
@@ -177,8 +173,8 @@ module _ {Inv : Ctx → Type 0} {scene : Scene} {bindings : List ℕ} {M : Mir} 
       walked (alternatives p ls mode (withState ctx st₀) (nextBlock (ctx .state)) c place) _ is₀ (λ l e₁ is₁.
       let b = started st₀ h e₀ in
       let t : Tried st₀ (c .0) l = tried-all p ls (choices-grow choices) mode (withState ctx st₀) (nextBlock (ctx .state)) c place l (b .ready) e₁ in
-      let inv₀ : Inv (withState ctx st₀) = keep ctx (withState ctx st₀) (c .0) (b .worked) (shares-state ctx st₀ (b .more)) inv in
-      k st₀ (l .ctx) (l .left) e₀ b (shares-alternatives p ls (choices-share choices) mode (withState ctx st₀) (nextBlock (ctx .state)) c place l e₁) t
+      let inv₀ : Inv (withState ctx st₀) = keep ctx (withState ctx st₀) (c .0) (b .worked) inv in
+      k st₀ (l .ctx) (l .left) e₀ b t
       (tries keep p choices (withState ctx st₀) (nextBlock (ctx .state)) c inv₀ (b .ready) (b .waits) l e₁ (end-goes-on p mode (l .ctx) (l .left) (nextBlock (ctx .state)) els r t is₁ x) env) is₁))
 
   -- an Or where one of its alternatives matches, in every mode
@@ -186,7 +182,7 @@ module _ {Inv : Ctx → Type 0} {scene : Scene} {bindings : List ℕ} {M : Mir} 
       (ctx : Ctx) (c : BasicBlockId) (els : OptBlock) → Inv ctx → Ready (ctx .state) c els → (r : Out) → orPattern p ls mode ctx c els place ≡ ok r → GoesOn (mirOf (r .ctx .state)) M → (env : Env) →
       anyOf bs ≡ true → Walked scene bindings M ctx (c .0) env (firstOf bs bss) (r .ctx) (r .then .0) (rest (r .ctx .state) M)
   walked-or {bs = bs} {bss = bss} p choices ctx c els inv h r is x env e =
-      or-parts p choices ctx c els inv h r is x env (λ st₀ a left e₀ b s t u is₁.
+      or-parts p choices ctx c els inv h r is x env (λ st₀ a left e₀ b t u is₁.
       found-ends p mode a left (nextBlock (ctx .state)) els r t (b .waits)
       (walked-start st₀ e₀ (led (subst (Tries scene bindings M (withState ctx st₀) (c .0) env (firstOf bs bss) (nextBlock (ctx .state)) (tried a left)) e u))) is₁ x)
     where
@@ -196,19 +192,19 @@ module _ {Inv : Ctx → Type 0} {scene : Scene} {bindings : List ℕ} {M : Mir} 
 
 -- an Or in Check
 pub lands-or : {Inv : Ctx → Type 0} {scene : Scene} {bindings : List ℕ} {M : Mir} {place : Place}
-    (keep : (ctx ctx₁ : Ctx) (c : ℕ) → Worked (ctx .state) c (ctx₁ .state) → Shares ctx ctx₁ → Inv ctx → Inv ctx₁)
+    (keep : (ctx ctx₁ : Ctx) (c : ℕ) → Worked (ctx .state) c (ctx₁ .state) → Inv ctx → Inv ctx₁)
     {ls : List Lowering} {bs : List Bool} {bss : List (List Bound)} (p : ℕ) → Choices Inv scene bindings M MatchingMode.Check place ls bs bss →
     (ctx : Ctx) (c : BasicBlockId) (els : OptBlock) → Inv ctx → Ready (ctx .state) c els → (r : Out) → orPattern p ls MatchingMode.Check ctx c els place ≡ ok r →
     GoesOn (mirOf (r .ctx .state)) M → (env : Env) → Lands scene bindings M ctx (c .0) env (firstOf bs bss) r (anyOf bs)
 lands-or {Inv} {scene} {bindings} {M} {place} keep {ls} {bs} {bss} p choices ctx c els inv h r is x env =
     let q : Leaves (ctx .state) c els r = grows-or p ls (choices-grow choices) MatchingMode.Check ctx c els place .leaves h r is in
-    or-parts keep p choices ctx c els inv h r is x env (λ st₀ a left e₀ b s t u is₁. by st₀ a left e₀ b s t q is₁ (anyOf bs) u)
+    or-parts keep p choices ctx c els inv h r is x env (λ st₀ a left e₀ b t u is₁. by st₀ a left e₀ b t q is₁ (anyOf bs) u)
   where
-    by : (st₀ : State) (a : Ctx) (left : OptBlock) → tryBlock (ctx .state) ≡ done st₀ → Started (ctx .state) c st₀ → Shares (withState ctx st₀) a → Tried st₀ (c .0) (tried a left) →
+    by : (st₀ : State) (a : Ctx) (left : OptBlock) → tryBlock (ctx .state) ≡ done st₀ → Started (ctx .state) c st₀ → Tried st₀ (c .0) (tried a left) →
         Leaves (ctx .state) c els r → alternativesEnd p MatchingMode.Check (tried a left) (nextBlock (ctx .state)) els ≡ ok r → (y : Bool) →
         Tries scene bindings M (withState ctx st₀) (c .0) env (firstOf bs bss) (nextBlock (ctx .state)) (tried a left) y → Lands scene bindings M ctx (c .0) env (firstOf bs bss) r y
-    by st₀ a left e₀ b s t q is₁ _ (found w) = on (found-ends p MatchingMode.Check a left (nextBlock (ctx .state)) els r t (b .waits) (walked-start st₀ e₀ w) is₁ x)
-    by st₀ a left e₀ b s t q is₁ _ (missed z i w) =
+    by st₀ a left e₀ b t q is₁ _ (found w) = on (found-ends p MatchingMode.Check a left (nextBlock (ctx .state)) els r t (b .waits) (walked-start st₀ e₀ w) is₁ x)
+    by st₀ a left e₀ b t q is₁ _ (missed z i w) =
         let f = subst (LeftFrom st₀ (c .0) (a .state)) i (t .left) in
         missed-ends p a left (nextBlock (ctx .state)) els z r i (le-trans (b .worked .blocks) (t .worked .blocks)) (λ j. f .2 (lt-of-lt-of-le j (b .worked .blocks))) (f .0) (f .1)
-        (shares-seq (shares-state ctx st₀ (b .more)) s) (walked-start st₀ e₀ w) h is₁ q x
+        (le-trans (worked-locals (b .worked)) (worked-locals (t .worked))) (walked-start st₀ e₀ w) h is₁ q x

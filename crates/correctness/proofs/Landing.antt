@@ -16,7 +16,7 @@ use Rattle.growth.proofs.Leaving.{some-block, not-none, leaves-seq}
 use Rattle.meaning.specs.Running.{Env, Scene}
 use Rattle.meaning.specs.Matching.{Bound}
 use Rattle.correctness.proofs.Trails.{Landing}
-use Rattle.correctness.proofs.Walking.{rest, Shares, Walked, Lands, on, off, walked-seq, walked-later}
+use Rattle.correctness.proofs.Walking.{rest, worked-locals, Walked, Lands, on, off, walked-seq, walked-later}
 
 -- a run may end at the else that a walk leaves
 pub landing-else : (st st₁ : State) (c : BasicBlockId) (els left : OptBlock) (e : BasicBlockId) → ElseReady st c els → ElseLeft st els st₁ left → left ≡ OptBlock.Some e →
@@ -42,12 +42,12 @@ pub else-stays : (st st₁ : State) (els left : OptBlock) (e : BasicBlockId) →
 else-stays st st₁ els left e q f = subst (λ (x : OptBlock). ElseLeft st x st₁ left) q f
 
 module _ {scene : Scene} {bindings : List ℕ} {M : Mir} {ctx : Ctx} {c : BasicBlockId} {els : OptBlock} {env : Env} (r r′ : Out)
-    (h : Ready (ctx .state) c els) (q : Leaves (ctx .state) c els r) (q′ : Leaves (r .ctx .state) (r .then) (r .else) r′) (s : Shares ctx (r .ctx)) where
+    (h : Ready (ctx .state) c els) (q : Leaves (ctx .state) c els r) (q′ : Leaves (r .ctx .state) (r .then) (r .else) r′) where
   -- a walk to the block that goes on, and one from there
   pub follow : {bs bs′ : List Bound} {b : ℕ} {left : List Line} (w : Walked scene bindings M ctx (c .0) env bs (r .ctx) (r .then .0) (rest (r .ctx .state) M)) →
       Walked scene bindings M (r .ctx) (r .then .0) (w .env′) bs′ (r′ .ctx) b left → Landing (ctx .state) (c .0) (r′ .ctx .state) b →
       Walked scene bindings M ctx (c .0) env (bs ++ bs′) (r′ .ctx) b left
-  follow w u o = walked-seq w u s (q .worked .blocks) (q′ .worked .blocks) (goes-on (q′ .worked) (q .ready .opened)) o (q .then)
+  follow w u o = walked-seq w u (worked-locals (q .worked)) (q .worked .blocks) (q′ .worked .blocks) (goes-on (q′ .worked) (q .ready .opened)) o (q .then)
 
   -- where the first walk led on, it lands where the second does
   pub follows : {bs : List Bound} {b : Bool} (w : Walked scene bindings M ctx (c .0) env [] (r .ctx) (r .then .0) (rest (r .ctx .state) M)) →

@@ -37,9 +37,8 @@ use Rattle.meaning.specs.Values.{Value, Int, partsOf, placeIn}
 use Rattle.meaning.specs.Running.{Held, value, Env, update, valueOf, constantValue, scalarOf, compared, discriminantOf, Scene, partBehind, read, ofPlaceValue, leftValue, rvalueValue, execute, switchNumber}
 use Rattle.correctness.specs.Demand2.{pathOf}
 use Rattle.correctness.proofs.Walking.{Lands}
-use Rattle.correctness.proofs.Sharing.{opens-locals, adds-locals}
 use Rattle.correctness.proofs.Standing.{Rooted, Stands, stands-read, stepped}
-use Rattle.correctness.proofs.Doing.{Does, does-seq, does-block, does-else, does-line, does-temp, update-same, update-other}
+use Rattle.correctness.proofs.Doing.{Does, does-seq, does-block, does-else, does-line, does-temp, update-same, update-other, opens-locals, adds-locals}
 use Rattle.correctness.proofs.Tests.{lands-switch, lands-compare}
 
 -- what the test of a slice's length asks: exactly n without a rest, and at least n with one

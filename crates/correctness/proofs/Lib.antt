@@ -1,8 +1,6 @@
 pub mod Trails
 pub mod Walking
 pub mod Landing
-pub mod Sharing
-pub mod Shared
 pub mod Standing
 pub mod Doing
 pub mod Tests

@@ -41,7 +41,6 @@ use Rattle.meaning.proofs.Typed.{variant-fields}
 use Rattle.meaning.proofs.Children.{tuple-valued, deref-valued}
 use Rattle.correctness.proofs.Walking.{Lands}
 use Rattle.correctness.proofs.Landing.{lands-both}
-use Rattle.correctness.proofs.Sharing.{sharing-range-end}
 use Rattle.correctness.proofs.Standing.{Rooted, rooted-more, Stands, stands-typed, stands-as, stands-onward, stepped}
 use Rattle.correctness.proofs.TestsLead.{lands-const, lands-end, lands-constant}
 use Rattle.correctness.proofs.Rows.{and-all}
@@ -149,7 +148,7 @@ module _ {scene : Scene} {bindings : List ℕ} {M : Mir} {word : ℕ} where
             walked (rangeEnd? (scene .image) p u BinOp.Le start ctx c els place) _ is (λ r₁ e₁ is₁.
             let q : Leaves (ctx .state) c els r₁ = good-range-end (scene .image) p u BinOp.Le start ctx c els place .leaves h r₁ e₁ in
             let q′ : Leaves (r₁ .ctx .state) (r₁ .then) (r₁ .else) r = good-range-end (scene .image) p u (endOp halfOpen) end (r₁ .ctx) (r₁ .then) (r₁ .else) place .leaves (q .ready) r is₁ in
-            lands-both r₁ r h q q′ (sharing-range-end (scene .image) p u BinOp.Le start ctx c els place .shares r₁ e₁)
+            lands-both r₁ r h q q′
             (start-lands p u start first ctx c els place (PlaceTy.Ty u) w s h r₁ e₁ (before r₁ r q q′ x) env)
             (λ env _. end-lands p u end halfOpen last (r₁ .ctx) (r₁ .then) (r₁ .else) place (PlaceTy.Ty u) w s (q .ready) r is₁ x env));
       }
@@ -207,7 +206,6 @@ module _ {scene : Scene} {bindings : List ℕ} {M : Mir} {word : ℕ} where
       choices {ls = l ∷ ls} {ms = m ∷ ms} {fs = f ∷ fs} (cons y a) fit place w s fits =
           and-choice (record {
             grows = y .grows;
-            shares = y .shares;
             lands = λ ctx c root h r is x env.
                 y .lands u (and-left (f (some u)) (itemsAllFit fs (some u)) fit) ctx c OptBlock.None place w root s fits h r (handed (l MatchingMode.Check ctx c OptBlock.None place) r is) x env;
           }) (choices a (and-right (f (some u)) (itemsAllFit fs (some u)) fit) place w s fits)
@@ -218,7 +216,7 @@ module _ {scene : Scene} {bindings : List ℕ} {M : Mir} {word : ℕ} where
           record {
             lands = λ ctx c els place w root s fits h r is x env.
                 subst (λ y. Lands scene bindings M ctx (c .0) env y r (anyOf (map (λ m. m w) ms))) (none-bound ms w)
-                (lands-or (λ ctx ctx₁ c k sh root. rooted-more scene word (ctx .state) (ctx₁ .state) (k .moreLocals) (k .locals) root) p (choices a fit place w s fits) ctx c els root h r is x env);
+                (lands-or (λ ctx ctx₁ c k root. rooted-more scene word (ctx .state) (ctx₁ .state) (k .moreLocals) (k .locals) root) p (choices a fit place w s fits) ctx c els root h r is x env);
           }
 
       -- a variant with arguments in a row

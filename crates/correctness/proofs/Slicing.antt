@@ -37,12 +37,10 @@ use Rattle.meaning.proofs.Parts.{fits-array}
 use Rattle.meaning.proofs.Children.{items-placed, index-valued, end-valued}
 use Rattle.correctness.proofs.Walking.{Lands}
 use Rattle.correctness.proofs.Landing.{lands-both}
-use Rattle.correctness.proofs.Sharing.{sharing-length}
-use Rattle.correctness.proofs.Shared.{sharer-adt}
 use Rattle.correctness.proofs.Standing.{Rooted, Stands}
 use Rattle.correctness.proofs.Lengths.{longTested, lands-length}
 use Rattle.correctness.proofs.Rows.{zipMatch, zip-numbered, zip-end, and-assoc}
-use Rattle.correctness.proofs.Arguments.{AllMeant, meant-grow, meant-share, meant-count, Reached, lands-adt, before, rooted-after}
+use Rattle.correctness.proofs.Arguments.{AllMeant, meant-grow, meant-count, Reached, lands-adt, before, rooted-after}
 
 -- in Check a rest is not looked at
 rest-check : (rest : RestOf) (bindings : List ℕ) (p front end : ℕ) (ctx : Ctx) (c : BasicBlockId) (els : OptBlock) (place : Place) →
@@ -134,7 +132,7 @@ module _ {scene : Scene} {bindings : List ℕ} {M : Mir} {word : ℕ} {ls ks : L
       let second : zipMatch backs ns w ≡ matchAll ns (drop (length (partsOf w) - length ns) (partsOf w)) =
       ap (λ (k : ℕ). zipMatch (suffixItems k) ns w) ks-ns ∙ zip-end ns w (omega arith) in
       subst (λ (b : Bool). Lands scene bindings M ctx (c .0) env [] r b) (ap₂ (λ (y k : Bool). y && k) first second)
-      (lands-both r₁ r h q q′ (sharer-adt p fronts ls (meant-share a) MatchingMode.Check ctx c els place .shares r₁ e₁)
+      (lands-both r₁ r h q q′
       (lands-adt p fronts holds a ctx c els place (PlaceTy.Ty t) w
       (items-placed P (λ i. ProjectionElem.Index i) 0 (length ls) fs u (λ i k. (index-valued (scene .image) t w element fits (0 + i) (omega arith), tt)) front) root s h r₁ e₁ (before r₁ r q q′ x) env)
       (λ env _. lands-adt p backs holds z (r₁ .ctx) (r₁ .then) (r₁ .else) place (PlaceTy.Ty t) w
@@ -178,7 +176,7 @@ module _ {scene : Scene} {bindings : List ℕ} {M : Mir} {word : ℕ} {ls ks : L
         grows-items bindings p ls (restOf rest) ks (meant-grow a) (meant-grow z) MatchingMode.Check (r₁ .ctx) (r₁ .then) (r₁ .else) place .leaves (q .ready) r is₁ in
         subst (λ (b : Bool). Lands scene bindings M ctx (c .0) env [] r b)
         (and-assoc (longEnough rest (length ms + length ns) (length (partsOf w))) (matchAll ms (partsOf w)) (matchAll ns (drop (length (partsOf w) - length ns) (partsOf w))))
-        (lands-both r₁ r h q q′ (sharing-length (restOf rest) (scene .image) p (length ls + length ks) ctx c els place .shares r₁ e₁)
+        (lands-both r₁ r h q q′
         (subst (λ (b : Bool). Lands scene bindings M ctx (c .0) env [] r₁ b) told
         (lands-length p ctx c els (restOf rest) (length ls + length ks) r₁ h root s small e₁ (before r₁ r q q′ x) env))
         (λ env b. lands-items (r₁ .ctx) (r₁ .then) (r₁ .else) place (omega (arith, long-there rest (length ms + length ns) (length (partsOf w)) b)) (rooted-after r₁ q root) s (q .ready) r is₁ x env)))

@@ -36,9 +36,8 @@ use Rattle.meaning.specs.Values.{Value, Bool′}
 use Rattle.meaning.specs.Running.{Held, value, Env, update, valueOf, constantValue, scalarOf, compared, Scene, read, leftValue, rvalueValue, execute, switchNumber}
 use Rattle.correctness.specs.Demand2.{pathOf}
 use Rattle.correctness.proofs.Walking.{Lands}
-use Rattle.correctness.proofs.Sharing.{opens-locals, adds-locals}
 use Rattle.correctness.proofs.Standing.{Stands, stands-read, stepped}
-use Rattle.correctness.proofs.Doing.{does-seq, does-block, does-else, does-line, does-temp, temp-locals, update-same, update-other}
+use Rattle.correctness.proofs.Doing.{does-seq, does-block, does-else, does-line, does-temp, temp-locals, update-same, update-other, opens-locals, adds-locals}
 use Rattle.correctness.proofs.Tests.{bool-switched, lands-switch, lands-compare}
 
 module _ {scene : Scene} {bindings : List ℕ} {M : Mir} {word : ℕ} {place : Place} {ty : PlaceTy} {w : Value} (p : ℕ) (ctx : Ctx) (c : BasicBlockId) (els : OptBlock) where

@@ -35,7 +35,6 @@ use Rattle.meaning.proofs.Typed.{enum-choice, struct-one}
 use Rattle.meaning.proofs.Children.{struct-valued, enum-valued}
 use Rattle.correctness.proofs.Walking.{Lands}
 use Rattle.correctness.proofs.Landing.{lands-both}
-use Rattle.correctness.proofs.Sharing.{sharing-discriminant}
 use Rattle.correctness.proofs.Standing.{Rooted, Stands, stands-typed, stands-as, stands-onward, stepped}
 use Rattle.correctness.proofs.Lengths.{lands-discriminant}
 use Rattle.correctness.proofs.Arguments.{Reached, before, rooted-after}
@@ -147,7 +146,7 @@ module _ {scene : Scene} {bindings : List ℕ} {M : Mir} {word : ℕ} (p v t : �
       let k : Leaves (ctx .state) c els r₁ = good-discriminant (scene .image) p v ctx c els place .leaves h r₁ e₁ in
       let k′ : Leaves (r₁ .ctx .state) (r₁ .then) (r₁ .else) r =
       grows-fields args p (length (variantOf (scene .image) v .fields)) g MatchingMode.Check (r₁ .ctx) (r₁ .then) (r₁ .else) place′ .leaves (k .ready) r is₂ in
-      lands-both r₁ r h k k′ (sharing-discriminant (scene .image) p v ctx c els place .shares r₁ e₁)
+      lands-both r₁ r h k k′
       (subst (λ (b : Bool). Lands scene bindings M ctx (c .0) env [] r₁ b) told (lands-discriminant p ctx c els v r₁ h s small e₁ (before r₁ r k k′ x) env))
       (λ env b.
       let same : v ≡ y = eqb-true v y (sym (variant-is v y vs w q) ∙ b) in

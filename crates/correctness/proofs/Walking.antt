@@ -1,11 +1,12 @@
 -- Runs from one state of the lowering to another, in a body that goes on from there. Assumes nothing.
-use Prim.Native.Nat.{ℕ, _≤_, _<_}
-use native.Mathlib.Nat.{le-trans, lt-of-lt-of-le}
+use native.Mathlib.Omega.{arith}
+use Prim.Native.Nat.{ℕ, _≤_, _<_, _+_}
+use native.Mathlib.Nat.{lt-of-lt-of-le}
 use mathlib.Core.Path.{_≡_, refl, sym, ap, _∙_, subst}
 use mathlib.Core.Logic.{_≢_}
 use mathlib.Core.Bool.{Bool, true, false}
 use mathlib.Core.List.{List, [], _∷_, _++_, append-nil, append-assoc}
-use lib.ListN.{length, drop, length-map}
+use lib.ListN.{length, drop, length-map, length-append}
 use lib.Seq.{drop-append-seam}
 use Rattle.place.specs.declared.LocalId.{LocalId}
 use Rattle.mir.specs.declared.BasicBlockId.{BasicBlockId}
@@ -102,13 +103,11 @@ module _ {scene : Scene} {M : Mir} where
       let c : Closed (terminator st b) = subst Closed (sym e) tt in
       leave st x c (branch (x .kept b c ∙ e) here)
 
--- From a context to a later one: no local is lost
-pub record Shares (ctx ctx₁ : Ctx) : Type 0 where
-  pub more : length (ctx .state .locals) ≤ length (ctx₁ .state .locals)
-
--- from one context to a later one, and on
-pub shares-seq : {ctx ctx₁ ctx₂ : Ctx} → Shares ctx ctx₁ → Shares ctx₁ ctx₂ → Shares ctx ctx₂
-shares-seq f g = record { more = le-trans (f .more) (g .more) }
+-- no work loses a local
+pub worked-locals : {st st₁ : State} {c : ℕ} → Worked st c st₁ → length (st .locals) ≤ length (st₁ .locals)
+worked-locals {st} {st₁} f =
+    let n : length (st₁ .locals) ≡ length (st .locals) + length (f .moreLocals) = ap length (f .locals) ∙ length-append (st .locals) (f .moreLocals) in
+    omega (arith, n)
 
 -- A run in M from the block current behind the lines of ctx to the block b with `left` still to be looked at, which the lowering made on its way to ctx₁:
 -- the locals of ctx get the bindings bs and are else unchanged
@@ -133,7 +132,7 @@ module _ {scene : Scene} {bindings : List ℕ} {M : Mir} where
   module _ {ctx ctx₁ ctx₂ : Ctx} {current b₁ : ℕ} {env : Env} {bs : List Bound} where
     -- one walk after another
     pub walked-seq : {b₂ : ℕ} {left : List Line} {bs′ : List Bound} (w : Walked scene bindings M ctx current env bs ctx₁ b₁ (rest (ctx₁ .state) M)) →
-        Walked scene bindings M ctx₁ b₁ (w .env′) bs′ ctx₂ b₂ left → Shares ctx ctx₁ → count (ctx .state) ≤ count (ctx₁ .state) → count (ctx₁ .state) ≤ count (ctx₂ .state) →
+        Walked scene bindings M ctx₁ b₁ (w .env′) bs′ ctx₂ b₂ left → length (ctx .state .locals) ≤ length (ctx₁ .state .locals) → count (ctx .state) ≤ count (ctx₁ .state) → count (ctx₁ .state) ≤ count (ctx₂ .state) →
         GoesOn (mirOf (ctx₁ .state)) (mirOf (ctx₂ .state)) → Landing (ctx .state) current (ctx₂ .state) b₂ → From (ctx .state) current b₁ →
         Walked scene bindings M ctx current env (bs ++ bs′) ctx₂ b₂ left
     walked-seq {bs′} w u s h₁ h₂ x o f =
@@ -141,7 +140,7 @@ module _ {scene : Scene} {bindings : List ℕ} {M : Mir} where
           env′ = u .env′;
           entered = w .entered ++ u .entered;
           run = chain (w .run) (u .run);
-          locals = λ l i. u .locals l (lt-of-lt-of-le i (s .more)) ∙ ap (after bindings bs′ l) (w .locals l i) ∙ sym (after-append bindings bs bs′ l (env l));
+          locals = λ l i. u .locals l (lt-of-lt-of-le i s) ∙ ap (after bindings bs′ l) (w .locals l i) ∙ sym (after-append bindings bs bs′ l (env l));
           trail = trail-seq (w .trail) (u .trail) x h₁ h₂ o f;
         }
 

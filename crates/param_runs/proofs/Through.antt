@@ -29,8 +29,7 @@ use Rattle.meaning.specs.Binding.{binds}
 use Rattle.meaning.specs.Fit.{boundIn}
 use Rattle.correctness.specs.Demand2.{after}
 use Rattle.correctness.proofs.Trails.{Trail, Landing, trail-here, trail-seq}
-use Rattle.correctness.proofs.Walking.{rest, after-append, Shares, Walked}
-use Rattle.correctness.proofs.Sharing.{shares-same}
+use Rattle.correctness.proofs.Walking.{rest, after-append, worked-locals, Walked}
 use Rattle.correctness.proofs.BindingNames.{names, distinct-apart, distinct-right}
 use Rattle.named.specs.Named.{WordsBelow}
 use Rattle.param_runs.specs.Through.{whole, paramsFit, paramsBind, paramsBound, HeldFrom, Through, end, next}
@@ -38,7 +37,7 @@ use Rattle.param_runs.proofs.Owning.{unchanged, param-case}
 use Rattle.param_runs.proofs.OpenBlocks.{param-opens, params-open}
 use Rattle.param_runs.proofs.Typing.{TypedFrom, typed-grown, NamedParam, named-first, named-rest}
 use Rattle.param_runs.proofs.Words.{words-more}
-use Rattle.param_runs.proofs.Walks.{sceneAt, param-shares, lowered-walks}
+use Rattle.param_runs.proofs.Walks.{sceneAt, lowered-walks}
 use Rattle.param_runs.proofs.Fitting.{asked, fit-first, fit-rest}
 use Rattle.param_runs.proofs.Holding.{SmallFrom, held-later}
 
@@ -59,7 +58,7 @@ module _ (image bindings : List ℕ) (M : Mir) where
 
   -- a value, and then others
   passed-next : {ctx ctx₁ ctx₂ : Ctx} {current b₁ b₂ : ℕ} {env : Env} {l : ℕ} {v : Value} {vs : List Value} {bs bs′ : List Bound} → env l ≡ value v →
-      (w : Walked (sceneAt image l v) bindings M ctx current env bs ctx₁ b₁ (rest (ctx₁ .state) M)) → Passed ctx₁ b₁ (w .env′) (l + 1) vs bs′ ctx₂ b₂ → Shares ctx ctx₁ →
+      (w : Walked (sceneAt image l v) bindings M ctx current env bs ctx₁ b₁ (rest (ctx₁ .state) M)) → Passed ctx₁ b₁ (w .env′) (l + 1) vs bs′ ctx₂ b₂ → length (ctx .state .locals) ≤ length (ctx₁ .state .locals) →
       count (ctx .state) ≤ count (ctx₁ .state) → count (ctx₁ .state) ≤ count (ctx₂ .state) → GoesOn (mirOf (ctx₁ .state)) (mirOf (ctx₂ .state)) →
       Landing (ctx .state) current (ctx₂ .state) b₂ → From (ctx .state) current b₁ → Passed ctx current env l (v ∷ vs) (bs ++ bs′) ctx₂ b₂
   passed-next {env} {bs} {bs′} is w u s h₁ h₂ x o f =
@@ -67,7 +66,7 @@ module _ (image bindings : List ℕ) (M : Mir) where
         env′ = u .env′;
         entered = w .entered ++ u .entered;
         through = next is (w .run) (u .through);
-        locals = λ k i. u .locals k (lt-of-lt-of-le i (s .more)) ∙ ap (after bindings bs′ k) (w .locals k i) ∙ sym (after-append bindings bs bs′ k (env k));
+        locals = λ k i. u .locals k (lt-of-lt-of-le i s) ∙ ap (after bindings bs′ k) (w .locals k i) ∙ sym (after-append bindings bs bs′ k (env k));
         trail = trail-seq (w .trail) (u .trail) x h₁ h₂ o f;
       }
 
@@ -88,7 +87,7 @@ module _ (image bindings : List ℕ) (M : Mir) where
       Landing (ctx .state) current (ctx₁ .state) b₁ → Passed ctx current env l (v ∷ vs) (record { binding = b; what = value v } ∷ bs) ctx₁ b₁
   unfolding own-walked
   passed-own {ctx} {current} {env} b {l} {v} i own is u h x o =
-      passed-next is (own-walked ctx current env b l v i own is) u (shares-same ctx) (le-refl _) h x o (λ j. refl)
+      passed-next is (own-walked ctx current env b l v i own is) u (le-refl _) (le-refl _) h x o (λ j. refl)
 
   module _ (image-valid : valid image ≡ true) (image-bytes : (i : ℕ) → getD image i 0 < 256) where
     -- what a parameter's walk comes to, and that the values of those behind it are held then
@@ -135,10 +134,10 @@ module _ (image bindings : List ℕ) (M : Mir) where
         let o = params-open image bindings qs (l + 1) (r₁ .ctx) (r₁ .then) r (p .ready) e₂ in
         let on = leaves-goes-on (p .ready) o in
         let step = param-step q qs l v vs ctx current env r₁ (named-first image q qs named) starts typed small fit differ held e₁ (goes-on-trans on onward) in
-        let s = param-shares image bindings (q .pattern) l ctx current r₁ starts e₁ in
+        let s = worked-locals (p .worked) in
         passed-next (held .0) (step .walk)
         (params-pass qs (l + 1) vs (r₁ .ctx) (r₁ .then) (step .walk .env′) r (named-rest image q qs named) (p .ready)
         (typed-grown (ctx .state .locals) (r₁ .ctx .state .locals) (p .worked .moreLocals) (l + 1) qs (p .worked .locals) (typed .2)) (small .1)
-        (words-more bindings (length (ctx .state .locals)) (length (r₁ .ctx .state .locals)) (s .more) words) (fit-rest image bindings q qs l v vs fit)
+        (words-more bindings (length (ctx .state .locals)) (length (r₁ .ctx .state .locals)) s words) (fit-rest image bindings q qs l v vs fit)
         (distinct-right (names (boundIn image (tree image (q .pattern)))) (paramsBound image qs) differ) (step .held) e₂ onward)
         s (p .worked .blocks) (o .worked .blocks) on (inl (o .ready .opened)) (p .then))

@@ -7,7 +7,7 @@ use mathlib.Core.Bool.{Bool, true}
 use mathlib.Core.List.{List}
 use lib.ListN.{length, getD}
 use Rattle.image.specs.Valid.{valid}
-use Rattle.image.specs.Tree.{Pat, tree}
+use Rattle.image.specs.Tree.{tree}
 use Rattle.place.specs.Places.{projectionOf}
 use Rattle.mir.specs.declared.BasicBlockId.{BasicBlockId}
 use Rattle.mir.specs.declared.blocks.Terminator.{Terminator}
@@ -16,14 +16,12 @@ use Rattle.state.specs.Steps.{setTerminator}
 use Rattle.lower.specs.declared.merging.OptBlock.{OptBlock}
 use Rattle.views.specs.Views.{Line, Mir, mirOf}
 use Rattle.views.specs.Growing.{GoesOn}
-use Rattle.pattern_matching.specs.declared.MatchingMode.{MatchingMode}
 use Rattle.pattern_matching.specs.Walking.{Ctx, Out, ok, localPlace}
-use Rattle.pattern_matching.specs.Patterns.{patternMatchInner, patternMatch}
-use Rattle.lowered_params.specs.Params.{Param, shutElse, lowerParam}
+use Rattle.pattern_matching.specs.Patterns.{patternMatch}
+use Rattle.lowered_params.specs.Params.{Param, shutElse}
 use Rattle.growth.specs.Opened.{count, Starts, Leaves}
 use Rattle.growth.proofs.States.{count-terminator}
 use Rattle.growth.proofs.Working.{worked-terminator, goes-on, goes-on-refl, goes-on-trans}
-use Rattle.growth.proofs.Walks.{walked}
 use Rattle.growth.proofs.OpenBlocks.{match-leaves}
 use Rattle.meaning.specs.Values.{Value, valueFits}
 use Rattle.meaning.specs.Running.{Env, Scene, value, here}
@@ -31,15 +29,12 @@ use Rattle.meaning.specs.Matching.{matches}
 use Rattle.meaning.specs.Binding.{binds}
 use Rattle.meaning.specs.Fits.{fits}
 use Rattle.correctness.specs.Demand2.{Handed, Fitting}
-use Rattle.correctness.proofs.Walking.{rest, rest-same, Shares, shares-seq, Walked, Lands, walked-later}
+use Rattle.correctness.proofs.Walking.{rest, rest-same, Walked, Lands, walked-later}
 use Rattle.correctness.proofs.Landing.{led-on}
-use Rattle.correctness.proofs.Sharing.{shares-same}
-use Rattle.correctness.proofs.Shared.{sharer}
 use Rattle.correctness.proofs.Drawing.{tree-drawn}
 use Rattle.correctness.proofs.Demand.{lands}
 use Rattle.param_runs.specs.Through.{whole}
 use Rattle.param_runs.proofs.Shutting.{shutOut}
-use Rattle.param_runs.proofs.Owning.{param-case}
 use Rattle.param_runs.proofs.Typing.{NamedParam, local-typed}
 
 -- the value of a local
@@ -51,39 +46,18 @@ record Shut (ctx ctx₁ : Ctx) : Type 0 where
   goes : GoesOn (mirOf (ctx .state)) (mirOf (ctx₁ .state))
   blocks : count (ctx .state) ≤ count (ctx₁ .state)
   statements : ctx₁ .state .statements ≡ ctx .state .statements
-  shares : Shares ctx ctx₁
 
 -- of a walk with no else supplied
 shut-stays : {st : State} {c : BasicBlockId} (ctx : Ctx) (then : BasicBlockId) (els : OptBlock) → Leaves st c OptBlock.None (record { ctx = ctx; then = then; else = els }) →
     Shut ctx (shutElse ctx els)
 unfolding shutElse setTerminator
-shut-stays ctx then OptBlock.None q = record { goes = goes-on-refl (mirOf (ctx .state)); blocks = le-refl _; statements = refl; shares = shares-same ctx }
+shut-stays ctx then OptBlock.None q = record { goes = goes-on-refl (mirOf (ctx .state)); blocks = le-refl _; statements = refl }
 shut-stays ctx then (OptBlock.Some e) q =
     record {
       goes = goes-on (worked-terminator (ctx .state) e Terminator.Unreachable) (q .else .1);
       blocks = omega (arith, count-terminator (ctx .state) e Terminator.Unreachable);
       statements = refl;
-      shares = record { more = le-refl _ };
     }
-
--- both walks of `pattern_match`
-match-shares : (image bindings : List ℕ) (pat : Pat) (l : ℕ) (ctx : Ctx) (current : BasicBlockId) (r : Out) →
-    patternMatch image bindings pat ctx current OptBlock.None (localPlace (record { 0 = l })) ≡ ok r → Shares ctx (r .ctx)
-unfolding patternMatch
-match-shares image bindings pat l ctx current r e =
-    let place = localPlace (record { 0 = l }) in
-    walked (patternMatchInner image bindings pat MatchingMode.Check ctx current OptBlock.None place) _ e (λ r₁ e₁ e₂.
-    shares-seq (sharer image bindings pat MatchingMode.Check ctx current OptBlock.None place .shares r₁ e₁)
-    (sharer image bindings pat MatchingMode.Bind (r₁ .ctx) (r₁ .then) (r₁ .else) place .shares r e₂))
-
--- a parameter loses no local
-pub param-shares : (image bindings : List ℕ) (p l : ℕ) (ctx : Ctx) (current : BasicBlockId) (r : Out) → Starts ctx current OptBlock.None →
-    lowerParam image bindings p l ctx current ≡ ok r → Shares ctx (r .ctx)
-param-shares image bindings p l ctx current r s e =
-    param-case image bindings l ctx current (λ r. Shares ctx (r .ctx)) r p (λ own. shares-same ctx)
-    (λ r₁ other e₁.
-    shares-seq (match-shares image bindings (tree image p) l ctx current r₁ e₁)
-    (shut-stays (r₁ .ctx) (r₁ .then) (r₁ .else) (match-leaves image bindings (tree image p) ctx current OptBlock.None (localPlace (record { 0 = l })) r₁ s e₁) .shares)) e
 
 -- a pattern that is lowered, on a value that matches
 pub lowered-walks : (image bindings : List ℕ) (q : Param) (l : ℕ) (v : Value) (ctx : Ctx) (current : BasicBlockId) (r : Out) (M : Mir) (env : Env) → valid image ≡ true →
