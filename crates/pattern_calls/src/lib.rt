@@ -93,16 +93,7 @@ pub fn pattern_match_assignment(
         Opened::BadImage => MatchCall::BadImage,
         Opened::BadCall => MatchCall::BadCall,
         Opened::Image(tables) => {
-            if !assignment_holds(
-                tables,
-                bindings,
-                blocks,
-                visits,
-                counts,
-                p,
-                current,
-                place,
-            ) {
+            if !assignment_holds(tables, bindings, blocks, visits, counts, p, current, place) {
                 return MatchCall::BadCall;
             }
             assignment_step(
