@@ -300,8 +300,8 @@ def is_sheet(sheet):
     return not faults or faults == ['patternsWithinLimit'] and not decode(sheet).patterns
 
 
-def read(text, sheet, names, expected):
-    """the image's bytes, or the three numbers of a refusal"""
+def reader_of(text, sheet, names, expected):
+    """the reader of a text that is taken, or the three numbers of a refusal"""
     if len(text) > LONGEST_TEXT:
         return 19, LONGEST_TEXT, 0
     try:
@@ -310,16 +310,21 @@ def read(text, sheet, names, expected):
         return 19, failed.args[0], 0
     if not is_sheet(sheet):
         return 1, ABSENT, 0
-    m = decode(sheet)
-    if expected >= len(m.types) or breaks_a_rule(names, m):
+    reader = Reader(text, decode(sheet), names)
+    if expected >= len(reader.m.types) or breaks_a_rule(names, reader.m):
         return 2, ABSENT, 0
-    reader = Reader(text, m, names)
     reader.pattern(tree, expected, VALUE)
     if reader.failed:
         return 20, min(reader.failed), 0
-    if past_a_limit(m):
-        return 1, ABSENT, 0
-    image = m.encode()
+    return (1, ABSENT, 0) if past_a_limit(reader.m) else reader
+
+
+def read(text, sheet, names, expected):
+    """the image's bytes, or the three numbers of a refusal"""
+    answer = reader_of(text, sheet, names, expected)
+    if isinstance(answer, tuple):
+        return answer
+    image = answer.m.encode()
     assert not broken(image), (text, broken(image))
     return image
 
