@@ -1,5 +1,5 @@
 #!/usr/bin/env python3
-"""texts.py [quick|full] [SEED]: rustc as the judge of samples/reading.py on pattern texts.
+"""texts.py [few|quick|full] [SEED]: rustc as the judge of samples/reading.py on pattern texts.
 
 First the grammar: texts made by the grammar, damaged ones and the corners are matched as `$p:pat` in edition 2021. What reading.py takes
 rustc must take, and what it refuses with 19 rustc must refuse, but for the forms of LEFT_OUT. Then types: texts over the sample classes
@@ -23,7 +23,7 @@ from typed_texts import typed
 from tokens import token
 
 # texts of the grammar, and typed texts of each class
-COUNTS = {'quick': (4000, 1500), 'full': (30000, 8000)}
+COUNTS = {'few': (300, 700), 'quick': (4000, 1500), 'full': (30000, 8000)}
 EXTRAS = ['"s"', "b'a'", 'b"s"', 'c"s"', '1u8', '0x1F', '1.5', '1e3', '1.', '...', 'A!()', 'A::<u8>', '<A>::B', '::A', 'self', 'Self::A',
           'super::A', 'crate::A', 'é', 'xé', 'box x', 'mut ref x', "'ab'", "'a", "''", '/* a */', '// a\n', '/** a */', '#', '$', '\\', '~',
           'if', 'r#if', 'r#self', "'\\u{D800}'", "'\\u{1_F6A9}'", '1_', '7é', '_x', '__', 'dyn', 'gen', '\u2028', '=>', '|=', '&=', '->',

@@ -52,3 +52,13 @@ def first_number(table, name, *kinds):
 def field_number(table, name, v):
     """the number of the first field of a variant with this name"""
     return next((row[1] for row in rows(table) if row[0] == FIELD_ROW and row[2] == v and name_of(table, row) == name), None)
+
+
+def name_table(*given):
+    """a table of rows: kind, number, of and name"""
+    words, names = [], b''
+    for kind, number, of, name in given:
+        words += [kind, number, of, len(names), len(name)]
+        names += name
+    rest = struct.pack(f'>2H{len(words)}H', len(given), len(names), *words) + names
+    return struct.pack('>IB', len(rest) + 1, 1) + rest

@@ -19,7 +19,7 @@ END {
 }
 
 function fault(said) {
-    print FILENAME ":" (ended && tokens ? line[at < tokens ? at : tokens - 1] : FNR) ": " said | "cat 1>&2"
+    print FILENAME ":" (ended && tokens ? line[at < tokens ? at : tokens - 1] : FNR ? FNR : 1) ": " said | "cat 1>&2"
     close("cat 1>&2")
     faulty = 1
     exit 1
