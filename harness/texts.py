@@ -23,7 +23,7 @@ from typed_texts import typed
 from tokens import token
 
 # texts of the grammar, and typed texts of each class
-COUNTS = {'few': (300, 700), 'quick': (4000, 1500), 'full': (30000, 8000)}
+COUNTS = {'few': (300, 400), 'quick': (4000, 1200), 'full': (30000, 8000)}
 EXTRAS = ['"s"', "b'a'", 'b"s"', 'c"s"', '1u8', '0x1F', '1.5', '1e3', '1.', '...', 'A!()', 'A::<u8>', '<A>::B', '::A', 'self', 'Self::A',
           'super::A', 'crate::A', 'é', 'xé', 'box x', 'mut ref x', "'ab'", "'a", "''", '/* a */', '// a\n', '/** a */', '#', '$', '\\', '~',
           'if', 'r#if', 'r#self', "'\\u{D800}'", "'\\u{1_F6A9}'", '1_', '7é', '_x', '__', 'dyn', 'gen', '\u2028', '=>', '|=', '&=', '->',
@@ -38,6 +38,7 @@ LEFT_OUT = {
     'generic arguments or a qualified path': rb'<|>|::',
     '`self`, `Self`, `super`, `crate`': rb'(?:self|Self|super|crate)\b',
     'a name that is not ASCII': rb'[\x80-\xff]',
+    'an attribute, as a doc comment is one': rb'#|//[/!]|/\*[*!]',
 }
 
 
@@ -172,9 +173,18 @@ def kinds_from(text, at, most=24):
     return ' '.join(t[0] for t in found)
 
 
+def kinds_before(text, at):
+    """the kinds of the tokens before this place"""
+    found = []
+    while True:
+        found.append(token(text, found[-1][2] if found else 0))
+        if found[-1][1] >= at or found[-1][0] in ('end', 'fails'):
+            return [t[0] for t in found[:-1]]
+
+
 def parser_only(text, at):
     """what rustc's parser alone takes at this place, or None"""
-    kinds, before = kinds_from(text, at), kinds_from(text, 0, 200)[:-len(kinds_from(text, at, 200))].split()
+    kinds, before = kinds_from(text, at), kinds_before(text, at)
     if kinds.startswith('dot-dot'):
         return 'a rest that is no list item, or the second'
     if too_wide(text, at):
@@ -183,7 +193,7 @@ def parser_only(text, at):
         return '`a..` as a slice item'
     if before[-1:] == ['minus'] and kinds.startswith(('true', 'false', 'char')):
         return 'a minus before a bool or a char'
-    if before[-1:] == ['integer'] and kinds.startswith(('comma', 'close-brace')):
+    if before[-1:] == ['integer'] and kinds.startswith(('comma', 'close-brace')) or before[-1:] in (['ref'], ['mut']) and kinds.startswith('integer'):
         return 'a tuple index without a colon'
     return next((name for name, form in PARSER_ONLY.items() if re.match(form, text[at:])), None)
 
@@ -191,7 +201,7 @@ def parser_only(text, at):
 def left_out(text, at):
     """why rustc takes what is refused at this place, or None"""
     form = next((name for name, form in LEFT_OUT.items() if re.match(form, text[at:])), None)
-    if re.search(rb'::\s*$', text[:at]) and text[at:at + 1] == b'(':
+    if kinds_before(text, at)[-1:] == ['path-sep'] and text[at:at + 1] == b'(':
         form = 'generic arguments or a qualified path'
     if parser_only(text, at):
         return f"taken by rustc's parser alone: {parser_only(text, at)}"
@@ -232,7 +242,7 @@ def main(mode='quick', seed='1851'):
     with tempfile.TemporaryDirectory() as room:
         judge = Judge(room)
         wrong = told('texts as `$p:pat`', *compare_grammar(judge, int(seed), grammar))
-        for name in ('text', 'laser'):
+        for name in ('text', 'laser', 'mixed'):
             wrong += told(f'texts over samples/{name}.class', *typed(judge, name, int(seed), each))
         print(f'{judge.runs} runs of rustc')
     return 1 if wrong else 0

@@ -132,10 +132,12 @@ def type_cases():
     yield 'odd-flag-is-set', b'&(x, y)', m.encode(), NAMES, odd_ref
     both = m.add_type(REFERENCE, odd_ref, copy=0)
     under = m.add_type(REFERENCE, both)
+    pair_ref = m.add_type(REFERENCE, pair_mut)
     yield 'ref-mut-then-ref', b'(x, _)', m.encode(), NAMES, both
     yield 'ref-stays', b'(x, ref mut y)', m.encode(), NAMES, under
     yield 'set-back', b'&(x, &mut &y)', m.encode(), NAMES, under
     yield 'set-back-below', b'&&mut (x, y)', m.encode(), NAMES, under
+    yield 'ref-stays-behind-ref-mut', b'(x, _)', m.encode(), NAMES, pair_ref
     yield 'array-flagged', b'x', m.encode(), NAMES, odd_array
 
 

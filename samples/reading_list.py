@@ -22,8 +22,8 @@ from records import record
 from text_chance import chance_texts
 
 READING, LONGEST_LINE = 6, 160
-SEED, CHANCE = 1401, 120
-CLASSES = {'text': 0, 'laser': 14}
+SEED, CHANCE = 1401, 80
+CLASSES = {'text': 0, 'laser': 14, 'mixed': 2}
 
 
 def calls():
