@@ -1,8 +1,8 @@
 """A name table's bytes: the rules on them, and how a name is found.
 
-Four bytes big-endian, how many follow; version byte 1; the words N, at most 1,024, and C, at most 16,384; N rows of five words, kind, number,
-of, start and count; C bytes of names. Kind 1 is the variant `number`, kind 2 the field `number` of the variant `of`, kind 3 the constant
-whose operand stands at the list word `number`."""
+Four bytes big-endian, how many follow; version byte 1; the words N, at most 1,024, and C, at most 16,384; N rows of
+five words, kind, number, of, start and count; C bytes of names. Kind 1 is the variant `number`, kind 2 the field
+`number` of the variant `of`, kind 3 the constant whose operand stands at the list word `number`."""
 import struct
 
 from images import CONSTANT, holds

@@ -1,11 +1,11 @@
 #!/usr/bin/env python3
-"""reading.py: reads a pattern's text into an image, or refuses it with 19, 20, 1 or 2.
-reading.py --corners: how many corners of text_corners.txt come out as they stand there.
+"""reading.py --corners: how many corners of text_corners.txt come out as they stand there.
 reading.py SHEET NAMES TYPE TEXT..: what each text adds to the sheet, or its refusal.
-reading.py --program: standard input and output as the program `read_pattern` will have them.
+reading.py --program: stands in for the program that reads a text, on standard input and output.
 
-Written from request S-14 and the Reference alone (edition 2021), so that the definitions have something to differ from. Tokens and grammar
-are those of tokens.py and grammar.py; here stand names, types, derefs, modes, the image, and the order of the refusals."""
+`read` reads a pattern's text into an image, or refuses it with 19, 20, 1 or 2. Written from request S-14 and the
+Reference alone (edition 2021), so that the definitions have something to differ from. Tokens and grammar are those
+of tokens.py and grammar.py; here stand names, types, derefs, modes, the image, and the order of the refusals."""
 import re
 import sys
 from pathlib import Path
@@ -46,7 +46,7 @@ def rest_of(item):
 
 
 class Reader:
-    """Writes a tree's patterns behind a sheet's tables as they close; `failed` has the positions of what number 20 is given for."""
+    """Writes a tree's patterns behind a sheet's tables as they close; `failed` has the places that number 20 is given for."""
 
     def __init__(self, text, m, names):
         self.text, self.m, self.names = text, m, names
@@ -329,18 +329,18 @@ def read(text, sheet, names, expected):
     return image
 
 
+def part(given, before):
+    """the bytes whose length the first four tell, those four among them where `before` is 4; and what follows them"""
+    end = 4 + int.from_bytes(given[:4], 'big')
+    return given[4 - before:end], given[end:]
+
+
 def program(given):
-    """what the program writes for its standard input: sheet and names, each with its length before it, a word, and the text behind its length"""
-    parts, at = [], 0
-    for own in (4, 4, 0):
-        size = own + int.from_bytes(given[at:at + 4], 'big')
-        parts.append(given[at + (0 if own else 4):at + (0 if own else 4) + size])
-        at += size
-        if len(parts) == 2:
-            expected = int.from_bytes(given[at:at + 2], 'big')
-            at += 2
-    sheet, names, text = parts
-    answer = read(text, sheet, names, expected)
+    """what the program writes for its standard input: the sheet, the name table, the expected type as a word, and the text behind its length"""
+    sheet, rest = part(given, 4)
+    names, rest = part(rest, 4)
+    text, _ = part(rest[2:], 0)
+    answer = read(text, sheet, names, int.from_bytes(rest[:2], 'big'))
     return answer if isinstance(answer, bytes) else b'refused %d %d %d\n' % answer
 
 

@@ -1,4 +1,5 @@
-"""Calls on the reader of texts at its edges: the order of the refusals, broken sheets and name tables, names and types alike, limits.
+"""Calls on the reader of texts at its edges: the order of the refusals, broken sheets and name tables, names and
+types alike, limits.
 
 A case is its name, the text, the sheet, the name table and the expected type."""
 import struct
@@ -36,6 +37,62 @@ def small():
 ROWS = ((VARIANT_ROW, 0, 0, b'S'), (FIELD_ROW, 0, 0, b'a'), (FIELD_ROW, 1, 0, b'b'), (VARIANT_ROW, 1, 0, b'E::A'), (VARIANT_ROW, 2, 0, b'E::B'),
         (FIELD_ROW, 0, 2, b'0'), (CONSTANT_ROW, 0, 0, b'LAST'), (VARIANT_ROW, 1, 0, b'A'), (VARIANT_ROW, 3, 0, b'U'), (FIELD_ROW, 0, 3, b'raw'))
 SHEET, NAMES = small().encode(), name_table(*ROWS)
+
+
+# Texts on the struct, and on the enum.
+OF_S = '''S { a, b }
+S { ref a, mut b, }
+S { r#a: r#b, .. }
+S { c: _ }
+S { ref c }
+S { a: _, ref r#c }
+S { 0: _ }
+S { LAST }
+S {}
+S { a: 1, a: 2 }
+S(x, y)
+S(..)
+S(x, .., y)
+S(x, y, z)
+S(x, y, .., z)
+S (.., x, y, z)
+E::B(x)'''
+OF_E = '''E::B { 0: x }
+E::B { 00: x }
+E::B { 0_: x }
+E::B(x) | E::A
+E /* a */ :: /* b */ A
+r#E::r#A
+ref A
+mut A
+A @ _
+ref r#A
+E::A @ _
+S { a, .. }
+S { ref a, .. }
+S { ref c, .. }
+E::B
+E::B()
+U { raw }
+LAST
+LAST @ 1
+E
+E::C
+E::A {}
+E::A()'''
+# Texts, two spaces between them, behind the number of their type.
+TYPED = '''0 [x @ ..]  []  [..]  [x]  ()  (x,)  S {}  E::B()  (((x)))  | x  x @ x  x | x
+1 &x  &mut x  & &x  &&x  x  1  1..LAST  x @ 1  1 | _
+2 &mut x  &x  LAST  (x)
+3 (x, ref mut y)  (x, ref y) | (ref y, x)  (..)  (.., x)  (x, y, ..)  (x, .., y, z)  (x)  (x,)  x @ (y, z)
+6 [x, ..]  [x, y @ ..]  [ref y @ .., x]  [y @ .., a, b, c]  [y @ .., a, b, c, d]  [a, b, c, d, e]
+7 []  [x @ ..]  [ref x @ .., y]  [A @ ..]
+8 true | false  '\\u{1F6A9}'  'z'..=true'''
+
+
+def called(text):
+    """a text as a name, which has no spaces"""
+    return text.replace(' ', '_')
 
 
 def changed(content, at, value):
@@ -100,12 +157,10 @@ def found_cases():
                               ('spaces-in-a-row', b'E::A', ((VARIANT_ROW, 1, 0, b'E :: A'),)), ('keyword', b'r#if', ((VARIANT_ROW, 1, 0, b'if'),)),
                               ('row-of-nothing', b'_', ((VARIANT_ROW, 1, 0, b''),)), ('path-of-a-record', b'S', ROWS), ('part-of-a-path', b'E', ROWS)):
         yield name, text, SHEET, name_table(*table), E
-    for text in (b'S { a, b }', b'S { ref a, mut b, }', b'S { r#a: r#b, .. }', b'S { c: _ }', b'S { ref c }', b'S { a: _, ref r#c }', b'S { 0: _ }', b'S { LAST }',
-                 b'S {}', b'S { a: 1, a: 2 }', b'S(x, y)', b'S(..)', b'S(x, .., y)', b'S(x, y, z)', b'S(x, y, .., z)', b'S (.., x, y, z)', b'E::B(x)'):
-        yield text.decode().replace(' ', '_'), text, SHEET, NAMES, S
-    for text in (b'E::B { 0: x }', b'E::B { 00: x }', b'E::B { 0_: x }', b'E::B(x) | E::A', b'E /* a */ :: // b\n A', b'r#E::r#A', b'ref A', b'mut A', b'A @ _', b'ref r#A',
-                 b'E::A @ _', b'S { a, .. }', b'S { ref a, .. }', b'S { ref c, .. }', b'E::B', b'E::B()', b'U { raw }', b'LAST', b'LAST @ 1', b'E', b'E::C', b'E::A {}', b'E::A()'):
-        yield 'e:' + text.decode().replace(' ', '_').replace('\n', ''), text, SHEET, NAMES, E
+    for text in OF_S.splitlines():
+        yield called(text), text.encode(), SHEET, NAMES, S
+    for text in OF_E.splitlines():
+        yield 'e:' + called(text), text.encode(), SHEET, NAMES, E
     yield 'constant-as-a-field', b'U { raw: LAST }', SHEET, name_table(*ROWS, (CONSTANT_ROW, 0, 0, b'raw')), RAW
     yield 'shorthand-is-a-constant', b'U { raw }', SHEET, name_table(*ROWS, (CONSTANT_ROW, 0, 0, b'raw')), RAW
     yield 'shorthand-is-a-constant-by-ref', b'U { ref raw }', SHEET, name_table(*ROWS, (CONSTANT_ROW, 0, 0, b'raw')), RAW
@@ -113,13 +168,10 @@ def found_cases():
 
 def type_cases():
     """parts, derefs, modes, and types alike"""
-    for expected, text in ((BY_REF, b'&x'), (BY_REF, b'&mut x'), (BY_MUT, b'&mut x'), (BY_MUT, b'&x'), (BY_REF, b'& &x'), (BY_REF, b'&&x'), (BY_REF, b'x'), (BY_REF, b'1'),
-                           (BY_MUT, b'LAST'), (BY_REF, b'1..LAST'), (BY_REF, b'x @ 1'), (BY_REF, b'1 | _'), (BY_MUT, b'(x)'), (PAIR, b'(x, ref mut y)'), (PAIR, b'(x, ref y) | (ref y, x)'),
-                           (PAIR, b'(..)'), (PAIR, b'(.., x)'), (PAIR, b'(x, y, ..)'), (PAIR, b'(x, .., y, z)'), (PAIR, b'(x)'), (PAIR, b'(x,)'), (PAIR, b'x @ (y, z)'),
-                           (THREE, b'[x, ..]'), (THREE, b'[x, y @ ..]'), (THREE, b'[ref y @ .., x]'), (THREE, b'[y @ .., a, b, c]'), (THREE, b'[y @ .., a, b, c, d]'), (THREE, b'[a, b, c, d, e]'),
-                           (SLICE, b'[]'), (SLICE, b'[x @ ..]'), (SLICE, b'[ref x @ .., y]'), (SLICE, b'[A @ ..]'), (U8, b'[x @ ..]'), (U8, b'[]'), (U8, b'[..]'), (U8, b'[x]'), (U8, b'()'),
-                           (U8, b'(x,)'), (U8, b'S {}'), (U8, b'E::B()'), (U8, b'(((x)))'), (U8, b'| x'), (U8, b'x @ x'), (U8, b'x | x'), (BOOLEAN, b'true | false'), (BOOLEAN, b"'\\u{1F6A9}'")):
-        yield f't{expected}:' + text.decode().replace(' ', '_'), text, SHEET, NAMES, expected
+    for line in TYPED.splitlines():
+        expected, texts = line.split(' ', 1)
+        for text in texts.split('  '):
+            yield f't{expected}:{called(text)}', text.encode(), SHEET, NAMES, int(expected)
     m = small()
     odd_ref, odd_array = m.add_type(REFERENCE, PAIR, 7, 9, 2), m.add_type(ARRAY, U8, 1, 8, 3)
     pair_mut = m.add_type(REFERENCE, PAIR, copy=0)
@@ -161,7 +213,7 @@ def limit_cases():
         yield f'{derefs}-derefs', b'7', *chain(derefs)
         yield f'{derefs}-derefs-of-a-name', b'x', *chain(derefs)
     for text in (b'7', b'()', b'(x,)', b'[..]', b'[x @ ..]', b'&x', b'x'):
-        yield 'round:' + text.decode().replace(' ', '_'), text, *chain(2, True)
+        yield 'round:' + called(text.decode()), text, *chain(2, True)
     for many in (256, 257):
         wide = Image()
         wide.add_type(INTEGER, 1)

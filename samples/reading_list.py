@@ -1,11 +1,12 @@
 #!/usr/bin/env python3
 """reading_list.py: writes the stored list of texts that are read: readings.in, readings.out and readings.txt.
-reading_list.py --check: writes none, and fails if one is not what it would write, or a class file's tables are not what scripts/class_file makes.
+reading_list.py --check: writes none, and fails if one is not what it would write, or a class file's tables are not
+what scripts/class_file makes of it.
 
-A record of readings.in is a byte 6, the sheet as any record has its image (records.py), the name table behind its length in four big-endian
-bytes, the expected type as a big-endian word, and the text behind its length in four bytes. readings.out has a line for each: `image` and the
-image's bytes in hexadecimal, or the refusal. readings.txt has for each its number from 1, its name, and what is added to the sheet, cut at 160
-characters, or the refusal."""
+A record of readings.in is a byte 6; the sheet, as any record has its image (records.py); the name table behind its
+length in four big-endian bytes; the expected type as a big-endian word; and the text behind its length in four
+bytes. readings.out has a line for each: `image` and the image's bytes in hexadecimal, or the refusal. readings.txt
+has for each its number from 1, its name, and the refusal or what is added to the sheet, cut at 160 characters."""
 import struct
 import subprocess
 import sys

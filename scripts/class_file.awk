@@ -1,5 +1,6 @@
-# class_file.awk: reads a class file and writes its type sheet, its name table and its expected type as lines `sheet`, `names` or `expected` and bytes in octal
-# notation. What a class file has is said in scripts/class_file. The first fault is told with its line, and the status is then 1.
+# class_file.awk: reads a class file and writes its type sheet, its name table and its expected type, as lines that
+# begin with `sheet`, `names` or `expected` and have bytes in octal notation. What a class file has is said in
+# scripts/class_file. The first fault is told with its line, and the status is then 1.
 
 # Words of the file: tokens one behind the other, each with its line.
 {
@@ -36,7 +37,8 @@ function skipped() {
 }
 
 function token_of_text() {
-    if (match(text, /^(r#)?[A-Za-z_][A-Za-z0-9_]*/) || match(text, /^[0-9][0-9A-Za-z_]*/) || match(text, /^'(\\u[{][^}']*[}]|\\.[^'\\]*|[^'\\]+)'/) || match(text, /^::/) || match(text, /^[][(){},;:=&*-]/)) {
+    if (match(text, /^(r#)?[A-Za-z_][A-Za-z0-9_]*/) || match(text, /^[0-9][0-9A-Za-z_]*/) ||
+        match(text, /^'(\\u[{][^}']*[}]|\\.[^'\\]*|[^'\\]+)'/) || match(text, /^::/) || match(text, /^[][(){},;:=&*-]/)) {
         token[tokens] = substr(text, 1, RLENGTH)
         line[tokens++] = FNR
         text = substr(text, RLENGTH + 1)
