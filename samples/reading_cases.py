@@ -189,9 +189,9 @@ def type_cases():
     yield 'ref-stays', b'(x, ref mut y)', m.encode(), NAMES, under
     yield 'set-back', b'&(x, &mut &y)', m.encode(), NAMES, under
     yield 'set-back-below', b'&&mut (x, y)', m.encode(), NAMES, under
-    nested = m.add_tuple_type(U8, PAIR)
-    yield 'behind-a-name', b'(_, x @ (y, z))', m.encode(), NAMES, m.add_type(REFERENCE, nested)
-    yield 'behind-a-name-by-mut', b'(_, mut x @ (y, ref z))', m.encode(), NAMES, len(m.types) - 1
+    nested = m.add_type(REFERENCE, m.add_tuple_type(U8, PAIR))
+    yield 'behind-a-name', b'(_, x @ (y, z))', m.encode(), NAMES, nested
+    yield 'behind-a-name-by-mut', b'(_, mut x @ (y, ref z))', m.encode(), NAMES, nested
     yield 'ref-stays-behind-ref-mut', b'(x, _)', m.encode(), NAMES, pair_ref
     yield 'array-flagged', b'x', m.encode(), NAMES, odd_array
 
