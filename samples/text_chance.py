@@ -68,7 +68,7 @@ class Texts:
         self.made += 1
         name = 'x' if self.often(0.03) else f'v{self.made}'
         text = self.rng.choice(['', '', '', 'ref ', 'mut ', 'ref mut ']) + ('r#' if self.often(0.05) else '') + name
-        if depth > 0 and self.often(0.2):
+        if depth > 0 and self.often(0.35):
             below = self.one(type_, depth - 1)
             return f'{text} @ {below}' if '|' not in below else f'{text} @ ({below})'
         return text
