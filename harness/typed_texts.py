@@ -3,8 +3,10 @@ import re
 from collections import Counter
 from pathlib import Path
 
-from images import ADT, ARRAY, BOOL, CHAR, CONSTANT, ENUM, INTEGER, PATH, RANGE, REFERENCE, SLICE_TYPE, STR, TUPLE_TYPE, UNION, decode
-from name_tables import FIELD_ROW, VARIANT_ROW, name_of, rows
+from images import (
+    ADT, ARRAY, BOOL, CHAR, ENUM, INTEGER, NAMES_CONSTANT, NAMES_VARIANT, PATH, RANGE, REFERENCE, SLICE_TYPE, STR, TUPLE_TYPE, UNION, decode,
+)
+from name_tables import CONSTANT_ROW, FIELD_ROW, VARIANT_ROW, name_of, rows
 from reading import reader_of
 from reading_corners import class_tables, corners, image_fits
 from text_chance import chance_texts
@@ -20,27 +22,31 @@ class Declarations:
         self.source = (SAMPLES / f'{name}.class').read_text()
         self.sheet, self.names = class_tables(name)
         self.m = decode(self.sheet)
-        self.owner, self.fields, self.variants = {}, {}, {}
+        self.fields, self.variants, self.constants = {}, {}, {}
+        declared = dict(re.findall(r'^const ([\w:]+): (\w+)', self.source, re.M))
         for row in rows(self.names):
+            if row[0] == CONSTANT_ROW:
+                self.constants[row[1]] = declared[name_of(self.names, row).decode()]
             if row[0] == VARIANT_ROW:
                 self.variants.setdefault(row[1], name_of(self.names, row).decode())
             if row[0] == FIELD_ROW:
                 self.fields[row[2], row[1]] = name_of(self.names, row).decode()
 
-    def type_text(self, t, life=''):
-        """a type, references with this lifetime"""
-        kind, a, b, _, flag = self.m.types[t]
+    def type_text(self, t, life='', m=None):
+        """a type of these tables, or of the sheet's own, references with this lifetime"""
+        m = m or self.m
+        kind, a, b, _, flag = m.types[t]
         if kind == INTEGER:
             return f"{'i' if b == 1 else 'u'}{8 * a}"
         if kind == TUPLE_TYPE:
-            return '(' + ''.join(self.type_text(f, life) + ', ' for f in self.m.list[a:a + b]) + ')'
+            return '(' + ''.join(self.type_text(f, life, m) + ', ' for f in m.list[a:a + b]) + ')'
         if kind == ADT:
             return self.variants[a].split('::')[0]
         if kind == REFERENCE:
-            return f"&{life} {'' if flag else 'mut '}{self.type_text(a, life)}"
+            return f"&{life} {'' if flag else 'mut '}{self.type_text(a, life, m)}"
         if kind == ARRAY:
-            return f'[{self.type_text(a, life)}; {b}]'
-        return f'[{self.type_text(a, life)}]' if kind == SLICE_TYPE else {BOOL: 'bool', CHAR: 'char', STR: 'str'}[kind]
+            return f'[{self.type_text(a, life, m)}; {b}]'
+        return f'[{self.type_text(a, life, m)}]' if kind == SLICE_TYPE else {BOOL: 'bool', CHAR: 'char', STR: 'str'}[kind]
 
     def variant(self, v):
         """a variant's fields as declared"""
@@ -81,24 +87,28 @@ class Case:
     """A text with its expected type, and how it is read."""
 
     def __init__(self, declarations, text, expected):
-        self.text, self.expected, self.bound, self.said, self.code = text, expected, [], '', ''
+        self.declarations, self.text, self.expected = declarations, text, expected
+        self.bound, self.said, self.code = [], '', ''
         answer = reader_of(text, declarations.sheet, declarations.names, expected)
         self.refusal = answer if isinstance(answer, tuple) else None
         self.fits = self.refusal is None and image_fits(answer.m.encode(), expected)
         self.m = None if self.refusal else answer.m
         if self.fits:
-            names = Declarations.__new__(Declarations)
-            names.__dict__.update(declarations.__dict__, m=answer.m)
-            self.bound = [(name.decode(), names.type_text(answer.m.bindings[b][0])) for name, b in answer.bound.items()]
+            self.bound = [(name.decode(), declarations.type_text(self.m.bindings[b][0], '', self.m)) for name, b in answer.bound.items()]
 
-    def has_constant(self):
-        words = [row[4] for row in self.m.patterns if row[0] == PATH and row[3] == 3]
-        ends = [w for row in self.m.patterns if row[0] == RANGE for w in row[3:5] if w < len(self.m.list)]
-        return bool(words) or any(self.m.list[w] == CONSTANT for w in ends)
+    def has_odd_constant(self):
+        """a constant stands on a reference, or where another type is due than its own"""
+        types = self.declarations.constants
+        for kind, type_, derefs, a, b, _, _ in self.m.patterns:
+            words = [b] if kind == PATH and a == NAMES_CONSTANT else [a, b] if kind == RANGE else []
+            due = self.declarations.type_text(type_, '', self.m)
+            if any(types.get(word, due) != due for word in words) or words and kind == PATH and derefs:
+                return True
+        return False
 
     def has_bare_variant(self):
         """a variant with fields stands as a path"""
-        return any(row[0] == PATH and row[3] == 1 and self.m.variants[row[4]][1] for row in self.m.patterns)
+        return any(row[0] == PATH and row[3] == NAMES_VARIANT and self.m.variants[row[4]][1] for row in self.m.patterns)
 
     def has_union(self):
         return any(self.m.types[row[1]][0] == ADT and self.m.types[row[1]][3] == UNION for row in self.m.patterns)
@@ -111,33 +121,36 @@ PARTED = (
     ('a record that leaves fields out without `..`', lambda c: c.code in ('E0027', 'E0769')),
     ('an empty range', lambda c: c.code in ('E0030', 'E0579')),
     ('a binding by value at a type without a size', lambda c: c.code == 'E0277' and 'size' in c.said),
-    ('a constant on a reference, or of another type of its size', lambda c: c.code in ('E0308', 'E0029') and c.has_constant()),
+    ('a constant on a reference, or of another type of its size', lambda c: c.code in ('E0308', 'E0029') and c.has_odd_constant()),
     ('a variant in another form than it is declared in', lambda c: c.code in ('E0532', 'E0164')),
 )
 
 
 def judged(judge, declarations, cases):
-    """each case with rustc's first word on it; what is right is asked again until nothing is wrong, since rustc stops early"""
-    left = list(cases)
-    while left:
-        source, line, owner = [declarations.rust()], 1, {}
-        line += source[0].count('\n')
-        for number, case in enumerate(left):
-            source.append(declarations.arm(number, case.text, case.expected, case.bound))
-            last = line + source[-1].count('\n')
-            for at in range(line, last):
-                owner[at] = case, at == last - 2
-            line = last
-        found = False
-        for code, message, lines in judge.errors('#![allow(warnings)] ' + ''.join(source)):
-            for at in lines:
-                case, checks = owner[at]
-                found = True
-                if not case.said:
-                    case.said, case.code = message, 'bound' if checks else code
-        left = [case for case in left if not case.said]
+    """each case has rustc's first word on it; what is right is asked again until nothing is wrong, since rustc stops early"""
+    left = cases
+    while True:
+        source, owner = arms(declarations, left)
+        found = [(code, message, owner[line]) for code, message, lines in judge.errors(source) for line in lines]
         if not found:
             return
+        for code, message, (case, checks) in found:
+            if not case.said:
+                case.said, case.code = message, 'bound' if checks else code
+        left = [case for case in left if not case.said]
+
+
+def arms(declarations, cases):
+    """a file of match arms, and for each of their lines the case, and whether the bindings' types stand there"""
+    source = '#![allow(warnings)] ' + declarations.rust()
+    line, owner, parts = 1 + source.count('\n'), {}, [source]
+    for number, case in enumerate(cases):
+        parts.append(declarations.arm(number, case.text, case.expected, case.bound))
+        last = line + parts[-1].count('\n')
+        for at in range(line, last):
+            owner[at] = case, at == last - 2
+        line = last
+    return ''.join(parts), owner
 
 
 def sort_of(case):
