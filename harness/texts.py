@@ -148,9 +148,11 @@ def spiced(rng, text):
 
 def grammar_texts(seed, count):
     """made and damaged texts, a fifth of them with a form of EXTRAS, and the corners"""
+    from reading_cases import grammar_cases
     from reading_corners import corners
     rng = random.Random(seed)
     found = {text for text, _, _ in corners() if len(text) <= 16384} | {extra.encode() for extra in EXTRAS}
+    found |= {call[0] for _, *call in grammar_cases()}
     while len(found) < count:
         text = made_text(rng)
         found.add(spiced(rng, text) if rng.random() < 0.2 else text.encode())

@@ -119,6 +119,7 @@ MOVES = {'E0382', 'E0499', 'E0502', 'E0503', 'E0505', 'E0506', 'E0507', 'E0508',
 PARTED = (
     ('moves and borrows', lambda c: c.code in MOVES or re.match('cannot (borrow|move)|borrow of moved', c.said)),
     ('a record that leaves fields out without `..`', lambda c: c.code in ('E0027', 'E0769')),
+    ('`x @ a..` as a slice item, which is unstable', lambda c: c.code == 'E0658' and 'in slices' in c.said),
     ('an empty range', lambda c: c.code in ('E0030', 'E0579')),
     ('a binding by value at a type without a size', lambda c: c.code == 'E0277' and 'size' in c.said),
     ('a constant on a reference, or of another type of its size', lambda c: c.code in ('E0308', 'E0029') and c.has_odd_constant()),

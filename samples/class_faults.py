@@ -43,6 +43,7 @@ FAULTS = (
     ('#[derive(Clone, Copy)]\nstruct A', 1, 'attributes are not read; `copy` before `struct`, `enum` or `union` is Rust\'s derived Copy'),
     ('fn f() {}', 1, '`enum`, `struct`, `union`, `const`, `use` or `expect` is due, and not `fn`'),
     ('struct A $', 1, 'no word begins with `$`'),
+    ('struct Größe', 1, 'no word begins with `ö`'),
     ('struct A(' + 'u8, ' * 2049 + ')\nexpect A', 2, 'more than 2048 fields and constants'),
 )
 TAKEN = (

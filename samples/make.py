@@ -128,7 +128,8 @@ checksum of each table. `calls.txt` has for each script the number of its first 
 - `reading.py`: judges the whole call from a text, a type sheet, a name table and an expected
   type to the image or the refusal; `name_tables.py` has the rules of name tables.
   `python3 samples/reading.py --corners` says how many of `text_corners.txt` it agrees with,
-  which are over the class file `text.class`.
+  which are over the class file `text.class`. `text_grammar.txt` has texts with the position at
+  which each is refused with 19, stated by hand.
 - `laser.class`, `laser.rules`: a sample class of finish records, and ten rules, one to a line,
   as a class writes them. `mixed.class` has references of all sorts, for the harness. Beside each
   class file stand its type sheet and its name table (`.sheet`, `.names`), as

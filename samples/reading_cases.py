@@ -3,6 +3,7 @@ types alike, limits.
 
 A case is its name, the text, the sheet, the name table and the expected type."""
 import struct
+from pathlib import Path
 
 from images import (
     ADT, ARRAY, BOOL, CONSTANT, ENUM, INTEGER, REFERENCE, SLICE_TYPE, STRUCT, UINT, UNION, WILD, Image,
@@ -10,6 +11,7 @@ from images import (
 from name_tables import CONSTANT_ROW, FIELD_ROW, VARIANT_ROW, name_table
 from reading import read
 
+HERE = Path(__file__).resolve().parent
 U8, BY_REF, BY_MUT, PAIR, S, E, THREE, SLICE, BOOLEAN, RAW = range(10)
 
 
@@ -98,6 +100,15 @@ def called(text):
 def changed(content, at, value):
     """bytes with one word changed"""
     return content[:at] + struct.pack('>H', value) + content[at + 2:]
+
+
+def grammar_cases():
+    """texts in and outside the grammar, with the positions that text_grammar.txt states"""
+    for line in (HERE / 'text_grammar.txt').read_text().splitlines()[1:]:
+        at, text = line.split(' ', 1)
+        answer = read(text.encode(), SHEET, NAMES, U8)
+        assert answer == (19, int(at), 0) if at != '-' else answer[0] != 19, (text, at, answer)
+        yield called(text), text.encode(), SHEET, NAMES, U8
 
 
 def order_cases():
@@ -254,7 +265,7 @@ def deep_cases():
 
 
 def all_cases():
-    for sort, cases in (('order', order_cases), ('sheet', sheet_cases), ('names', name_cases), ('found', found_cases), ('types', type_cases),
+    for sort, cases in (('grammar', grammar_cases), ('order', order_cases), ('sheet', sheet_cases), ('names', name_cases), ('found', found_cases), ('types', type_cases),
                         ('limits', limit_cases), ('deep', deep_cases)):
         for name, *call in cases():
             yield f'{sort}:{name}', *call

@@ -23,7 +23,7 @@ from records import record
 from text_chance import chance_texts
 
 READING, LONGEST_LINE = 6, 160
-SEED, CHANCE = 1401, 80
+SEED, CHANCE = 1401, 60
 CLASSES = {'text': 0, 'laser': 14, 'mixed': 2}
 
 

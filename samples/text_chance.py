@@ -172,7 +172,7 @@ class Texts:
 
     def slice(self, types, depth):
         items = [self.pattern(t, depth - 1) for t in types]
-        items = [f'({item})' if item.endswith('..') else item for item in items]
+        items = [f'({item})' if item.endswith('..') and '@' not in item else item for item in items]
         if self.slips():
             items = items[1:]
         if self.often(0.4):

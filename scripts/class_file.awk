@@ -42,7 +42,10 @@ function token_of_text() {
         token[tokens] = substr(text, 1, RLENGTH)
         line[tokens++] = FNR
         text = substr(text, RLENGTH + 1)
-    } else fault("no word begins with `" substr(text, 1, 1) "`")
+    } else {
+        match(text, /^.[\200-\277]*/)
+        fault("no word begins with `" substr(text, 1, RLENGTH) "`")
+    }
 }
 
 # What stands at the front, and one more step.
