@@ -19,6 +19,9 @@ class Failed(Exception):
         self.at, self.known, self.grammar = at, known, grammar
 
 
+# A text of 16,384 bytes may have as many digits, and lie 16,383 deep.
+sys.set_int_max_str_digits(0)
+sys.setrecursionlimit(200_000)
 LITERALS = ('true', 'false', 'char', 'integer', 'minus')
 CLOSERS = {'(': 'close-paren', '[': 'close-bracket'}
 NONE = 65535
@@ -62,7 +65,7 @@ class Parser:
         if self.kind() in ('dot-dot', 'dot-dot-eq'):
             dots = self.take('dot-dot', 'dot-dot-eq')
             if self.kind() in LITERALS + ('name',) or dots[0] == 'dot-dot-eq':
-                return ('to', dots[0] == 'dot-dot-eq', self.bound())
+                return ('to', dots[0] == 'dot-dot-eq', self.bound(), dots[1])
             return self.rest(dots, where, depth)
         if self.kind() in LITERALS:
             low = self.literal()
@@ -122,7 +125,7 @@ class Parser:
             return ('wild', token[1])
         if self.maybe('ref') or self.maybe('mut'):
             mutable = token[0] == 'mut' or bool(self.maybe('mut'))
-            return self.ident((token[0] == 'ref') + 2 * mutable, self.take('name')[3], where, depth)
+            return self.ident((token[0] == 'ref') + 2 * mutable, self.take('name')[3], token[1], where, depth)
         if self.maybe('and') or self.maybe('and-and'):
             mutable = bool(self.maybe('mut'))
             return ('ref', token[0] == 'and-and', token[1], mutable, self.without_range(None, 0))
@@ -132,17 +135,18 @@ class Parser:
             return self.items('[', token[1], None)
         self.fail()
 
-    def ident(self, flags, own, where, depth):
+    # `at` is the pattern's first byte, `own` its name's behind `r#`
+    def ident(self, flags, own, at, where, depth):
         if self.maybe('bind'):
-            return ('at', flags, own, self.no_top_alt(where, depth + 1))
-        return ('ident', flags, own)
+            return ('at', flags, own, self.no_top_alt(where, depth + 1), at)
+        return ('ident', flags, own, at)
 
     def behind_path(self, path, where, depth):
         if self.maybe('open-paren'):
             return self.items('(', path[1], path)
         if self.maybe('open-brace'):
             return self.record(path)
-        return path if path[3] > 1 else self.ident(0, path[4], where, depth)
+        return path if path[3] > 1 else self.ident(0, path[4], path[1], where, depth)
 
     def items(self, bracket, at, path):
         where, found, comma = [bracket, False], [], True
@@ -180,7 +184,7 @@ class Parser:
             return ('keyed', token[1], self.pattern(None))
         mutable = token[0] == 'mut' or token[0] == 'ref' and bool(self.maybe('mut'))
         own = token if token[0] == 'name' else self.take('name')
-        return ('short', (token[0] == 'ref') + 2 * mutable, own[3])
+        return ('short', (token[0] == 'ref') + 2 * mutable, own[3], token[1])
 
 
 def outline(t):

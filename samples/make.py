@@ -157,6 +157,30 @@ each script the number of its first line in `crates/replay/stdout`, its name, an
   the rows of antt files again (`--check crates/grammar_samples/proofs/*.antt`).
 - `grammar_prefixes.py`: a third opinion on where a text fails, from the grammar's productions as a
   table. `python3 samples/grammar_prefixes.py SEED COUNT` holds random texts to it.
+- `reading.py`: judges the whole call from a text, a type sheet, a name table and an expected
+  type to the image or the refusal; `name_tables.py` has the rules of name tables.
+  `python3 samples/reading.py --corners` says how many of `text_corners.txt` it agrees with,
+  which are over the class file `text.class`. `text_grammar.txt` has texts with the position at
+  which each is refused with 19, stated by hand.
+- `laser.class`, `laser.rules`: a sample class of finish records, and ten rules, one to a line,
+  as a class writes them. `mixed.class` has references of all sorts, for the harness. Beside each
+  class file stand its type sheet and its name table (`.sheet`, `.names`), as
+  `scripts/class_file` makes them; that script says what a class file has, and
+  `class_faults.py` holds it to what it tells of files with faults.
+- `text_chance.py`: random texts that follow the types of a class, but for slips.
+- `reading_cases.py`: calls at the edges: the order of the refusals, broken sheets and name
+  tables, names and types alike, limits, texts that lie deep.
+- `reading_list.py`: writes the stored list of all these: `readings.in` has the records,
+  `readings.out` a line for each, and `readings.txt` for each its number from 1, its name and what
+  is added to the sheet, or the refusal. A record is a byte 6, the sheet as the records above have
+  their image, the name table behind its length in four big-endian bytes, the expected type as
+  a big-endian word, and the text behind its length in four bytes. No program replays it yet.
+
+The program that reads a text is to take on standard input the type sheet and the name table, each
+beginning with its own length in four big-endian bytes, as all in the house form do; the
+expected type, a big-endian word; and the text behind its length in four big-endian bytes.
+What is missing at the end counts as empty, and what follows is not looked at. It is to write the
+image's bytes, or a line `refused` with the three numbers.
 """
 
 

@@ -1,0 +1,85 @@
+#!/usr/bin/env python3
+"""reading_list.py: writes the stored list of texts that are read: readings.in, readings.out and readings.txt.
+reading_list.py --check: writes none, and fails if one is not what it would write, or a class file's tables are not
+what scripts/class_file makes of it.
+
+A record of readings.in is a byte 6; the sheet, as any record has its image (records.py); the name table behind its
+length in four big-endian bytes; the expected type as a big-endian word; and the text behind its length in four
+bytes. readings.out has a line for each: `image` and the image's bytes in hexadecimal, or the refusal. readings.txt
+has for each its number from 1, its name, and the refusal or what is added to the sheet, cut at 160 characters."""
+import struct
+import subprocess
+import sys
+import tempfile
+from pathlib import Path
+
+sys.dont_write_bytecode = True
+
+from images import decode
+from reading import read
+from reading_cases import all_cases
+from reading_corners import HERE, added, class_tables, corners
+from records import record
+from text_chance import chance_texts
+
+READING, LONGEST_LINE = 6, 160
+SEED, CHANCE = 1401, 60
+CLASSES = {'text': 0, 'laser': 14, 'mixed': 2}
+
+
+def calls():
+    """name, text, sheet, name table and expected type of every call"""
+    sheet, names = class_tables()
+    for number, (text, expected, _) in enumerate(corners(), 1):
+        yield f'corner:{number}', text, sheet, names, expected
+    sheet, names = class_tables('laser')
+    for number, rule in enumerate((HERE / 'laser.rules').read_bytes().splitlines(), 1):
+        yield f'rule:{number}', rule, sheet, names, CLASSES['laser']
+    yield from all_cases()
+    for name in CLASSES:
+        sheet, names = class_tables(name)
+        for number, (text, expected) in enumerate(chance_texts(SEED, decode(sheet), names, CHANCE, 0.05), 1):
+            yield f'{name}:{number}', text, sheet, names, expected
+
+
+def files():
+    """the three files' bytes by their names"""
+    given, printed, listed, seen = [], [], [], set()
+    for number, (name, text, sheet, names, expected) in enumerate(calls(), 1):
+        assert name not in seen and ' ' not in name, name
+        seen.add(name)
+        answer = read(text, sheet, names, expected)
+        refused = isinstance(answer, tuple)
+        line = 'refused %d %d %d' % answer if refused else 'image ' + answer.hex()
+        parts = struct.pack('>I', len(names)), names, struct.pack('>HI', expected, len(text)), text
+        given.append(record(READING, sheet) + b''.join(parts))
+        printed.append(line + '\n')
+        listed.append(f'{number} {name} {line if refused else added(answer, sheet)}'[:LONGEST_LINE] + '\n')
+    return {'readings.in': b''.join(given), 'readings.out': ''.join(printed).encode(), 'readings.txt': ''.join(listed).encode()}
+
+
+def class_faults():
+    """the class files whose tables are not what the script makes of them"""
+    for name, expected in CLASSES.items():
+        with tempfile.TemporaryDirectory() as room:
+            subprocess.run([HERE.parent / 'scripts' / 'class_file', HERE / f'{name}.class', room], check=True)
+            made = [Path(room, part).read_bytes() for part in ('sheet', 'names', 'expected')]
+        if made != [*class_tables(name), struct.pack('>H', expected)]:
+            yield f'{name}.class'
+
+
+def main(arguments):
+    made = files()
+    if arguments == ['--check']:
+        wrong = [name for name, content in made.items() if not (HERE / name).is_file() or (HERE / name).read_bytes() != content]
+        wrong += class_faults()
+        for name in wrong:
+            print(f'differs: samples/{name}')
+        return 1 if wrong else 0
+    for name, content in made.items():
+        (HERE / name).write_bytes(content)
+    return 0
+
+
+if __name__ == '__main__':
+    sys.exit(main(sys.argv[1:]))
