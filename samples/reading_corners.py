@@ -37,7 +37,7 @@ def added(image, sheet):
 def image_fits(image, expected):
     """the image's last pattern fits the expected type, with locals that all differ"""
     m = decode(image)
-    return fits(m, len(m.patterns) - 1, expected, 0, ABSENT, tuple(range(1, len(m.bindings) + 1)))
+    return fits(m, len(m.patterns) - 1, expected, 0, tuple(range(1, len(m.bindings) + 1)))
 
 
 def told(text, sheet, names, expected):
