@@ -5,11 +5,11 @@ use image::BindingId;
 use image::PatId;
 use mir::BasicBlockId;
 use mir::Counts;
-use pattern_calls::match_self_param;
 use pattern_calls::pattern_match;
 use pattern_calls::pattern_match_assignment;
 use place::LocalId;
 use replay_calls::calls::opt_block;
+use self_param_call::match_self_param;
 
 pub fn call_match(
     image: &[u8],
