@@ -25,7 +25,7 @@ pub struct Trace {
     pub statements: usize,
     /// How many locals there are, and how many there were when the first pattern was entered.
     pub locals: usize,
-    pub base: usize,
+    pub base: Option<usize>,
     /// The tests of discriminants.
     pub tests: usize,
     /// The locals in all scopes: one for each that is marked live.
@@ -68,9 +68,7 @@ pub fn entered(pattern: usize) {
         return;
     }
     TRACE.with_borrow_mut(|trace| {
-        if trace.visits.iter().all(|&count| count == 0) {
-            trace.base = trace.locals;
-        }
+        trace.base.get_or_insert(trace.locals);
         trace.visits[pattern] += 1;
         trace.entered = Some(pattern);
     });

@@ -5,7 +5,9 @@
 use std::vec;
 
 use super::replacements::places_of;
-use super::{DropScope, Local, LocalId, MirBody, MirSpan, Rvalue, Statement, StatementKind, TerminatorKind};
+use super::{
+    BasicBlock, DropScope, Local, LocalId, MirBody, MirSpan, Rvalue, Statement, StatementKind, TerminatorKind,
+};
 use crate::mir::OperandKind;
 use crate::trace;
 
@@ -18,7 +20,8 @@ pub(super) fn part(body: &mut MirBody<'_>, scopes: &mut [DropScope]) -> bool {
     let (Some(shared), Some(_)) = (tests.next(), tests.next()) else { return false };
     let marked = all().filter(|statement| matches!(statement.kind, StatementKind::StorageLive(_))).count();
     let heard = trace::so_far();
-    let mut parting = Parting::new(body, shared, heard.base);
+    let base = heard.base.expect("a pattern was entered");
+    let mut parting = Parting::new(body, shared, base);
     heard.order.into_iter().for_each(|block| parting.take(block));
     let order = parting.order.clone();
     if let Some(scope) = scopes.last_mut() {
@@ -26,8 +29,27 @@ pub(super) fn part(body: &mut MirBody<'_>, scopes: &mut [DropScope]) -> bool {
         scope.locals.append(&mut parting.marks);
     }
     parting.finish(body);
+    let numbered: Vec<usize> = (base..body.locals.len()).collect();
+    assert_eq!(live_by_tests(body, base), numbered, "locals are numbered in the order of the tests");
     trace::ordered(order, body.basic_blocks.values());
     true
+}
+
+/// The locals from `base` on in the order in which tests make them live. A test is a switch, and comes
+/// where its then block is numbered.
+fn live_by_tests(body: &MirBody<'_>, base: usize) -> Vec<usize> {
+    let then = |block: &BasicBlock| match &block.terminator.as_ref()?.kind {
+        TerminatorKind::SwitchInt { targets, .. } => targets.iter().next().map(|(_, then)| then.number()),
+        _ => None,
+    };
+    let mut tests: Vec<&BasicBlock> = body.basic_blocks.values().iter().collect();
+    tests.retain(|&block| then(block).is_some());
+    tests.sort_by_key(|&block| then(block));
+    let live = |statement: &Statement| match statement.kind {
+        StatementKind::StorageLive(local) => Some(local.number()).filter(|&number| number >= base),
+        _ => None,
+    };
+    tests.into_iter().flat_map(|block| &block.statements).filter_map(live).collect()
 }
 
 /// The local that a statement sets to a discriminant.

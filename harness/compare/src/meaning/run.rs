@@ -5,8 +5,8 @@ use std::path::PathBuf;
 use std::process::Command;
 use std::{env, fs};
 
+use image::Tables;
 use image::kinds::{REST, WILD};
-use image::{ABSENT, Tables};
 use published::{Answer, How};
 
 use crate::calls::{self, Script};
@@ -246,7 +246,7 @@ fn same_tables(cases: &[Case], other: &Other) {
 fn all_fit(cases: &[Case], other: &Other) {
     let question = |case: &Case| {
         let (pattern, bound) = (case.m.patterns.len() as u16 - 1, case.m.bindings.len() as u16);
-        let words: Vec<u16> = [pattern, case.place_type, 0, ABSENT].into_iter().chain(1..=bound).collect();
+        let words: Vec<u16> = [pattern, case.place_type].into_iter().chain(0..=bound).collect();
         records::entry_with(records::FIT, &case.m.encode(), &words)
     };
     let lines = other.lines(cases.iter().flat_map(question).collect());
