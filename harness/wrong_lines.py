@@ -120,7 +120,6 @@ CHANGES = (
      "after bindings (b ∷ bs) l held = after bindings bs l (cond (eqb l (getD bindings (b .binding) 65535)) (b .what) held)",
      "after bindings (b ∷ bs) l held = after bindings bs l held", RUNS),
     ("blocks may be entered twice", "correctness", "Demand2", "NoneIs b (x ∷ xs) = (b ≡ x → ⊥) × NoneIs b xs", "NoneIs b (x ∷ xs) = Unit × NoneIs b xs", "blocks-of-a-run-differ"),
-    ("no local is spoken of", "correctness", "Demand2", "IsNotDiscr DiscrTemp.None l = Unit", "IsNotDiscr DiscrTemp.None l = ⊥", "locals-other-than-the-discriminant's"),
     # What is counted.
     ("one visit in Check, whatever the Ors above", "counting", "Counting", "checkVisits r = r .ors + 1", "checkVisits r = 1", "every-reached-pattern-was-visited-k-plus-2-times"),
     ("a new else is not counted", "counting", "Counting", "elseMade fails OptBlock.None = one fails", "elseMade fails OptBlock.None = 0", "counted-as-document-01-counts"),
