@@ -5,21 +5,20 @@ use native.Mathlib.Decide.{decLt, ℕ-discrete}
 use native.Mathlib.Omega.{arith}
 use mathlib.Core.Path.{_≡_, refl, sym, ap, _∙_, subst}
 use mathlib.Core.Logic.{_≢_}
-use mathlib.Core.Bool.{Bool, true, false, cond, _||_, false≢true}
+use mathlib.Core.Bool.{true, _||_}
 use mathlib.Core.Option.{Option, none, some}
 use mathlib.Core.List.{List, [], _∷_}
-use borrow.Author.Tests.{eqb-true, eq-eqb, ltb-true}
+use borrow.Author.Tests.{eqb-true, ltb-true}
 use lib.Dec.{eqb, ltb}
 use lib.ListN.{length, getD, set, length-set, List·getD-eq-default}
 use lib.Seq.{getD-set-same, getD-set-other}
-use Rattle.image.specs.Lists.{allIn, member}
+use Rattle.image.specs.Lists.{allIn}
 use Rattle.image.proofs.Bools.{and-left, and-right}
 use Rattle.mir.specs.declared.Counts.{Counts}
 use Rattle.state.specs.State.{State, countsOf}
 use Rattle.handed.specs.Handed.{bindingHolds, bindingsHold}
 use Rattle.named.specs.Named.{WordsBelow}
 use Rattle.lowered_params.specs.Params.{boundTo}
-use Rattle.meaning.specs.Fits.{present}
 use Rattle.correctness.proofs.BindingNames.{or-elim}
 
 -- below more too
@@ -73,14 +72,3 @@ words-hold bindings n st e =
     let a = eqb (length bindings) n in
     let b = allIn (bindingHolds (countsOf st)) bindings in
     record { long = eqb-true (length bindings) n (and-left a b e); below = all-below (countsOf st) bindings (and-right a b e) }
-
--- the locals of those bindings that have one are such words
-pub present-below : (bindings : List ℕ) (n : ℕ) → WordsBelow bindings n → (l : ℕ) → member l (present bindings) ≡ true → l < n
-unfolding present member
-present-below [] n w l m = absurd (false≢true m)
-present-below (k ∷ ks) n w l m = by (eqb k 65535) refl m (present-below ks n (λ x. w (suc x)) l)
-  where
-    by : (t : Bool) → eqb k 65535 ≡ t → member l (cond t (present ks) (k ∷ present ks)) ≡ true → (member l (present ks) ≡ true → l < n) → l < n
-    by true q m more = more m
-    by false q m more =
-        or-elim (eqb l k) (member l (present ks)) m (λ i. subst (λ (y : ℕ). y < n) (sym (eqb-true l k i)) (w 0 (λ z. false≢true (sym q ∙ eq-eqb k 65535 z)))) more
