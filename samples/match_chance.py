@@ -38,6 +38,7 @@ def wrap(rng, m, type_):
     if sort == 3:
         first = [m.add_variant([], number) for number in range(rng.randint(0, 2))]
         variant = m.add_variant([type_], 9)
+        m.add_variant([type_], 9)  # one that no type has
         return m.add_adt(ENUM, (first + [variant])[0], len(first) + 1), [("v", variant), ("f", 0)]
     kind = rng.choice((ARRAY, SLICE_TYPE))
     at = rng.choice((("i", rng.randint(0, 2)), ("e", rng.randint(0, 2))))

@@ -219,7 +219,10 @@ struct Line {
 fn line(tables: Option<&Tables>, body: &mut Body, command: Call, answer: &str) -> Line {
     let told = |number: u16, body: &Body| Line {
         lines: vec![format!("refused {number} 65535 0{}", body.told(command.on_a_pattern()))],
-        sort: format!("refused {number} (document 01 alone)"),
+        sort: format!(
+            "refused {number} (document 01 alone){}",
+            if command.on_a_pattern() { " (on a pattern)" } else { "" }
+        ),
         listing: None,
     };
     let Some(tables) = tables else { return told(1, body) };
