@@ -73,18 +73,18 @@ REFUSED_OF_PARAMETERS = (
 REFUSED_OF_MATCHES = (
     "handed/seventeen_elements",
     "handed/else_equal_to_the_start",
-    "pattern_calls/self_by_reference",
-    "pattern_calls/assignment_refuses_always",
-    "pattern_parts/a_visit_not_counted",
+    "self_param_call/self_by_reference",
+    "handed/assignment_refuses_always",
+    "pattern_entering/a_visit_not_counted",
     "place/variant_behind_the_last",
 )
 
-MATCHED = "        Lowered::Done(c, d, then, other) => MatchCall::Matched(c, d, then, other),\n"
+MATCHED = "        Lowered::Done(c, then, other) => MatchCall::Matched(c, then, other),\n"
 BACK = ("            put_back(blocks, current, row);\n            clear_above(blocks, statements, locals, scopes, entries, counts);\n"
         "            clear_from(visits, 0);\n            MatchCall::Refused(e, q)\n        }\n    }\n}\n\n// `pattern_match_assignment`")
 # Further changes that only these show: a name, the file below crates/, the text, and what it becomes.
 OF_MATCHES = (
-    ("the else that is supplied is not taken", "pattern_calls/src/steps.rt",
+    ("the else that is supplied is not taken", "pattern_passes/src/lib.rt",
      "        MatchingMode::Check,\n        p,\n        current,\n        els,\n",
      "        MatchingMode::Check,\n        p,\n        current,\n        OptBlock::None,\n"),
     ("the projection that is handed in is dropped", "pattern_calls/src/lib.rt",
@@ -92,16 +92,13 @@ OF_MATCHES = (
      "                els,\n                Place { local: place.local, len: 0, elems: [0u32; 16] },\n            )\n        }\n"),
     ("what is live enters the scope before the last", "pattern_calls/src/steps.rt",
      "        els,\n        place,\n    ) {\n" + MATCHED,
-     "        els,\n        place,\n    ) {\n        Lowered::Done(c, d, then, other) => {\n"
+     "        els,\n        place,\n    ) {\n        Lowered::Done(c, then, other) => {\n"
      "            if 1 < counts.scopes {\n                scopes[(counts.scopes - 1) as usize] = c.entries;\n            }\n"
-     "            MatchCall::Matched(c, d, then, other)\n        }\n"),
+     "            MatchCall::Matched(c, then, other)\n        }\n"),
     ("the visits of an assignment are not counted", "pattern_calls/src/steps.rt",
      "        OptBlock::None,\n        place,\n    ) {\n" + MATCHED,
-     "        OptBlock::None,\n        place,\n    ) {\n        Lowered::Done(c, d, then, other) => {\n"
-     "            clear_from(visits, 0);\n            MatchCall::Matched(c, d, then, other)\n        }\n"),
-    ("the discriminant local that is handed in is not shared", "pattern_calls/src/lib.rt",
-     "                discr,\n                p,\n                current,\n                els,\n                place,\n            )\n        }\n",
-     "                DiscrTemp::None,\n                p,\n                current,\n                els,\n                place,\n            )\n        }\n"),
+     "        OptBlock::None,\n        place,\n    ) {\n        Lowered::Done(c, then, other) => {\n"
+     "            clear_from(visits, 0);\n            MatchCall::Matched(c, then, other)\n        }\n"),
     ("the start stays ended after a refusal", "pattern_calls/src/steps.rt", BACK,
      BACK.replace("            put_back(blocks, current, row);\n", "")),
     ("a part of an array has no last element", "place/src/place_ty.rt",
