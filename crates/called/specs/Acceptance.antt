@@ -20,11 +20,11 @@ pub record Taken (call : Call) : Type 0 where
 
 -- there is room for the call's pattern
 abbrev pub HasRoom : Call → Type 0
-HasRoom call = Room (call .image) (patternOf call) (startOf call) (call .else) (call .place)
+HasRoom call = Room (call .image) (call .bindings) (patternOf call) (startOf call) (call .else) (call .place)
 
 -- a limit is passed by what the call's pattern needs
 abbrev pub LimitPassed : Call → Type 0
-LimitPassed call = Passed (call .image) (patternOf call) (startOf call) (call .else) (call .place)
+LimitPassed call = Passed (call .image) (call .bindings) (patternOf call) (startOf call) (call .else) (call .place)
 
 -- the answer is an acceptance, with this in the tables
 abbrev pub IsAcceptance : Call → MatchCall → Body → List ℕ → Type 0

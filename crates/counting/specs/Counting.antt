@@ -2,6 +2,7 @@
 use Prim.Native.Nat.{ℕ, _+_, _*_, max}
 use mathlib.Core.Path.{_≡_}
 use mathlib.Core.Bool.{Bool, false, cond}
+use mathlib.Core.Option.{Option, none, some}
 use mathlib.Core.List.{List, [], _∷_}
 use mathlib.Core.Logic.{_⊎_}
 use lib.Dec.{eqb}
@@ -48,9 +49,14 @@ elseMade fails (OptBlock.Some b) = 0
 unfoldable pub newBlocks : List ℕ → Pat → PlaceTy → OptBlock → ℕ
 newBlocks image root ty else = total blocksOf (reachedFrom image root ty) + elseMade (canFail image root ty) else
 
--- "Statements: per Check visit a test makes 2, but ..; a Bind visit makes 2 for a Bind, and 2 for a Slice's rest that is one"
+-- "a Bind visit makes 2 for a Bind, and 2 for a Slice's rest that is one"
+abbrev pub bindStatements : Option ℕ → ℕ
+bindStatements none = 0
+bindStatements (some b) = 2
+
+-- "Statements: per Check visit a test makes 2, but .."
 abbrev pub statementsOf : Reached → ℕ
-statementsOf r = checkVisits r * r .testStatements + r .bindStatements
+statementsOf r = checkVisits r * r .testStatements + bindStatements (r .bound)
 
 unfoldable pub newStatements : List ℕ → Pat → PlaceTy → ℕ
 newStatements image root ty = total statementsOf (reachedFrom image root ty)

@@ -171,7 +171,7 @@ module _ (image : List ℕ) where
     canFail? (sub s) ty = canFail s ty
 
 -- What is counted of a reached pattern: its number, how many Or patterns are above it, its tests and the statements that they make in a Check visit, whether
--- it is an alternative that can fail, whether it is an Or, and how many statements a Bind visit makes
+-- it is an alternative that can fail, whether it is an Or, and which binding a Bind visit makes live and sets
 pub record Reached : Type 0 where
   pub number : ℕ
   pub ors : ℕ
@@ -179,12 +179,12 @@ pub record Reached : Type 0 where
   pub testStatements : ℕ
   pub failingAlternative : Bool
   pub isOr : Bool
-  pub bindStatements : ℕ
+  pub bound : Option ℕ
 
 -- a pattern with so many tests, which make so many statements; k Ors are above it, and f says whether it is an alternative that can fail
 abbrev pub testing : Head → ℕ → Bool → ℕ → ℕ → Reached
 testing h k f tests statements =
-    record { number = h .number; ors = k; tests = tests; testStatements = statements; failingAlternative = f; isOr = false; bindStatements = 0 }
+    record { number = h .number; ors = k; tests = tests; testStatements = statements; failingAlternative = f; isOr = false; bound = none }
 
 -- one that names a variant: on an enum it has a test, which makes two statements
 abbrev pub naming : Head → ℕ → Bool → Bool → Reached
@@ -196,16 +196,16 @@ naming h k f enum =
       testStatements = cond enum 2 0;
       failingAlternative = f;
       isOr = false;
-      bindStatements = 0;
+      bound = none;
     }
 
--- one that binds: two statements in a Bind visit
-abbrev pub binding : Head → ℕ → Bool → ℕ → ℕ → ℕ → Reached
-binding h k f tests statements binds =
-    record { number = h .number; ors = k; tests = tests; testStatements = statements; failingAlternative = f; isOr = false; bindStatements = binds }
+-- one that may bind
+abbrev pub binding : Head → ℕ → Bool → ℕ → ℕ → Option ℕ → Reached
+binding h k f tests statements bound =
+    record { number = h .number; ors = k; tests = tests; testStatements = statements; failingAlternative = f; isOr = false; bound = bound }
 
 abbrev pub anOr : Head → ℕ → Bool → Reached
-anOr h k f = record { number = h .number; ors = k; tests = 0; testStatements = 0; failingAlternative = f; isOr = true; bindStatements = 0 }
+anOr h k f = record { number = h .number; ors = k; tests = 0; testStatements = 0; failingAlternative = f; isOr = true; bound = none }
 
 -- "a test makes 2, but .. of a Slice with a rest 4"
 unfoldable pub lengthStatements : RestOf → ℕ
@@ -213,11 +213,11 @@ lengthStatements RestOf.none = 2
 lengthStatements (RestOf.binds q b how) = 4
 lengthStatements RestOf.ignores = 4
 
--- "and 2 for a Slice's rest that is one"
-unfoldable pub restBinds : RestOf → ℕ
-restBinds RestOf.none = 0
-restBinds (RestOf.binds q b how) = 2
-restBinds RestOf.ignores = 0
+-- the binding of a Slice's rest that is one
+unfoldable pub restBinding : RestOf → Option ℕ
+restBinding RestOf.none = none
+restBinding (RestOf.binds q b how) = some b
+restBinding RestOf.ignores = none
 
 unfoldable pub pathReached : List ℕ → PlaceTy → Target → Head → ℕ → Bool → Reached
 pathReached image ty unresolved h k f = testing h k f 0 0
@@ -262,11 +262,11 @@ module _ (image : List ℕ) where
         testing h k f ends (ends + ends) ∷ []
     reached (Pat.Slice h prefix rest suffix) ty k f =
         let tested = isSliceShape (tyOf image (h .ty) .shape) in
-        binding h k f (cond tested 1 0) (cond tested (lengthStatements (restOf rest)) 0) (restBinds (restOf rest))
+        binding h k f (cond tested 1 0) (cond tested (lengthStatements (restOf rest)) 0) (restBinding (restOf rest))
         ∷ throughArguments image (behindDerefs image ty (h .derefs)) k (items (reachings prefix) (reachings suffix))
     reached (Pat.Path h target) ty k f = pathReached image (behindDerefs image ty (h .derefs)) target h k f ∷ []
     reached (Pat.Lit h operand) ty k f = testing h k f 1 2 ∷ []
-    reached (Pat.Bind h b s how annotation) ty k f = binding h k f 0 0 2 ∷ reaching? s (behindDerefs image ty (h .derefs)) k false
+    reached (Pat.Bind h b s how annotation) ty k f = binding h k f 0 0 (some b) ∷ reaching? s (behindDerefs image ty (h .derefs)) k false
     reached (Pat.TupleStruct h args ellipsis v) ty k f =
         let here = behindDerefs image ty (h .derefs) in
         naming h k f (isEnum (shapeOf image here)) ∷ throughArguments image here k (ofVariant image here v (λ n. inARow ellipsis n (reachings args)))

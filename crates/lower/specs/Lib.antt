@@ -1,4 +1,5 @@
 pub mod Temps
 pub mod Merging
+pub mod Recorded
 pub mod Replies
 pub mod Promises

@@ -1,11 +1,12 @@
 -- Temporaries and live marks, as lower.rs makes them. Assumes nothing: these are definitions.
 use Prim.Native.Nat.{ℕ}
-use mathlib.Core.Bool.{Bool, cond, _&&_}
+use mathlib.Core.Bool.{Bool, false, cond, _&&_}
 use mathlib.Core.List.{List}
 use lib.Dec.{eqb, ltb}
 use lib.ListN.{length, getD}
 use Rattle.refusals.specs.declared.MirLowerError.{MirLowerError}
 use Rattle.refusals.specs.Refusals.{Result, ok, refused, andThen}
+use Rattle.image.specs.Lists.{member}
 use Rattle.image.specs.Tables.{typeCount}
 use Rattle.image.specs.Rows.{typeAt}
 use Rattle.place.specs.declared.LocalId.{LocalId}
@@ -18,17 +19,30 @@ use Rattle.state.specs.Steps.{nextLocal, tryLocal, tryEntry, tryStatement}
 unfoldable pub isSlice : List ℕ → ℕ → Bool
 isSlice image word = ltb word (typeCount image) && eqb (typeAt image word .kind) 9
 
--- a local as the last entry of the last scope, and live from the end of a block on; without a scope document 01's number 14
-unfoldable pub pushStorageLiveForLocal : State → LocalId → BasicBlockId → Result State
-pushStorageLiveForLocal st l block =
-    cond (eqb (length (st .scopes)) 0) (refused MirLowerError.NoScope)
-    (andThen (tryEntry st l) (λ st₁. tryStatement st₁ (liveRow block l)))
+-- an open scope holds the local: the entries are those of the open scopes
+unfoldable pub isHeld : State → LocalId → Bool
+isHeld st l = member (l .0) (st .entries)
 
--- a temporary of the type that the word says, live from the end of a block on: its number is `nextLocal st`; one of slice type is refused
+-- a local that is held as it is, or another as the last entry of the last scope
+abbrev pub recordUnless : Bool → State → LocalId → Result State
+recordUnless held st l = cond held (ok st) (tryEntry st l)
+
+-- a local, held or not, live from the end of a block on; without a scope document 01's number 14
+unfoldable pub markLive : Bool → State → LocalId → BasicBlockId → Result State
+markLive held st l block =
+    cond (eqb (length (st .scopes)) 0) (refused MirLowerError.NoScope)
+    (andThen (recordUnless held st l) (λ st₁. tryStatement st₁ (liveRow block l)))
+
+-- request S-4: "A live mark now records its local in the last scope unless an open scope already holds it."
+abbrev pub pushStorageLiveForLocal : State → LocalId → BasicBlockId → Result State
+pushStorageLiveForLocal st l block = markLive (isHeld st l) st l block
+
+-- a temporary of the type that the word says, live from the end of a block on: its number is `nextLocal st`; one of slice type is refused. No scope holds a new local
+-- (crate `named`), so none is looked through
 unfoldable pub temp : List ℕ → State → ℕ → BasicBlockId → Result State
 temp image st word block =
     cond (isSlice image word) (refused MirLowerError.UnsizedTemporary)
-    (andThen (tryLocal st word) (λ st₁. pushStorageLiveForLocal st₁ (nextLocal st) block))
+    (andThen (tryLocal st word) (λ st₁. markLive false st₁ (nextLocal st) block))
 
 -- the local of a binding: a word of the bindings' table, in which 65535 stands for none
 unfoldable pub bindingLocal : List ℕ → ℕ → Result LocalId

@@ -15,9 +15,13 @@ use refusals::MirLowerError;
 use state::Stepped;
 ghost use mathlib.Core.Path.{_≡_};
 ghost use Prim.Native.Nat.{_<_};
-ghost use lib.ListN.{length};
+ghost use mathlib.Core.Bool.{cond};
+ghost use lib.ListN.{length, take};
+ghost use Rattle.image.specs.Lists.{member};
 ghost use Rattle.image.specs.Tables.{Whole};
-ghost use Rattle.lower.specs.Temps.{isSlice, pushStorageLiveForLocal, temp, bindingLocal, pushStorageLive, discrTempPlace};
+ghost use Rattle.mir.specs.declared.scopes.Counted.{Counted};
+ghost use Rattle.mir.specs.Scopes.{newEntry, entriesAfter};
+ghost use Rattle.lower.specs.Temps.{isSlice, markLive, pushStorageLiveForLocal, temp, bindingLocal, pushStorageLive, discrTempPlace};
 ghost use Rattle.lower.specs.Replies.{boundResult};
 ghost use Rattle.lower.specs.Promises.{Marks, Makes};
 
@@ -42,7 +46,58 @@ fn is_slice(image: &[u8], tables: Tables, word: u16) -> bool
     type_at(image, tables, word).kind == 9
 }
 
-// A local as the last entry of the last scope, and live from the end of a block on.
+// An open scope holds the local: the entries are those of the open scopes. All are looked at, which is quicker than to stop at the first.
+fn is_held(entries: &[u16], counts: Counts, l: LocalId) -> bool
+    ensures { λ r. ⌜ r ≡ member (l .0) (take (counts .entries) (now (entries .entry))) ⌝ }
+{
+    let count = counts.entries as usize;
+    let mut held = false;
+    let mut i = 0;
+    while i < count && i < entries.len() {
+        if entries[i] == l.0 {
+            held = true;
+        }
+        i += 1;
+    }
+    held
+}
+
+// A local that is held as it is, or another as the last entry of the last scope.
+fn record_unless(entries: &mut [u16], counts: Counts, l: LocalId, held: bool) -> Counted
+    requires { ⌜ length (now entries) ≡ 1024 ⌝ }
+    ensures { λ r. ⌜ (r ≡ cond held (Counted.Now counts) (newEntry counts)) × (now (entries .exit) ≡ cond held (now (entries .entry)) (entriesAfter counts (now (entries .entry)) (l .0))) ⌝ }
+{
+    if held {
+        return Counted::Now(counts);
+    }
+    push_entry(entries, counts, l)
+}
+
+// A local, held or not, live from the end of a block on; one that no scope holds is then the last entry of the last scope.
+fn mark_live(
+    statements: &mut [u16],
+    entries: &mut [u16],
+    counts: Counts,
+    l: LocalId,
+    block: BasicBlockId,
+    held: bool,
+) -> Stepped
+    requires { ⌜ (length (now statements) ≡ 50176) × (length (now entries) ≡ 1024) ⌝ }
+    ensures { λ r. ⌜ Marks (λ st. markLive held st l block) counts block (now (statements .entry)) (now (entries .entry)) r (now (statements .exit)) (now (entries .exit)) ⌝ }
+{
+    if counts.scopes == 0 {
+        return Stepped::Refused(MirLowerError::NoScope);
+    }
+    match record_unless(entries, counts, l, held) {
+        Counted::Full => Stepped::Refused(MirLowerError::Limit),
+        Counted::Now(c1) => match push_live(statements, c1, block, l) {
+            Counted::Full => Stepped::Refused(MirLowerError::Limit),
+            Counted::Now(c2) => Stepped::Now(c2),
+        },
+    }
+}
+
+// A local, live from the end of a block on: as the last entry of the last scope, unless an open scope holds it.
 pub fn push_storage_live_for_local(
     statements: &mut [u16],
     entries: &mut [u16],
@@ -53,16 +108,8 @@ pub fn push_storage_live_for_local(
     requires { ⌜ (length (now statements) ≡ 50176) × (length (now entries) ≡ 1024) ⌝ }
     ensures { λ r. ⌜ Marks (λ st. pushStorageLiveForLocal st l block) counts block (now (statements .entry)) (now (entries .entry)) r (now (statements .exit)) (now (entries .exit)) ⌝ }
 {
-    if counts.scopes == 0 {
-        return Stepped::Refused(MirLowerError::NoScope);
-    }
-    match push_entry(entries, counts, l) {
-        Counted::Full => Stepped::Refused(MirLowerError::Limit),
-        Counted::Now(c1) => match push_live(statements, c1, block, l) {
-            Counted::Full => Stepped::Refused(MirLowerError::Limit),
-            Counted::Now(c2) => Stepped::Now(c2),
-        },
-    }
+    let held = is_held(entries, counts, l);
+    mark_live(statements, entries, counts, l, block, held)
 }
 
 // A temporary of the type that the word says, live from the end of a block on.
@@ -84,13 +131,7 @@ pub fn temp(
     }
     match new_local(locals, counts, word) {
         NewLocal::Full => NewTemp::Refused(MirLowerError::Limit),
-        NewLocal::Local(c1, l) => match push_storage_live_for_local(
-            statements,
-            entries,
-            c1,
-            l,
-            block,
-        ) {
+        NewLocal::Local(c1, l) => match mark_live(statements, entries, c1, l, block, false) {
             Stepped::Refused(e) => NewTemp::Refused(e),
             Stepped::Now(c2) => NewTemp::Local(c2, l),
         },
