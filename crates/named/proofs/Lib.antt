@@ -1,6 +1,9 @@
+pub mod Recording
 mod Rows
 pub mod Keeping
 mod Testing
-pub mod Walks
+mod Walks
+pub mod Lowered
+pub mod Leaving
 pub mod Taken
 pub mod Tested

@@ -1,6 +1,7 @@
 -- What the rows of statements and terminators name. Assumes nothing.
 use Prim.Native.Nat.{ℕ, zero, suc, _≤_, _<_}
 use native.Mathlib.Nat.{lt-of-lt-of-le}
+use mathlib.Core.Path.{_≡_, refl}
 use mathlib.Core.List.{List, [], _∷_, _++_, map}
 use lib.ListN as lists
 use Rattle.place.specs.declared.LocalId.{LocalId}
@@ -16,6 +17,7 @@ use Rattle.mir.specs.Statements.{placeWords}
 use Rattle.mir.specs.Rvalues.{constantWords, leftWords, placeRvalueKind, binaryKind, liveRow, placeRvalueRow, constantRow, binaryRow}
 use Rattle.views.specs.Views.{Rvalue, ofPlace, ofConstant, binary, unknown, Statement, live, dead, set, terminatorOf, pathOf, leftOf, lineOf}
 use Rattle.named.specs.Named.{LeftBelow, RvalueBelow, StatementBelow, TerminatorBelow, Throughout}
+use Rattle.named.specs.Marked.{markOf, markedLive}
 
 -- what follows of each
 pub each-as : {A : Type 0} {P Q : A → Type 0} → ((x : A) → P x → Q x) → (xs : List A) → Throughout P xs → Throughout Q xs
@@ -70,34 +72,44 @@ terminator-row n (Terminator.Switch l low high then else) h = h
 terminator-row n Terminator.Unreachable h = tt
 terminator-row n (Terminator.Drop l b) h = h
 
+-- a row that names locals below n, and marks none live
+pub record RowBelow (n : ℕ) (row : List ℕ) : Type 0 where
+  pub below : StatementBelow n (lineOf row .statement)
+  pub unmarked : markedLive (lineOf row ∷ []) ≡ []
+
 -- a live mark
 pub live-row : {n : ℕ} (block : BasicBlockId) (l : LocalId) → l .0 < n → StatementBelow n (lineOf (liveRow block l) .statement)
 unfolding lineOf liveRow
 live-row block l h = h
 
+-- the local that it marks
+pub live-marks : (block : BasicBlockId) (l : LocalId) → markedLive (lineOf (liveRow block l) ∷ []) ≡ l .0 ∷ []
+unfolding lineOf liveRow markedLive markOf
+live-marks block l = refl
+
 -- what is made of a place
-pub place-row : {n : ℕ} (block : BasicBlockId) (l : LocalId) (how : PlaceRvalue) (place : Place) → l .0 < n → place .local .0 < n → StatementBelow n (lineOf (placeRvalueRow block l how place) .statement)
-unfolding lineOf placeRvalueRow placeRvalueKind placeWords pathOf
-place-row block l PlaceRvalue.Copy place h k = (h, k)
-place-row block l PlaceRvalue.Ref place h k = (h, k)
-place-row block l PlaceRvalue.Mut place h k = (h, k)
-place-row block l PlaceRvalue.Len place h k = (h, k)
-place-row block l PlaceRvalue.Discr place h k = (h, k)
+pub place-row : {n : ℕ} (block : BasicBlockId) (l : LocalId) (how : PlaceRvalue) (place : Place) → l .0 < n → place .local .0 < n → RowBelow n (placeRvalueRow block l how place)
+unfolding lineOf placeRvalueRow placeRvalueKind placeWords pathOf markedLive markOf
+place-row block l PlaceRvalue.Copy place h k = record { below = (h, k); unmarked = refl }
+place-row block l PlaceRvalue.Ref place h k = record { below = (h, k); unmarked = refl }
+place-row block l PlaceRvalue.Mut place h k = record { below = (h, k); unmarked = refl }
+place-row block l PlaceRvalue.Len place h k = record { below = (h, k); unmarked = refl }
+place-row block l PlaceRvalue.Discr place h k = record { below = (h, k); unmarked = refl }
 
 -- a constant
-pub constant-row : {n : ℕ} (block : BasicBlockId) (l : LocalId) (c : Constant) → l .0 < n → StatementBelow n (lineOf (constantRow block l c) .statement)
-unfolding lineOf constantRow constantWords
-constant-row block l c h = (h, tt)
+pub constant-row : {n : ℕ} (block : BasicBlockId) (l : LocalId) (c : Constant) → l .0 < n → RowBelow n (constantRow block l c)
+unfolding lineOf constantRow constantWords markedLive markOf
+constant-row block l c h = record { below = (h, tt); unmarked = refl }
 
 -- what an operator makes of two operands
 pub binary-row : {n : ℕ} (block : BasicBlockId) (l : LocalId) (op : BinOp) (left : Left) (place : Place) → l .0 < n → LeftBelow n left → place .local .0 < n →
-    StatementBelow n (lineOf (binaryRow block l op left place) .statement)
-unfolding lineOf binaryRow binaryKind leftWords constantWords placeWords pathOf leftOf
-binary-row block l BinOp.Eq (Left.Local x) place h i k = (h, (i, k))
-binary-row block l BinOp.Eq (Left.Constant c) place h i k = (h, (tt, k))
-binary-row block l BinOp.Le (Left.Local x) place h i k = (h, (i, k))
-binary-row block l BinOp.Le (Left.Constant c) place h i k = (h, (tt, k))
-binary-row block l BinOp.Ge (Left.Local x) place h i k = (h, (i, k))
-binary-row block l BinOp.Ge (Left.Constant c) place h i k = (h, (tt, k))
-binary-row block l BinOp.Gt (Left.Local x) place h i k = (h, (i, k))
-binary-row block l BinOp.Gt (Left.Constant c) place h i k = (h, (tt, k))
+    RowBelow n (binaryRow block l op left place)
+unfolding lineOf binaryRow binaryKind leftWords constantWords placeWords pathOf leftOf markedLive markOf
+binary-row block l BinOp.Eq (Left.Local x) place h i k = record { below = (h, (i, k)); unmarked = refl }
+binary-row block l BinOp.Eq (Left.Constant c) place h i k = record { below = (h, (tt, k)); unmarked = refl }
+binary-row block l BinOp.Le (Left.Local x) place h i k = record { below = (h, (i, k)); unmarked = refl }
+binary-row block l BinOp.Le (Left.Constant c) place h i k = record { below = (h, (tt, k)); unmarked = refl }
+binary-row block l BinOp.Ge (Left.Local x) place h i k = record { below = (h, (i, k)); unmarked = refl }
+binary-row block l BinOp.Ge (Left.Constant c) place h i k = record { below = (h, (tt, k)); unmarked = refl }
+binary-row block l BinOp.Gt (Left.Local x) place h i k = record { below = (h, (i, k)); unmarked = refl }
+binary-row block l BinOp.Gt (Left.Constant c) place h i k = record { below = (h, (tt, k)); unmarked = refl }

@@ -19,7 +19,7 @@ use Rattle.mir.specs.Rvalues.{liveRow, placeRvalueRow}
 use Rattle.state.specs.State.{State}
 use Rattle.state.specs.Steps.{within, nextLocal, newBlock, pushStatement, newLocal, pushEntry, setTerminator, tryBlock, tryStatement, tryLocal, tryEntry}
 use Rattle.lower.specs.declared.merging.OptBlock.{OptBlock}
-use Rattle.lower.specs.Temps.{isSlice, temp, pushStorageLiveForLocal, discrTempPlace}
+use Rattle.lower.specs.Temps.{isSlice, markLive, temp, discrTempPlace}
 use Rattle.views.specs.Views.{Line, lineOf, mirOf}
 use Rattle.views.proofs.ReadBack.{live-back, place-rvalue-back}
 use Rattle.pattern_matching.specs.Walking.{Ctx, Out, ok, elseState}
@@ -61,11 +61,11 @@ record Temporary (word : ℕ) (block : BasicBlockId) (st st₁ : State) : Type 0
   entries : st₁ .entries ≡ st .entries ++ (length (st .locals) ∷ [])
 
 temporary : (image : List ℕ) (st : State) (word : ℕ) (block : BasicBlockId) → Gives (Temporary word block st) (temp image st word block)
-unfolding temp tryLocal pushStorageLiveForLocal tryEntry tryStatement newLocal pushEntry pushStatement
+unfolding temp tryLocal markLive tryEntry tryStatement newLocal pushEntry pushStatement
 temporary image st word block =
     let l = nextLocal st in
-    guarded (isSlice image word) MirLowerError.UnsizedTemporary (andThen (tryLocal st word) (λ st₁. pushStorageLiveForLocal st₁ l block))
-    (gives-then {Q = Temporary word block st} (tryLocal st word) (λ st₁. pushStorageLiveForLocal st₁ l block) (exactly (ltb (length (st .locals)) localLimit) (newLocal st word)) (λ st₁ e₁.
+    guarded (isSlice image word) MirLowerError.UnsizedTemporary (andThen (tryLocal st word) (λ st₁. markLive false st₁ l block))
+    (gives-then {Q = Temporary word block st} (tryLocal st word) (λ st₁. markLive false st₁ l block) (exactly (ltb (length (st .locals)) localLimit) (newLocal st word)) (λ st₁ e₁.
     guarded (eqb (length (st₁ .scopes)) 0) MirLowerError.NoScope (andThen (tryEntry st₁ l) (λ st₂. tryStatement st₂ (liveRow block l)))
     (gives-then {Q = Temporary word block st} (tryEntry st₁ l) (λ st₂. tryStatement st₂ (liveRow block l)) (exactly (ltb (length (st₁ .entries)) entryLimit) (pushEntry st₁ l)) (λ st₂ e₂.
     record {

@@ -1,6 +1,5 @@
 -- No walk over a pattern names a local that there is not: by induction over the tree. Assumes nothing.
 use Prim.Native.Nat.{ℕ, zero, suc, _+_, _<_}
-use mathlib.Core.Path.{_≡_}
 use mathlib.Core.Bool.{Bool, true, false, cond}
 use mathlib.Core.Option.{Option, none, some}
 use mathlib.Core.List.{List, [], _∷_, map, reverse, reverseAux}
@@ -17,6 +16,7 @@ use Rattle.place.specs.declared.elems.ProjectionElem.{ProjectionElem}
 use Rattle.mir.specs.declared.BasicBlockId.{BasicBlockId}
 use Rattle.mir.specs.declared.blocks.Terminator.{Terminator}
 use Rattle.mir.specs.declared.rvalues.BinOp.{BinOp}
+use Rattle.state.specs.State.{State}
 use Rattle.state.specs.Steps.{nextBlock, tryBlock}
 use Rattle.lower.specs.declared.merging.OptBlock.{OptBlock}
 use Rattle.lower.specs.Merging.{setGoto}
@@ -25,82 +25,82 @@ use Rattle.pattern_matching.specs.Walking.{Ctx, Out, Walk, ok, refused, Lowerin
 use Rattle.pattern_matching.specs.Tests.{rangeEnd?, litBy}
 use Rattle.pattern_matching.specs.Variants.{placeTy, shapeOf, needed, patternMatchAdt, fieldsUpTo, patternMatchTupleLike, ellipsisAt, tupleOn, tuplePattern, refOn, refPattern, AdtPatternShape, resolved, recordFields, variantFields, discriminantTest, variantOn, adtOn, patternMatchingVariant, variantPattern}
 use Rattle.pattern_matching.specs.Slices.{RestOf, lengthTest, restBound, sliceItems, sliceOn, suffixItems}
-use Rattle.pattern_matching.specs.Patterns.{refusing, passing, Alternatives, behind, alternative, alternatives, alternativesEnd, orPattern, endOp, rangePattern, pathPattern, bindPattern, restOf, patternMatchInner, lowerings, lowering?, patternMatch}
+use Rattle.pattern_matching.specs.Patterns.{refusing, passing, Alternatives, behind, alternative, alternatives, alternativesEnd, orPattern, endOp, rangePattern, pathPattern, bindPattern, restOf, patternMatchInner, lowerings, lowering?}
 use Rattle.counting.proofs.Holding.{Holds, holds, refuses, holds-next, holds-step}
 use Rattle.named.proofs.Keeping.{Kept, kept-terminator, keeps-block, keeps-else}
 use Rattle.named.specs.Named.{WordsBelow}
 use Rattle.named.proofs.Testing.{KeptBehind, Keeps, in-check, keeps-out, same-root, keeps-constant, keeps-end, keeps-discriminant, keeps-length, keeps-binding, keeps-local, keeps-lit}
 
 -- one that refuses always
-keeps-refused : {n : ℕ} (x : MirLowerError) (p : ℕ) → Keeps n (λ mode ctx c els place. refused x p)
-keeps-refused {n} x p mode ctx c els place h k = refuses (KeptBehind n) x p
+keeps-refused : {s₀ : State} {n : ℕ} (x : MirLowerError) (p : ℕ) → Keeps s₀ n (λ mode ctx c els place. refused x p)
+keeps-refused {s₀} {n} x p mode ctx c els place h k = refuses (KeptBehind s₀ n) x p
 
 -- nothing to test, and nothing to bind
-keeps-passing : {n : ℕ} → Keeps n passing
+keeps-passing : {s₀ : State} {n : ℕ} → Keeps s₀ n passing
 keeps-passing mode ctx c els place h k = keeps-out ctx c els k
 
 -- what needs the type of a place
-keeps-needed : {n : ℕ} (p : ℕ) (x : Option Shape) (f : Shape → Walk Out) → ((s : Shape) → Holds (KeptBehind n) (f s)) → Holds (KeptBehind n) (needed p x f)
-keeps-needed {n} p none f h = refuses (KeptBehind n) MirLowerError.PlaceType p
+keeps-needed : {s₀ : State} {n : ℕ} (p : ℕ) (x : Option Shape) (f : Shape → Walk Out) → ((s : Shape) → Holds (KeptBehind s₀ n) (f s)) → Holds (KeptBehind s₀ n) (needed p x f)
+keeps-needed {s₀} {n} p none f h = refuses (KeptBehind s₀ n) MirLowerError.PlaceType p
 keeps-needed p (some s) f h = h s
 
 -- one of two walks
-keeps-cond : {n : ℕ} (b : Bool) (w w′ : Walk Out) → Holds (KeptBehind n) w → Holds (KeptBehind n) w′ → Holds (KeptBehind n) (cond b w w′)
+keeps-cond : {s₀ : State} {n : ℕ} (b : Bool) (w w′ : Walk Out) → Holds (KeptBehind s₀ n) w → Holds (KeptBehind s₀ n) w′ → Holds (KeptBehind s₀ n) (cond b w w′)
 keeps-cond true w w′ g h = g
 keeps-cond false w w′ g h = h
 
 -- references crossed
-keeps-derefed : {n : ℕ} (p m : ℕ) (place : Place) (f : Place → Walk Out) → place .local .0 < n → ((place : Place) → place .local .0 < n → Holds (KeptBehind n) (f place)) →
-    Holds (KeptBehind n) (derefed p place f m)
+keeps-derefed : {s₀ : State} {n : ℕ} (p m : ℕ) (place : Place) (f : Place → Walk Out) → place .local .0 < n → ((place : Place) → place .local .0 < n → Holds (KeptBehind s₀ n) (f place)) →
+    Holds (KeptBehind s₀ n) (derefed p place f m)
 unfolding derefed
 keeps-derefed p zero place f h g = g place h
 keeps-derefed p (suc m) place f h g = holds-step p (project place ProjectionElem.Deref) _ (same-root place ProjectionElem.Deref h) (λ place′ h′. keeps-derefed p m place′ f h′ g)
 
 -- a visit changes no state
-kept-visited : {n : ℕ} (ctx : Ctx) (p : ℕ) → Kept n (ctx .state) → Kept n (visited ctx p .state)
+kept-visited : {s₀ : State} {n : ℕ} (ctx : Ctx) (p : ℕ) → Kept s₀ n (ctx .state) → Kept s₀ n (visited ctx p .state)
 unfolding visited
 kept-visited ctx p k = k
 
 -- a pattern is entered
-keeps-entered : {n : ℕ} (p m : ℕ) (l : Lowering) → Keeps n l → Keeps n (entered p m l)
+keeps-entered : {s₀ : State} {n : ℕ} (p m : ℕ) (l : Lowering) → Keeps s₀ n l → Keeps s₀ n (entered p m l)
 unfolding entered
 keeps-entered p m l g mode ctx c els place h k =
     keeps-derefed p m place (l mode (visited ctx p) c els) h (λ place′ h′. g mode (visited ctx p) c els place′ h′ (kept-visited ctx p k))
 
 -- lowerings in a row
-abbrev AllKeep : ℕ → List Lowering → Type 0
-AllKeep n [] = Unit {0}
-AllKeep n (l ∷ ls) = Keeps n l × AllKeep n ls
+abbrev AllKeep : State → ℕ → List Lowering → Type 0
+AllKeep s₀ n [] = Unit {0}
+AllKeep s₀ n (l ∷ ls) = Keeps s₀ n l × AllKeep s₀ n ls
 
 -- the first of them
-keep-take : (n i : ℕ) (ls : List Lowering) → AllKeep n ls → AllKeep n (take i ls)
-keep-take n zero ls h = tt
-keep-take n (suc i) [] h = tt
-keep-take n (suc i) (l ∷ ls) h = (h .0, keep-take n i ls (h .1))
+keep-take : (s₀ : State) (n i : ℕ) (ls : List Lowering) → AllKeep s₀ n ls → AllKeep s₀ n (take i ls)
+keep-take s₀ n zero ls h = tt
+keep-take s₀ n (suc i) [] h = tt
+keep-take s₀ n (suc i) (l ∷ ls) h = (h .0, keep-take s₀ n i ls (h .1))
 
 -- those behind the first
-keep-drop : (n i : ℕ) (ls : List Lowering) → AllKeep n ls → AllKeep n (drop i ls)
-keep-drop n zero ls h = h
-keep-drop n (suc i) [] h = tt
-keep-drop n (suc i) (l ∷ ls) h = keep-drop n i ls (h .1)
+keep-drop : (s₀ : State) (n i : ℕ) (ls : List Lowering) → AllKeep s₀ n ls → AllKeep s₀ n (drop i ls)
+keep-drop s₀ n zero ls h = h
+keep-drop s₀ n (suc i) [] h = tt
+keep-drop s₀ n (suc i) (l ∷ ls) h = keep-drop s₀ n i ls (h .1)
 
 -- the last first
-keep-reverse : (n : ℕ) (ls : List Lowering) → AllKeep n ls → AllKeep n (reverse ls)
-keep-reverse n ls h = go ls [] h tt
+keep-reverse : (s₀ : State) (n : ℕ) (ls : List Lowering) → AllKeep s₀ n ls → AllKeep s₀ n (reverse ls)
+keep-reverse s₀ n ls h = go ls [] h tt
   where
-    go : (ls rs : List Lowering) → AllKeep n ls → AllKeep n rs → AllKeep n (reverseAux ls rs)
+    go : (ls rs : List Lowering) → AllKeep s₀ n ls → AllKeep s₀ n rs → AllKeep s₀ n (reverseAux ls rs)
     go [] rs h k = k
     go (l ∷ ls) rs h k = go ls (l ∷ rs) (h .1) (h .0, k)
 
 -- the arguments of a pattern that names a variant
-abbrev ShapeKeeps : ℕ → AdtPatternShape → Type 0
-ShapeKeeps n (AdtPatternShape.Tuple args ellipsis) = AllKeep n args
-ShapeKeeps n (AdtPatternShape.Record fields args) = AllKeep n args
-ShapeKeeps n AdtPatternShape.Unit = Unit {0}
+abbrev ShapeKeeps : State → ℕ → AdtPatternShape → Type 0
+ShapeKeeps s₀ n (AdtPatternShape.Tuple args ellipsis) = AllKeep s₀ n args
+ShapeKeeps s₀ n (AdtPatternShape.Record fields args) = AllKeep s₀ n args
+ShapeKeeps s₀ n AdtPatternShape.Unit = Unit {0}
 
-module _ (n : ℕ) where
+module _ (s₀ : State) (n : ℕ) where
   -- arguments in turn
-  keeps-adt : (p : ℕ) (elems : List ProjectionElem) (args : List Lowering) → AllKeep n args → Keeps n (patternMatchAdt p elems args)
+  keeps-adt : (p : ℕ) (elems : List ProjectionElem) (args : List Lowering) → AllKeep s₀ n args → Keeps s₀ n (patternMatchAdt p elems args)
   unfolding patternMatchAdt
   keeps-adt p [] args g mode ctx c els place h k = keeps-out ctx c els k
   keeps-adt p (elem ∷ elems) [] g mode ctx c els place h k = keeps-out ctx c els k
@@ -109,17 +109,17 @@ module _ (n : ℕ) where
       holds-next (arg mode ctx c els place′) _ (g .0 mode ctx c els place′ h′ k) (λ r k₁. keeps-adt p elems args (g .1) mode (r .ctx) (r .then) (r .else) place h k₁))
 
   -- arguments before an ellipsis, and behind it
-  keeps-tuple-like : (p : ℕ) (args : List Lowering) (at fields : ℕ) → AllKeep n args → Keeps n (patternMatchTupleLike p args at fields)
+  keeps-tuple-like : (p : ℕ) (args : List Lowering) (at fields : ℕ) → AllKeep s₀ n args → Keeps s₀ n (patternMatchTupleLike p args at fields)
   unfolding patternMatchTupleLike
   keeps-tuple-like p args at fields g mode ctx c els place h k =
       keeps-cond (leb at (length args)) _ _
       (holds-next (patternMatchAdt p (fieldsUpTo fields) (take at args) mode ctx c els place) _
-      (keeps-adt p (fieldsUpTo fields) (take at args) (keep-take n at args g) mode ctx c els place h k) (λ r k₁.
-      keeps-adt p (reverse (fieldsUpTo fields)) (reverse (drop at args)) (keep-reverse n (drop at args) (keep-drop n at args g)) mode (r .ctx) (r .then) (r .else) place h k₁))
+      (keeps-adt p (fieldsUpTo fields) (take at args) (keep-take s₀ n at args g) mode ctx c els place h k) (λ r k₁.
+      keeps-adt p (reverse (fieldsUpTo fields)) (reverse (drop at args)) (keep-reverse s₀ n (drop at args) (keep-drop s₀ n at args g)) mode (r .ctx) (r .then) (r .else) place h k₁))
       (keeps-refused MirLowerError.Ellipsis p mode ctx c els place h k)
 
   -- a Tuple by what the type of its place is
-  keeps-tuple-on : (shape : Shape) (p : ℕ) (args : List Lowering) (ellipsis : Option ℕ) → AllKeep n args → Keeps n (tupleOn shape p args ellipsis)
+  keeps-tuple-on : (shape : Shape) (p : ℕ) (args : List Lowering) (ellipsis : Option ℕ) → AllKeep s₀ n args → Keeps s₀ n (tupleOn shape p args ellipsis)
   unfolding tupleOn
   keeps-tuple-on (integer size signed) p args ellipsis g = keeps-refused (MirLowerError.TypeError 1) p
   keeps-tuple-on bool p args ellipsis g = keeps-refused (MirLowerError.TypeError 1) p
@@ -133,13 +133,13 @@ module _ (n : ℕ) where
   keeps-tuple-on unknown p args ellipsis g = keeps-refused (MirLowerError.TypeError 1) p
 
   -- a Tuple
-  keeps-tuple : (image : List ℕ) (p : ℕ) (args : List Lowering) (ellipsis : Option ℕ) → AllKeep n args → Keeps n (tuplePattern image p args ellipsis)
+  keeps-tuple : (image : List ℕ) (p : ℕ) (args : List Lowering) (ellipsis : Option ℕ) → AllKeep s₀ n args → Keeps s₀ n (tuplePattern image p args ellipsis)
   unfolding tuplePattern
   keeps-tuple image p args ellipsis g mode ctx c els place h k =
       keeps-needed p (shapeOf image (placeTy image (ctx .state) place)) _ (λ shape. keeps-tuple-on shape p args ellipsis g mode ctx c els place h k)
 
   -- a Ref by what the type of its place is
-  keeps-ref-on : (shape : Shape) (p : ℕ) (under : Lowering) → Keeps n under → Keeps n (refOn shape p under)
+  keeps-ref-on : (shape : Shape) (p : ℕ) (under : Lowering) → Keeps s₀ n under → Keeps s₀ n (refOn shape p under)
   unfolding refOn
   keeps-ref-on (integer size signed) p under g = keeps-refused (MirLowerError.TypeError 3) p
   keeps-ref-on bool p under g = keeps-refused (MirLowerError.TypeError 3) p
@@ -154,26 +154,26 @@ module _ (n : ℕ) where
   keeps-ref-on unknown p under g = keeps-refused (MirLowerError.TypeError 3) p
 
   -- a Ref
-  keeps-ref : (image : List ℕ) (p : ℕ) (under : Lowering) → Keeps n under → Keeps n (refPattern image p under)
+  keeps-ref : (image : List ℕ) (p : ℕ) (under : Lowering) → Keeps s₀ n under → Keeps s₀ n (refPattern image p under)
   unfolding refPattern
   keeps-ref image p under g mode ctx c els place h k =
       keeps-needed p (shapeOf image (placeTy image (ctx .state) place)) _ (λ shape. keeps-ref-on shape p under g mode ctx c els place h k)
 
   -- the fields of a Record, if each is there
-  keeps-record : (elems : Option (List ProjectionElem)) (p : ℕ) (args : List Lowering) → AllKeep n args → Keeps n (recordFields elems p args)
+  keeps-record : (elems : Option (List ProjectionElem)) (p : ℕ) (args : List Lowering) → AllKeep s₀ n args → Keeps s₀ n (recordFields elems p args)
   unfolding recordFields
   keeps-record none p args g = keeps-refused MirLowerError.UnresolvedField p
   keeps-record (some elems) p args g = keeps-adt p elems args g
 
   -- the fields of a variant
-  keeps-fields : (shape : AdtPatternShape) (p m : ℕ) → ShapeKeeps n shape → Keeps n (variantFields shape p m)
+  keeps-fields : (shape : AdtPatternShape) (p m : ℕ) → ShapeKeeps s₀ n shape → Keeps s₀ n (variantFields shape p m)
   unfolding variantFields
   keeps-fields (AdtPatternShape.Tuple args ellipsis) p m g = keeps-tuple-like p args (ellipsisAt ellipsis args) m g
   keeps-fields (AdtPatternShape.Record fields args) p m g = keeps-record (resolved m fields) p args g
   keeps-fields AdtPatternShape.Unit p m g = keeps-passing
 
   -- a variant of a struct or an enum
-  keeps-variant-on : (kind : AdtKind) (image : List ℕ) (p v : ℕ) (shape : AdtPatternShape) → ShapeKeeps n shape → Keeps n (variantOn kind image p v shape)
+  keeps-variant-on : (kind : AdtKind) (image : List ℕ) (p v : ℕ) (shape : AdtPatternShape) → ShapeKeeps s₀ n shape → Keeps s₀ n (variantOn kind image p v shape)
   unfolding variantOn
   keeps-variant-on AdtKind.Struct image p v shape g = keeps-fields shape p (length (variantOf image v .fields)) g
   keeps-variant-on AdtKind.Enum image p v shape g = λ mode ctx c els place h k.
@@ -185,7 +185,7 @@ module _ (n : ℕ) where
   keeps-variant-on AdtKind.Unknown image p v shape g = keeps-refused (MirLowerError.TypeError 6) p
 
   -- a variant by what the type of its place is
-  keeps-adt-on : (s : Shape) (image : List ℕ) (p v : ℕ) (shape : AdtPatternShape) → ShapeKeeps n shape → Keeps n (adtOn s image p v shape)
+  keeps-adt-on : (s : Shape) (image : List ℕ) (p v : ℕ) (shape : AdtPatternShape) → ShapeKeeps s₀ n shape → Keeps s₀ n (adtOn s image p v shape)
   unfolding adtOn
   keeps-adt-on (integer size signed) image p v shape g = keeps-refused (MirLowerError.TypeError 4) p
   keeps-adt-on bool image p v shape g = keeps-refused (MirLowerError.TypeError 4) p
@@ -200,19 +200,19 @@ module _ (n : ℕ) where
   keeps-adt-on unknown image p v shape g = keeps-refused (MirLowerError.TypeError 4) p
 
   -- a pattern that names a variant
-  keeps-variant : (image : List ℕ) (p v : ℕ) (shape : AdtPatternShape) → ShapeKeeps n shape → Keeps n (patternMatchingVariant image p v shape)
+  keeps-variant : (image : List ℕ) (p v : ℕ) (shape : AdtPatternShape) → ShapeKeeps s₀ n shape → Keeps s₀ n (patternMatchingVariant image p v shape)
   unfolding patternMatchingVariant
   keeps-variant image p v shape g mode ctx c els place h k =
       keeps-needed p (shapeOf image (placeTy image (ctx .state) place)) _ (λ s. keeps-adt-on s image p v shape g mode ctx c els place h k)
 
   -- the same, where the variant may be absent
-  keeps-variant? : (image : List ℕ) (p : ℕ) (v : Option ℕ) (shape : AdtPatternShape) → ShapeKeeps n shape → Keeps n (variantPattern image p v shape)
+  keeps-variant? : (image : List ℕ) (p : ℕ) (v : Option ℕ) (shape : AdtPatternShape) → ShapeKeeps s₀ n shape → Keeps s₀ n (variantPattern image p v shape)
   unfolding variantPattern
   keeps-variant? image p none shape g = keeps-refused MirLowerError.NotSupported p
   keeps-variant? image p (some v) shape g = keeps-variant image p v shape g
 
   -- a Range
-  keeps-range : (image : List ℕ) (p ty : ℕ) (start end : Option Operand) (halfOpen : Bool) → Keeps n (rangePattern image p ty start end halfOpen)
+  keeps-range : (image : List ℕ) (p ty : ℕ) (start end : Option Operand) (halfOpen : Bool) → Keeps s₀ n (rangePattern image p ty start end halfOpen)
   unfolding rangePattern
   keeps-range image p ty start end halfOpen mode ctx c els place h k =
       in-check mode _ _
@@ -221,43 +221,43 @@ module _ (n : ℕ) where
       (keeps-out ctx c els k)
 
   -- an alternative
-  keeps-alternative : (alt : Lowering) → Keeps n alt → (mode : MatchingMode) (ctx : Ctx) (c : BasicBlockId) (place : Place) → place .local .0 < n → Kept n (ctx .state) →
-      Holds (KeptBehind n) (alternative alt mode ctx c place)
+  keeps-alternative : (alt : Lowering) → Keeps s₀ n alt → (mode : MatchingMode) (ctx : Ctx) (c : BasicBlockId) (place : Place) → place .local .0 < n → Kept s₀ n (ctx .state) →
+      Holds (KeptBehind s₀ n) (alternative alt mode ctx c place)
   keeps-alternative alt g mode ctx c place h k =
       holds-next (alt MatchingMode.Check ctx c OptBlock.None place) _ (g MatchingMode.Check ctx c OptBlock.None place h k) (λ r k₁.
       in-check mode _ _ (keeps-out (r .ctx) (r .then) (r .else) k₁)
       (holds-next (alt mode (r .ctx) (r .then) OptBlock.None place) _ (g mode (r .ctx) (r .then) OptBlock.None place h k₁) (λ b k₂. keeps-out (b .ctx) (b .then) (r .else) k₂)))
 
   -- behind an alternative
-  keeps-behind : (els : OptBlock) (ctx : Ctx) (rest : BasicBlockId → Walk Alternatives) → Kept n (ctx .state) →
-      ((b : BasicBlockId) → Holds (λ (a : Alternatives). Kept n (a .ctx .state)) (rest b)) → Holds (λ (a : Alternatives). Kept n (a .ctx .state)) (behind els ctx rest)
-  keeps-behind OptBlock.None ctx rest k f = holds (λ (a : Alternatives). Kept n (a .ctx .state)) _ k
+  keeps-behind : (els : OptBlock) (ctx : Ctx) (rest : BasicBlockId → Walk Alternatives) → Kept s₀ n (ctx .state) →
+      ((b : BasicBlockId) → Holds (λ (a : Alternatives). Kept s₀ n (a .ctx .state)) (rest b)) → Holds (λ (a : Alternatives). Kept s₀ n (a .ctx .state)) (behind els ctx rest)
+  keeps-behind OptBlock.None ctx rest k f = holds (λ (a : Alternatives). Kept s₀ n (a .ctx .state)) _ k
   keeps-behind (OptBlock.Some b) ctx rest k f = f b
 
   -- alternatives
-  keeps-alternatives : (p : ℕ) (alts : List Lowering) → AllKeep n alts → (mode : MatchingMode) (ctx : Ctx) (join c : BasicBlockId) (place : Place) → place .local .0 < n → Kept n (ctx .state) →
-      Holds (λ (a : Alternatives). Kept n (a .ctx .state)) (alternatives p alts mode ctx join c place)
+  keeps-alternatives : (p : ℕ) (alts : List Lowering) → AllKeep s₀ n alts → (mode : MatchingMode) (ctx : Ctx) (join c : BasicBlockId) (place : Place) → place .local .0 < n → Kept s₀ n (ctx .state) →
+      Holds (λ (a : Alternatives). Kept s₀ n (a .ctx .state)) (alternatives p alts mode ctx join c place)
   unfolding alternatives
-  keeps-alternatives p [] g mode ctx join c place h k = holds (λ (a : Alternatives). Kept n (a .ctx .state)) _ k
+  keeps-alternatives p [] g mode ctx join c place h k = holds (λ (a : Alternatives). Kept s₀ n (a .ctx .state)) _ k
   keeps-alternatives p (alt ∷ alts) g mode ctx join c place h k =
       holds-next (alternative alt mode ctx c place) _ (keeps-alternative alt (g .0) mode ctx c place h k) (λ r k₁.
       let ctx₁ = withState (r .ctx) (setGoto (r .ctx .state) (r .then) join) in
-      let k₂ : Kept n (ctx₁ .state) = kept-terminator (r .ctx .state) (r .then) (Terminator.Goto join) tt k₁ in
+      let k₂ : Kept s₀ n (ctx₁ .state) = kept-terminator (r .ctx .state) (r .then) (Terminator.Goto join) tt k₁ in
       keeps-behind (r .else) ctx₁ _ k₂ (λ b. keeps-alternatives p alts (g .1) mode ctx₁ join b place h k₂))
 
   -- the end of the alternatives
-  keeps-ended : (p : ℕ) (mode : MatchingMode) (a : Ctx) (left : OptBlock) (join : BasicBlockId) (els : OptBlock) → Kept n (a .state) →
-      Holds (KeptBehind n) (alternativesEnd p mode (record { ctx = a; left = left }) join els)
+  keeps-ended : (p : ℕ) (mode : MatchingMode) (a : Ctx) (left : OptBlock) (join : BasicBlockId) (els : OptBlock) → Kept s₀ n (a .state) →
+      Holds (KeptBehind s₀ n) (alternativesEnd p mode (record { ctx = a; left = left }) join els)
   unfolding alternativesEnd
   keeps-ended p mode a OptBlock.None join els k = keeps-out a join els k
   keeps-ended p mode a (OptBlock.Some b) join els k =
       in-check mode _ _
       (holds-step p (elseState (a .state) els) _ (keeps-else (a .state) k els) (λ st k₁.
-      holds (KeptBehind n) _ (kept-terminator st b (Terminator.Goto (elseBlock (a .state) els)) tt k₁)))
-      (holds (KeptBehind n) _ (kept-terminator (a .state) b Terminator.Unreachable tt k))
+      holds (KeptBehind s₀ n) _ (kept-terminator st b (Terminator.Goto (elseBlock (a .state) els)) tt k₁)))
+      (holds (KeptBehind s₀ n) _ (kept-terminator (a .state) b Terminator.Unreachable tt k))
 
   -- an Or
-  keeps-or : (p : ℕ) (alts : List Lowering) → AllKeep n alts → Keeps n (orPattern p alts)
+  keeps-or : (p : ℕ) (alts : List Lowering) → AllKeep s₀ n alts → Keeps s₀ n (orPattern p alts)
   unfolding orPattern
   keeps-or p alts g mode ctx c els place h k =
       holds-step p (tryBlock (ctx .state)) _ (keeps-block (ctx .state) k) (λ st k₁.
@@ -267,7 +267,7 @@ module _ (n : ℕ) where
 
   module _ (bindings : List ℕ) (below : WordsBelow bindings n) where
     -- a rest
-    keeps-rest : (rest : RestOf) (p front end : ℕ) → Keeps n (restBound rest bindings p front end)
+    keeps-rest : (rest : RestOf) (p front end : ℕ) → Keeps s₀ n (restBound rest bindings p front end)
     unfolding restBound
     keeps-rest RestOf.none p front end = keeps-passing
     keeps-rest RestOf.ignores p front end = keeps-passing
@@ -277,7 +277,7 @@ module _ (n : ℕ) where
         keeps-binding bindings below p q b how ctx c els place′ h′ k))
 
     -- the items of a slice
-    keeps-items : (p : ℕ) (prefix : List Lowering) (rest : RestOf) (suffix : List Lowering) → AllKeep n prefix → AllKeep n suffix → Keeps n (sliceItems bindings p prefix rest suffix)
+    keeps-items : (p : ℕ) (prefix : List Lowering) (rest : RestOf) (suffix : List Lowering) → AllKeep s₀ n prefix → AllKeep s₀ n suffix → Keeps s₀ n (sliceItems bindings p prefix rest suffix)
     unfolding sliceItems
     keeps-items p prefix rest suffix g g′ mode ctx c els place h k =
         let front = map (λ i. ProjectionElem.Index i) (upFrom 0 (length prefix)) in
@@ -288,8 +288,8 @@ module _ (n : ℕ) where
         keeps-adt p back suffix g′ mode (s .ctx) (s .then) (s .else) place h k₂))
 
     -- a Slice
-    keeps-slice : (shape : Shape) (image : List ℕ) (p : ℕ) (prefix : List Lowering) (rest : RestOf) (suffix : List Lowering) → AllKeep n prefix → AllKeep n suffix →
-        Keeps n (sliceOn shape image bindings p prefix rest suffix)
+    keeps-slice : (shape : Shape) (image : List ℕ) (p : ℕ) (prefix : List Lowering) (rest : RestOf) (suffix : List Lowering) → AllKeep s₀ n prefix → AllKeep s₀ n suffix →
+        Keeps s₀ n (sliceOn shape image bindings p prefix rest suffix)
     unfolding sliceOn
     keeps-slice (integer size signed) image p prefix rest suffix g g′ = keeps-refused (MirLowerError.TypeError 2) p
     keeps-slice bool image p prefix rest suffix g g′ = keeps-refused (MirLowerError.TypeError 2) p
@@ -306,7 +306,7 @@ module _ (n : ℕ) where
     keeps-slice unknown image p prefix rest suffix g g′ = keeps-refused (MirLowerError.TypeError 2) p
 
     -- a Path by what it names
-    keeps-path : (target : Target) (image : List ℕ) (p ty : ℕ) → Keeps n (pathPattern target image bindings p ty)
+    keeps-path : (target : Target) (image : List ℕ) (p ty : ℕ) → Keeps s₀ n (pathPattern target image bindings p ty)
     unfolding pathPattern
     keeps-path unresolved image p ty = keeps-refused MirLowerError.UnresolvedName p
     keeps-path (variant v) image p ty = keeps-variant image p v AdtPatternShape.Unit tt
@@ -315,7 +315,7 @@ module _ (n : ℕ) where
     keeps-path other image p ty = λ mode ctx c els place h k. in-check mode _ _ (keeps-refused MirLowerError.NotSupported p mode ctx c els place h k) (keeps-out ctx c els k)
 
     -- a Bind
-    keeps-bind : (p b : ℕ) (how : BindingMode) (s : Lowering) → Keeps n s → Keeps n (bindPattern bindings p b how s)
+    keeps-bind : (p b : ℕ) (how : BindingMode) (s : Lowering) → Keeps s₀ n s → Keeps s₀ n (bindPattern bindings p b how s)
     unfolding bindPattern
     keeps-bind p b how s g mode ctx c els place h k =
         holds-next (s mode ctx c els place) _ (g mode ctx c els place h k) (λ r k₁.
@@ -326,7 +326,7 @@ module _ (n : ℕ) where
         unfolding patternMatchInner lowerings lowering?
 
         -- every pattern, in every mode
-        pub keeps : (pat : Pat) → Keeps n (patternMatchInner image bindings pat)
+        pub keeps : (pat : Pat) → Keeps s₀ n (patternMatchInner image bindings pat)
         keeps (Pat.Missing h) = keeps-entered (h .number) (h .derefs) (refusing MirLowerError.IncompletePattern (h .number)) (keeps-refused MirLowerError.IncompletePattern (h .number))
         keeps (Pat.Rest h) = keeps-entered (h .number) (h .derefs) (refusing MirLowerError.IncompletePattern (h .number)) (keeps-refused MirLowerError.IncompletePattern (h .number))
         keeps (Pat.NotNull h) = keeps-entered (h .number) (h .derefs) (refusing MirLowerError.IncompletePattern (h .number)) (keeps-refused MirLowerError.IncompletePattern (h .number))
@@ -359,20 +359,11 @@ module _ (n : ℕ) where
         keeps (Pat.Deref h) = keeps-entered (h .number) (h .derefs) (refusing MirLowerError.NotSupported (h .number)) (keeps-refused MirLowerError.NotSupported (h .number))
 
         -- patterns in a row
-        all-keep : (ps : Pats) → AllKeep n (lowerings image bindings ps)
+        all-keep : (ps : Pats) → AllKeep s₀ n (lowerings image bindings ps)
         all-keep nil = tt
         all-keep (cons q qs) = (keeps q, all-keep qs)
 
         -- a subpattern that may be absent
-        keep? : (s : PatOpt) → Keeps n (lowering? image bindings s)
+        keep? : (s : PatOpt) → Keeps s₀ n (lowering? image bindings s)
         keep? no = keeps-passing
         keep? (sub s) = keeps s
-
--- an accepted call of `pattern_match`
-pub match-kept : (n : ℕ) (image bindings : List ℕ) → WordsBelow bindings n → (pat : Pat) (ctx : Ctx) (c : BasicBlockId) (els : OptBlock) (place : Place) (r : Out) → place .local .0 < n →
-    Kept n (ctx .state) → patternMatch image bindings pat ctx c els place ≡ ok r → Kept n (r .ctx .state)
-unfolding patternMatch
-match-kept n image bindings below pat ctx c els place r h k e =
-    holds-next {P = KeptBehind n} {Q = KeptBehind n} (patternMatchInner image bindings pat MatchingMode.Check ctx c els place) (λ r₁. patternMatchInner image bindings pat MatchingMode.Bind (r₁ .ctx) (r₁ .then) (r₁ .else) place)
-    (keeps n bindings below image pat MatchingMode.Check ctx c els place h k)
-    (λ r₁ k₁. keeps n bindings below image pat MatchingMode.Bind (r₁ .ctx) (r₁ .then) (r₁ .else) place h k₁) .at r e
