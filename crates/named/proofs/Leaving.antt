@@ -7,7 +7,7 @@ use mathlib.Core.List.{List, [], _∷_}
 use lib.Dec.{eqb, ltb, leb}
 use lib.ListN.{length, getD, take}
 use Rattle.refusals.specs.declared.MirLowerError.{MirLowerError}
-use Rattle.refusals.specs.Refusals.{Result, ok, refused, andThen}
+use Rattle.refusals.specs.Refusals.{refused, andThen}
 use Rattle.place.specs.declared.LocalId.{LocalId}
 use Rattle.mir.specs.declared.BasicBlockId.{BasicBlockId}
 use Rattle.mir.specs.declared.blocks.Terminator.{Terminator}

@@ -21,7 +21,7 @@ use Rattle.state.specs.Steps.{nextBlock, tryBlock}
 use Rattle.lower.specs.declared.merging.OptBlock.{OptBlock}
 use Rattle.lower.specs.Merging.{setGoto}
 use Rattle.pattern_matching.specs.declared.MatchingMode.{MatchingMode}
-use Rattle.pattern_matching.specs.Walking.{Ctx, Out, Walk, ok, refused, Lowering, out, withState, visited, project, derefed, entered, elseState, elseBlock, inCheck}
+use Rattle.pattern_matching.specs.Walking.{Ctx, Out, Walk, refused, Lowering, out, withState, visited, project, derefed, entered, elseState, elseBlock, inCheck}
 use Rattle.pattern_matching.specs.Tests.{rangeEnd?, litBy}
 use Rattle.pattern_matching.specs.Variants.{placeTy, shapeOf, needed, patternMatchAdt, fieldsUpTo, patternMatchTupleLike, ellipsisAt, tupleOn, tuplePattern, refOn, refPattern, AdtPatternShape, resolved, recordFields, variantFields, discriminantTest, variantOn, adtOn, patternMatchingVariant, variantPattern}
 use Rattle.pattern_matching.specs.Slices.{RestOf, lengthTest, restBound, sliceItems, sliceOn, suffixItems}
