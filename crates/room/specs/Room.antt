@@ -1,12 +1,10 @@
 -- Room by document 01's counts, for a pattern that `pattern_match` lowers. Assumes nothing: these are definitions.
 use Prim.Native.Nat.{ℕ, _+_, _*_, _/_, _≤_, _<_}
 use mathlib.Core.Path.{_≡_}
-use mathlib.Core.Bool.{true}
 use mathlib.Core.Logic.{_≢_}
 use mathlib.Core.Option.{Option, none, some}
 use mathlib.Core.List.{List, [], _∷_, _++_}
 use lib.ListN.{length, getD}
-use Rattle.image.specs.Lists.{member}
 use Rattle.image.specs.Tree.{Pat}
 use Rattle.place.specs.declared.Place.{Place}
 use Rattle.place.specs.declared.place_ty.PlaceTy.{PlaceTy}
@@ -70,10 +68,9 @@ pub data Passed (image bindings : List ℕ) (root : Pat) (ctx : Ctx) (els : OptB
 abbrev pub ScopeOpen : Ctx → Type 0
 ScopeOpen ctx = 1 ≤ length (ctx .state .scopes)
 
--- What number 2 says of every call: the bindings' words that are no 65535, and the entries of the open scopes, are below the count of locals. So neither is a new local.
-pub record LocalsBelow (bindings : List ℕ) (st : State) : Type 0 where
-  pub words : (x : ℕ) → getD bindings x 65535 ≢ 65535 → getD bindings x 65535 < length (st .locals)
-  pub entries : (l : ℕ) → member l (st .entries) ≡ true → l < length (st .locals)
+-- what number 2 says of every call: the words of the bindings' table that are no 65535 are below the count of locals, so none is a new local
+abbrev pub LocalsBelow : List ℕ → State → Type 0
+LocalsBelow bindings st = (x : ℕ) → getD bindings x 65535 ≢ 65535 → getD bindings x 65535 < length (st .locals)
 
 -- what an accepted lowering of a root from ctx on, which gave r, has made: exactly as many locals and entries as are counted, and no place with more than 16 elements
 pub record Made (image bindings : List ℕ) (root : Pat) (ctx : Ctx) (place : Place) (r : Out) : Type 0 where
