@@ -44,7 +44,7 @@ MODULES = [
     ("state", "Steps", "newBlock setTerminator pushStatement newLocal pushScope pushEntry tryBlock tryStatement tryLocal tryScope tryEntry"),
     ("literals", "Literals", "constantOf stringConstant integerConstant literalBy lowerLiteralToOperand lowerConstToOperand literalOrConstBy "
      "lowerLiteralOrConstToOperand"),
-    ("lower", "Temps", "isSlice pushStorageLiveForLocal temp bindingLocal"),
+    ("lower", "Temps", "isSlice isHeld markLive temp bindingLocal"),
     ("views", "Views", "terminatorOf elemsAt pathOf constantAt leftOf lineOf mirOf"),
     ("refusals", "Refusals", "numberOf reasonOf refusalAt"),
     ("pattern_matching", "Walking", "visited project localPlace elseState elseBlock derefed entered"),

@@ -26,7 +26,7 @@ use Rattle.mir.specs.Locals.{localTy}
 use Rattle.mir.specs.Rvalues.{constantWords, leftWords, placeRvalueKind, binaryKind, liveRow, deadRow, placeRvalueRow, constantRow, binaryRow}
 use Rattle.state.specs.Steps.{newBlock, setTerminator, pushStatement, newLocal, pushScope, pushEntry, tryBlock, tryStatement, tryLocal, tryScope, tryEntry}
 use Rattle.literals.specs.Literals.{constantOf, stringConstant, integerConstant, literalBy, lowerLiteralToOperand, lowerConstToOperand, literalOrConstBy, lowerLiteralOrConstToOperand}
-use Rattle.lower.specs.Temps.{isSlice, pushStorageLiveForLocal, temp, bindingLocal}
+use Rattle.lower.specs.Temps.{isSlice, isHeld, markLive, temp, bindingLocal}
 use Rattle.views.specs.Views.{terminatorOf, elemsAt, pathOf, constantAt, leftOf, lineOf, mirOf}
 use Rattle.refusals.specs.Refusals.{numberOf, reasonOf, refusalAt}
 use Rattle.pattern_matching.specs.Walking.{visited, project, localPlace, elseState, elseBlock, derefed, entered}
@@ -228,5 +228,5 @@ rows = surplus-row ∷ enum-twice-row ∷ bind-some-row ∷ nested-or-row ∷ or
 
 -- each row's image comes to the answer that is wanted
 pub as-wanted : map (λ (row : Row). answerBy lowering (row .image) (row .ty)) rows ≡ map (λ (row : Row). row .wanted) rows
-unfolding wordAt littleEndian tablesOf typeAt variantAt patAt bindingAt listAt operandAt operandBytes member upFrom listed shapeBy tyOf variantOf bindingOf operandOf word? operand? trees tree? target nodeBy node treeOf tree elemOf wordOf projectionOf fieldOf derefTy adtFieldTy fieldTy elementTy subsliceTy adtDowncastTy downcastTy tyProjection variantProjection partProjection projectionTy multiProjectionTy termRow halves placeWords localTy constantWords leftWords placeRvalueKind binaryKind liveRow deadRow placeRvalueRow constantRow binaryRow newBlock setTerminator pushStatement newLocal pushScope pushEntry tryBlock tryStatement tryLocal tryScope tryEntry constantOf stringConstant integerConstant literalBy lowerLiteralToOperand lowerConstToOperand literalOrConstBy lowerLiteralOrConstToOperand isSlice pushStorageLiveForLocal temp bindingLocal terminatorOf elemsAt pathOf constantAt leftOf lineOf mirOf numberOf reasonOf refusalAt visited project localPlace elseState elseBlock derefed entered compare patternMatchConst literal litBy constantPath rangeEnd rangeEnd? bindingRvalue patternMatchBinding localPath placeTy shapeOf patternMatchAdt patternMatchTupleLike ellipsisAt tupleOn tuplePattern refOn refPattern resolved recordFields variantFields discriminantTest variantOn adtOn patternMatchingVariant variantPattern lengthConstant lengthCompared lengthTest restBound sliceItems sliceOn alternatives alternativesEnd orPattern endOp rangePattern pathPattern bindPattern restBy restOf patternMatchInner lowerings lowering? patternMatch startState start answerBy
+unfolding wordAt littleEndian tablesOf typeAt variantAt patAt bindingAt listAt operandAt operandBytes member upFrom listed shapeBy tyOf variantOf bindingOf operandOf word? operand? trees tree? target nodeBy node treeOf tree elemOf wordOf projectionOf fieldOf derefTy adtFieldTy fieldTy elementTy subsliceTy adtDowncastTy downcastTy tyProjection variantProjection partProjection projectionTy multiProjectionTy termRow halves placeWords localTy constantWords leftWords placeRvalueKind binaryKind liveRow deadRow placeRvalueRow constantRow binaryRow newBlock setTerminator pushStatement newLocal pushScope pushEntry tryBlock tryStatement tryLocal tryScope tryEntry constantOf stringConstant integerConstant literalBy lowerLiteralToOperand lowerConstToOperand literalOrConstBy lowerLiteralOrConstToOperand isSlice isHeld markLive temp bindingLocal terminatorOf elemsAt pathOf constantAt leftOf lineOf mirOf numberOf reasonOf refusalAt visited project localPlace elseState elseBlock derefed entered compare patternMatchConst literal litBy constantPath rangeEnd rangeEnd? bindingRvalue patternMatchBinding localPath placeTy shapeOf patternMatchAdt patternMatchTupleLike ellipsisAt tupleOn tuplePattern refOn refPattern resolved recordFields variantFields discriminantTest variantOn adtOn patternMatchingVariant variantPattern lengthConstant lengthCompared lengthTest restBound sliceItems sliceOn alternatives alternativesEnd orPattern endOp rangePattern pathPattern bindPattern restBy restOf patternMatchInner lowerings lowering? patternMatch startState start answerBy
 as-wanted = refl

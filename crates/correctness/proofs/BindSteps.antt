@@ -18,7 +18,7 @@ use Rattle.mir.specs.declared.BasicBlockId.{BasicBlockId}
 use Rattle.mir.specs.Rvalues.{placeRvalueRow}
 use Rattle.state.specs.Steps.{tryStatement}
 use Rattle.lower.specs.declared.merging.OptBlock.{OptBlock}
-use Rattle.lower.specs.Temps.{bindingLocal, pushStorageLiveForLocal}
+use Rattle.lower.specs.Temps.{isHeld, bindingLocal, pushStorageLiveForLocal}
 use Rattle.views.specs.Views.{ofPlace, set, Mir, mirOf}
 use Rattle.views.specs.Growing.{GoesOn}
 use Rattle.views.proofs.ReadBack.{place-rvalue-back}
@@ -134,7 +134,7 @@ fills-binding {scene} {place} {w} bindings M p q b how ctx c els r h s e =
     stepped p (tryStatement st₁ (placeRvalueRow c l (bindingRvalue how) place)) _ f₂ (λ st₂ e₃ f₃.
     let is = binding-local bindings b l e₁ in
     let good = good-binding {mode = MatchingMode.Bind} bindings p q b how ctx c els place .leaves h r e in
-    let d = does-seq (does-live (ctx .state) st₁ l c e₂)
+    let d = does-seq (does-live (isHeld (ctx .state) l) (ctx .state) st₁ l c e₂)
     (does-line {scene = scene} (c .0) st₁ st₂ (placeRvalueRow c l (bindingRvalue how) place) (set (l .0) (ofPlace (bindingRvalue how) (pathOf place)))
     (place-rvalue-back c l (bindingRvalue how) place (s .within) (s .elements)) e₃) in
     let bound : Bound = record { binding = b; what = boundAs how (pathOf place) w } in

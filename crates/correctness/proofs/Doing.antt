@@ -22,7 +22,7 @@ use Rattle.mir.specs.Rvalues.{liveRow}
 use Rattle.state.specs.State.{State}
 use Rattle.state.specs.Steps.{within, nextLocal, newBlock, pushStatement, newLocal, pushEntry, setTerminator, tryBlock, tryStatement, tryLocal, tryEntry}
 use Rattle.lower.specs.declared.merging.OptBlock.{OptBlock}
-use Rattle.lower.specs.Temps.{isSlice, temp, pushStorageLiveForLocal}
+use Rattle.lower.specs.Temps.{isSlice, recordUnless, markLive, temp}
 use Rattle.views.specs.Views.{Statement, live, Line, Mir, lineOf, mirOf}
 use Rattle.views.specs.Growing.{terminatorAt, putTerminator, Quiet}
 use Rattle.views.proofs.ReadBack.{Halved, live-back}
@@ -138,13 +138,20 @@ module _ {scene : Scene} (c : ℕ) where
         runs = λ M left env. step refl here;
       }
 
--- a local made live
-pub does-live : {scene : Scene} (st st₁ : State) (l : LocalId) (block : BasicBlockId) → pushStorageLiveForLocal st l block ≡ ok st₁ → Does scene st (block .0) st₁ (λ env. env)
-unfolding pushStorageLiveForLocal tryEntry pushEntry execute
-does-live st st₁ l block e =
-    followed (tryEntry st l) _ (unrefused (eqb (length (st .scopes)) 0) MirLowerError.NoScope _ e) (λ st₂ e₂ e₃.
-    does-seq (does-none st st₂ (ap (λ (s : State). s .statements) (sym (given (ltb (length (st .entries)) entryLimit) (pushEntry st l) st₂ e₂))))
-    (does-line (block .0) st₂ st₁ (liveRow block l) (live (l .0)) (live-back block l) e₃))
+-- a local that is held, or one entry more, adds no line
+does-recorded : {scene : Scene} {c : ℕ} (held : Bool) (st st₁ : State) (l : LocalId) → recordUnless held st l ≡ ok st₁ → Does scene st c st₁ (λ env. env)
+unfolding tryEntry pushEntry
+does-recorded true st st₁ l e = let same : st₁ ≡ st = cc in does-none st st₁ (ap (λ (s : State). s .statements) same)
+does-recorded false st st₁ l e =
+    does-none st st₁ (ap (λ (s : State). s .statements) (sym (given (ltb (length (st .entries)) entryLimit) (pushEntry st l) st₁ e)))
+
+-- a local made live, held or not
+pub does-live : {scene : Scene} (held : Bool) (st st₁ : State) (l : LocalId) (block : BasicBlockId) → markLive held st l block ≡ ok st₁ →
+    Does scene st (block .0) st₁ (λ env. env)
+unfolding markLive execute
+does-live held st st₁ l block e =
+    followed (recordUnless held st l) _ (unrefused (eqb (length (st .scopes)) 0) MirLowerError.NoScope _ e) (λ st₂ e₂ e₃.
+    does-seq (does-recorded held st st₂ l e₂) (does-line (block .0) st₂ st₁ (liveRow block l) (live (l .0)) (live-back block l) e₃))
 
 -- a temporary
 pub does-temp : {scene : Scene} (image : List ℕ) (st st₁ : State) (word : ℕ) (block : BasicBlockId) → temp image st word block ≡ ok st₁ → Does scene st (block .0) st₁ (λ env. env)
@@ -152,7 +159,7 @@ unfolding temp tryLocal newLocal
 does-temp image st st₁ word block e =
     followed (tryLocal st word) _ (unrefused (isSlice image word) MirLowerError.UnsizedTemporary _ e) (λ st₂ e₂ e₃.
     does-seq (does-none st st₂ (ap (λ (s : State). s .statements) (sym (given (ltb (length (st .locals)) localLimit) (newLocal st word) st₂ e₂))))
-    (does-live st₂ st₁ (nextLocal st) block e₃))
+    (does-live false st₂ st₁ (nextLocal st) block e₃))
 
 -- a list with more behind it is not shorter
 longer : (xs ys zs : List ℕ) → ys ≡ xs ++ zs → length xs ≤ length ys
@@ -168,7 +175,7 @@ adds-locals a = opens-locals (a .opens)
 
 -- a temporary is one local more
 pub temp-locals : (image : List ℕ) (st st₁ : State) (word : ℕ) (block : BasicBlockId) → temp image st word block ≡ ok st₁ → length (st₁ .locals) ≡ suc (length (st .locals))
-unfolding temp tryLocal newLocal pushStorageLiveForLocal tryEntry pushEntry tryStatement pushStatement
+unfolding temp tryLocal newLocal markLive tryEntry pushEntry tryStatement pushStatement
 temp-locals image st st₁ word block e =
     followed (tryLocal st word) _ (unrefused (isSlice image word) MirLowerError.UnsizedTemporary _ e) (λ st₂ e₂ e₃.
     followed (tryEntry st₂ (nextLocal st)) _ (unrefused (eqb (length (st₂ .scopes)) 0) MirLowerError.NoScope _ e₃) (λ st₃ e₄ e₅.

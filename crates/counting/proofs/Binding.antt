@@ -1,6 +1,7 @@
 -- Bind patterns and Slice patterns add what is counted of them. Assumes nothing.
 use mathlib.Core.Path.{_≡_, refl, sym, ap, subst, _∙_}
 use mathlib.Core.Bool.{Bool, true, false, cond, _||_, or-assoc}
+use mathlib.Core.Option.{none, some}
 use mathlib.Core.List.{List, [], _∷_, _++_, map}
 use Prim.Native.Nat.{ℕ, suc, _+_, _-_, _≤_}
 use native.Mathlib.Omega.{arith}
@@ -20,13 +21,14 @@ use Rattle.mir.specs.Rvalues.{placeRvalueRow}
 use Rattle.state.specs.State.{State}
 use Rattle.state.specs.Steps.{tryStatement}
 use Rattle.lower.specs.declared.merging.OptBlock.{OptBlock}
-use Rattle.lower.specs.Temps.{bindingLocal, pushStorageLiveForLocal}
+use Rattle.lower.specs.Temps.{isHeld, bindingLocal, pushStorageLiveForLocal}
 use Rattle.pattern_matching.specs.Walking.{Ctx, Out, Walk, ok, Lowering, next, step, out, withState, project, visited, inCheck}
 use Rattle.pattern_matching.specs.Tests.{bindingRvalue, patternMatchBinding}
 use Rattle.pattern_matching.specs.Variants.{patternMatchAdt}
 use Rattle.pattern_matching.specs.Slices.{RestOf, lengthTest, restBound, sliceItems, sliceOn, suffixItems}
 use Rattle.pattern_matching.specs.Patterns.{bindPattern}
-use Rattle.counting.specs.Reaching.{Argument, zip, items, someArgument, isSliceShape, lengthStatements, restBinds, binding, Reaching, Reached, throughArguments}
+use Rattle.counting.specs.Reaching.{Argument, zip, items, someArgument, isSliceShape, lengthStatements, restBinding, binding, Reaching, Reached, throughArguments}
+use Rattle.counting.specs.Counting.{bindStatements}
 use Rattle.counting.proofs.Holding.{Holds, holds, refuses, holds-next, holds-step, holds-as}
 use Rattle.counting.proofs.Going.{built-on, built-none, went-built, nothing, made}
 use Rattle.counting.proofs.Building.{gives-live, gives-statement}
@@ -47,7 +49,7 @@ pub holds-binding : (bindings : List ℕ) (p q b : ℕ) (how : BindingMode) (c :
 unfolding patternMatchBinding
 holds-binding bindings p q b how c current els place =
     holds-step q (bindingLocal bindings b) k₁ (anything (bindingLocal bindings b)) (λ l _.
-    holds-step p (pushStorageLiveForLocal (c .state) l current) (k₂ l) (gives-live (c .state) l current) (λ st₁ g₁.
+    holds-step p (pushStorageLiveForLocal (c .state) l current) (k₂ l) (gives-live (isHeld (c .state) l) (c .state) l current) (λ st₁ g₁.
     holds-step p (tryStatement st₁ (row l)) k₃ (gives-statement st₁ (row l)) (λ st₂ g₂.
     holds (λ r. Steps c els r false nothing (made 0 2)) _ (steps-plain current els (went-built (built-on g₁ g₂) refl)))))
   where
@@ -66,11 +68,11 @@ holds-binding bindings p q b how c current els place =
 -- a Bind: its subpattern, and then, beyond Check, the binding
 pub holds-bind : (bindings : List ℕ) (h : Head) (b : ℕ) (how : BindingMode) (subpattern : Lowering) (pass : Pass) (c : Ctx) (current : BasicBlockId) (els : OptBlock) (place : Place) (fails : Bool) (k : ℕ)
     (f : Bool) (rs : List Reached) → Holds (After pass (visited c (h .number)) els fails k false rs) (subpattern (modeOf pass) (visited c (h .number)) current els place) →
-    Holds (After pass c els fails k f (binding h k f 0 0 2 ∷ rs)) (bindPattern bindings (h .number) b how subpattern (modeOf pass) (visited c (h .number)) current els place)
+    Holds (After pass c els fails k f (binding h k f 0 0 (some b) ∷ rs)) (bindPattern bindings (h .number) b how subpattern (modeOf pass) (visited c (h .number)) current els place)
 unfolding bindPattern
 holds-bind bindings h b how subpattern pass c current els place fails k f rs below =
     holds-next (subpattern (modeOf pass) (visited c (h .number)) current els place) last below (λ r a.
-    holds-as (λ r′ s. after-late h 0 0 2 (omega arith) (after-more (after-plain pass h k f c current els) a) s) (late pass r))
+    holds-as (λ r′ s. after-late h 0 0 (some b) (after-more (after-plain pass h k f c current els) a) s) (late pass r))
   where
     last : Out → Walk Out
     last r = inCheck (modeOf pass) (ok r) (patternMatchBinding bindings (h .number) (h .number) b how (r .ctx) (r .then) (r .else) place)
@@ -82,8 +84,8 @@ holds-bind bindings h b how subpattern pass c current els place fails k f rs bel
 
 -- a rest that binds is filled in Bind
 holds-rest : (rest : RestOf) (bindings : List ℕ) (p front end : ℕ) (pass : Pass) (c : Ctx) (current : BasicBlockId) (els : OptBlock) (place : Place) →
-    Holds (λ r. Steps c els r false nothing (made 0 (lateIn pass (restBinds rest)))) (restBound rest bindings p front end (modeOf pass) c current els place)
-unfolding restBound restBinds
+    Holds (λ r. Steps c els r false nothing (made 0 (lateIn pass (bindStatements (restBinding rest))))) (restBound rest bindings p front end (modeOf pass) c current els place)
+unfolding restBound restBinding
 holds-rest RestOf.none bindings p front end checks c current els place = holds (λ r. Steps c els r false nothing (made 0 0)) _ (steps-none c current els)
 holds-rest RestOf.none bindings p front end binds c current els place = holds (λ r. Steps c els r false nothing (made 0 0)) _ (steps-none c current els)
 holds-rest RestOf.ignores bindings p front end checks c current els place = holds (λ r. Steps c els r false nothing (made 0 0)) _ (steps-none c current els)
@@ -92,13 +94,6 @@ holds-rest (RestOf.binds q b how) bindings p front end checks c current els plac
 holds-rest (RestOf.binds q b how) bindings p front end binds c current els place =
     holds-step p (project place (ProjectionElem.Subslice front end)) (λ place′. patternMatchBinding bindings p q b how c current els place′)
     (anything (project place (ProjectionElem.Subslice front end))) (λ place′ _. holds-binding bindings p q b how c current els place′)
-
--- a rest makes two statements at most
-rest-small : (rest : RestOf) → restBinds rest ≤ 2
-unfolding restBinds
-rest-small RestOf.none = omega arith
-rest-small (RestOf.binds q b how) = omega arith
-rest-small RestOf.ignores = omega arith
 
 -- as many that can fail as lowerings
 each-fails : {image : List ℕ} {ls : List Lowering} {fs : List (PlaceTy → Bool)} {rs : List Reaching} → Each image ls fs rs → length ls ≡ length fs
@@ -131,8 +126,8 @@ module _ {image : List ℕ} {ls ls′ : List Lowering} {fs fs′ : List (PlaceTy
   backOf xs = zip (suffixItems (length xs)) xs
 
   -- the items in front, the rest, and the items at the end, behind the pattern's own visit
-  holds-items : (fails : Bool) (t s : ℕ) (r : Out) → After pass c els fails k f (binding h k f t s 0 ∷ []) r → On image (r .ctx) place ty →
-      Holds (After pass c els (fails || someArgument image ty (items fs fs′)) k f (binding h k f t s (restBinds rest) ∷ throughArguments image ty k (items rs rs′)))
+  holds-items : (fails : Bool) (t s : ℕ) (r : Out) → After pass c els fails k f (binding h k f t s none ∷ []) r → On image (r .ctx) place ty →
+      Holds (After pass c els (fails || someArgument image ty (items fs fs′)) k f (binding h k f t s (restBinding rest) ∷ throughArguments image ty k (items rs rs′)))
       (sliceItems bindings (h .number) ls rest ls′ (modeOf pass) (r .ctx) (r .then) (r .else) place)
   unfolding sliceItems items
   holds-items fails t s r a o =
@@ -140,7 +135,7 @@ module _ {image : List ℕ} {ls ls′ : List Lowering} {fs fs′ : List (PlaceTy
       (holds-indexed (h .number) (λ n i. ProjectionElem.Index i) (λ n i. tt) front pass (r .ctx) (r .then) (r .else) place ty k o) (λ r₁ a₁.
       holds-next (restBound rest bindings (h .number) (length ls) (length ls′) (modeOf pass) (r₁ .ctx) (r₁ .then) (r₁ .else) place) k₂
       (holds-rest rest bindings (h .number) (length ls) (length ls′) pass (r₁ .ctx) (r₁ .then) (r₁ .else) place) (λ r₂ s₂.
-      let x = after-late h t s (restBinds rest) (rest-small rest) (after-more a a₁) s₂ in
+      let x = after-late h t s (restBinding rest) (after-more a a₁) s₂ in
       holds-as (λ r₃ a₃. whole r₃ (after-more x a₃))
       (holds-indexed (h .number) (λ n i. ProjectionElem.IndexFromEnd (n - 1 - i)) (λ n i. tt) back pass (r₂ .ctx) (r₂ .then) (r₂ .else) place ty k (on-went (s₂ .went) (on-after a₁ o)))))
     where
@@ -152,21 +147,21 @@ module _ {image : List ℕ} {ls ls′ : List Lowering} {fs fs′ : List (PlaceTy
 
       whole : (r₃ : Out) →
           After pass c els (fails || someArgument image ty (frontOf fs) || someArgument image ty (backOf fs′)) k f
-          (binding h k f t s (restBinds rest) ∷ (throughArguments image ty k (frontOf rs) ++ throughArguments image ty k (backOf rs′))) r₃ →
-          After pass c els (fails || someArgument image ty (frontOf fs ++ backOf fs′)) k f (binding h k f t s (restBinds rest) ∷ throughArguments image ty k (frontOf rs ++ backOf rs′)) r₃
+          (binding h k f t s (restBinding rest) ∷ (throughArguments image ty k (frontOf rs) ++ throughArguments image ty k (backOf rs′))) r₃ →
+          After pass c els (fails || someArgument image ty (frontOf fs ++ backOf fs′)) k f (binding h k f t s (restBinding rest) ∷ throughArguments image ty k (frontOf rs ++ backOf rs′)) r₃
       whole r₃ a₃ =
-          subst (λ (l : List Reached). After pass c els (fails || someArgument image ty (frontOf fs ++ backOf fs′)) k f (binding h k f t s (restBinds rest) ∷ l) r₃) (sym (through-append image ty k (frontOf rs) (backOf rs′)))
-          (subst (λ (x : Bool). After pass c els x k f (binding h k f t s (restBinds rest) ∷ (throughArguments image ty k (frontOf rs) ++ throughArguments image ty k (backOf rs′))) r₃)
+          subst (λ (l : List Reached). After pass c els (fails || someArgument image ty (frontOf fs ++ backOf fs′)) k f (binding h k f t s (restBinding rest) ∷ l) r₃) (sym (through-append image ty k (frontOf rs) (backOf rs′)))
+          (subst (λ (x : Bool). After pass c els x k f (binding h k f t s (restBinding rest) ∷ (throughArguments image ty k (frontOf rs) ++ throughArguments image ty k (backOf rs′))) r₃)
           (or-assoc fails (someArgument image ty (frontOf fs)) (someArgument image ty (backOf fs′)) ∙ ap (λ (x : Bool). fails || x) (sym (some-argument-append image ty (frontOf fs) (backOf fs′)))) a₃)
 
   -- what a Slice adds, its length tested or not
   abbrev Slices : Bool → Out → Type 0
   Slices tested r =
       After pass c els (tested || someArgument image ty (items fs fs′)) k f
-      (binding h k f (cond tested 1 0) (cond tested (lengthStatements rest) 0) (restBinds rest) ∷ throughArguments image ty k (items rs rs′)) r
+      (binding h k f (cond tested 1 0) (cond tested (lengthStatements rest) 0) (restBinding rest) ∷ throughArguments image ty k (items rs rs′)) r
 
   -- the test of a slice's length
-  length-tested : (current : BasicBlockId) (n : ℕ) → Holds (After pass c els true k f (binding h k f 1 (lengthStatements rest) 0 ∷ []))
+  length-tested : (current : BasicBlockId) (n : ℕ) → Holds (After pass c els true k f (binding h k f 1 (lengthStatements rest) none ∷ []))
       (inCheck (modeOf pass) (lengthTest rest image (h .number) n (visited c (h .number)) current els place) (out (visited c (h .number)) current els))
   unfolding lengthStatements
   length-tested current n = by pass
@@ -177,10 +172,10 @@ module _ {image : List ℕ} {ls ls′ : List Lowering} {fs fs′ : List (PlaceTy
       few RestOf.ignores = omega arith
 
       x : Reached
-      x = binding h k f 1 (lengthStatements rest) 0
+      x = binding h k f 1 (lengthStatements rest) none
 
       small : Small x
-      small = record { tests = omega arith; testStatements = few rest; bindStatements = omega arith }
+      small = record { tests = omega arith; testStatements = few rest }
 
       by : (pass : Pass) → Holds (After pass c els true k f (x ∷ []))
           (inCheck (modeOf pass) (lengthTest rest image (h .number) n (visited c (h .number)) current els place) (out (visited c (h .number)) current els))

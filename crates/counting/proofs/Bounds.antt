@@ -1,6 +1,7 @@
 -- The bounds on what is counted, and the counts of both passes together. Assumes nothing.
 use mathlib.Core.Path.{_≡_, refl, sym, ap, _∙_}
 use mathlib.Core.Bool.{Bool, true, false, cond}
+use mathlib.Core.Option.{Option, none, some}
 use mathlib.Core.List.{List, [], _∷_}
 use Prim.Native.Nat.{ℕ, _+_, _*_, _≤_}
 use native.Mathlib.Nat.{le-refl, le-trans, le-max-left, le-max-right, add-mul, mul-add, one-mul, suc-mul, mul-assoc, mul-comm, mul-le-mul-left}
@@ -11,7 +12,7 @@ use Rattle.image.specs.Tree.{Pat}
 use Rattle.place.specs.declared.place_ty.PlaceTy.{PlaceTy}
 use Rattle.lower.specs.declared.merging.OptBlock.{OptBlock}
 use Rattle.counting.specs.Reaching.{Reached, reached}
-use Rattle.counting.specs.Counting.{one, total, checkVisits, visitsOf, blocksOf, statementsOf, elseMade, mostOrs}
+use Rattle.counting.specs.Counting.{one, total, checkVisits, visitsOf, blocksOf, bindStatements, statementsOf, elseMade, mostOrs}
 use Rattle.counting.proofs.Going.{block, statement, visit}
 use Rattle.counting.proofs.Passing.{tested, bound, Small, AllSmall}
 
@@ -40,7 +41,7 @@ blocks-both = total-both blocksOf (tested block) (bound block) (λ r. each r (r 
 
 -- and statements
 pub statements-both : (rs : List Reached) → total statementsOf rs ≡ total (tested statement) rs + total (bound statement) rs
-statements-both = total-both statementsOf (tested statement) (bound statement) (λ r. each r (r .testStatements) (r .bindStatements))
+statements-both = total-both statementsOf (tested statement) (bound statement) (λ r. each r (r .testStatements) (bindStatements (r .bound)))
   where
     each : (r : Reached) (t s : ℕ) → checkVisits r * t + s ≡ t + (r .ors * t + s)
     each r t s = let a = add-mul (r .ors) 1 t in let b = one-mul t in omega (arith, a, b)
@@ -64,11 +65,11 @@ total-bound g n d h (r ∷ rs) small m =
 -- and one more at most
 bounded : (g : Reached → ℕ) (n more : ℕ) → ((r : Reached) → Small r → g r + 1 ≤ n * (r .ors + 2)) → (rs : List Reached) → AllSmall rs → 1 ≤ length rs → more ≤ 1 →
     total g rs + more ≤ n * length rs * (mostOrs rs + 2)
-bounded g n more h rs small some few =
+bounded g n more h rs small there few =
     let a = total-bound g n (mostOrs rs) h rs small (le-refl _) in
     let b : length rs * (n * (mostOrs rs + 2)) ≡ n * length rs * (mostOrs rs + 2) =
     sym (mul-assoc (length rs) n (mostOrs rs + 2)) ∙ ap (λ (x : ℕ). x * (mostOrs rs + 2)) (mul-comm (length rs) n) in
-    omega (arith, a, b, some, few)
+    omega (arith, a, b, there, few)
 
 -- a truth counts once
 at-most-one : (b : Bool) → one b ≤ 1
@@ -77,7 +78,7 @@ at-most-one false = omega arith
 
 -- "at most 3n(d + 2) blocks"
 pub blocks-bound : (rs : List Reached) (fails : Bool) (els : OptBlock) → AllSmall rs → 1 ≤ length rs → total blocksOf rs + elseMade fails els ≤ 3 * length rs * (mostOrs rs + 2)
-blocks-bound rs fails els small some = bounded blocksOf 3 (elseMade fails els) each rs small some (few fails els)
+blocks-bound rs fails els small there = bounded blocksOf 3 (elseMade fails els) each rs small there (few fails els)
   where
     few : (fails : Bool) (els : OptBlock) → elseMade fails els ≤ 1
     few fails OptBlock.None = at-most-one fails
@@ -92,10 +93,14 @@ blocks-bound rs fails els small some = bounded blocksOf 3 (elseMade fails els) e
 
 -- "and 4n(d + 2) statements"
 pub statements-bound : (rs : List Reached) → AllSmall rs → 1 ≤ length rs → total statementsOf rs ≤ 4 * length rs * (mostOrs rs + 2)
-statements-bound rs small some = let b = bounded statementsOf 4 0 each rs small some (omega arith) in omega (arith, b)
+statements-bound rs small there = let b = bounded statementsOf 4 0 each rs small there (omega arith) in omega (arith, b)
   where
+    few : (o : Option ℕ) → bindStatements o ≤ 2
+    few none = omega arith
+    few (some b) = omega arith
+
     each : (r : Reached) → Small r → statementsOf r + 1 ≤ 4 * (r .ors + 2)
-    each r s = let b = mul-le-mul-left (checkVisits r) (s .testStatements) in let c = s .bindStatements in omega (arith, b, c)
+    each r s = let b = mul-le-mul-left (checkVisits r) (s .testStatements) in let c = few (r .bound) in omega (arith, b, c)
 
 -- a pattern is reached from itself
 pub some-reached : (image : List ℕ) (p : Pat) (ty : PlaceTy) (k : ℕ) (f : Bool) → 1 ≤ length (reached image p ty k f)

@@ -21,7 +21,7 @@ use Rattle.mir.specs.Rvalues.{liveRow}
 use Rattle.state.specs.State.{State}
 use Rattle.state.specs.Steps.{newBlock, setTerminator, pushStatement, newLocal, pushEntry, within, tryBlock, tryStatement, tryLocal, tryEntry, nextLocal}
 use Rattle.lower.specs.declared.merging.OptBlock.{OptBlock}
-use Rattle.lower.specs.Temps.{isSlice, temp, pushStorageLiveForLocal}
+use Rattle.lower.specs.Temps.{isSlice, recordUnless, markLive, temp}
 use Rattle.pattern_matching.specs.Walking.{elseState}
 use Rattle.counting.specs.Counting.{elseMade}
 use Rattle.counting.proofs.Holding.{Gives, gives, stops, gives-then}
@@ -83,21 +83,27 @@ pub gives-statement : (st : State) (row : List ℕ) → Gives (λ st₁. Built s
 unfolding tryStatement
 gives-statement st row = room (λ st₁. Built st st₁ 0 1) (ltb (length (st .statements)) statementLimit) (pushStatement st row) (built-statement st row)
 
--- a mark that a local is live
-pub gives-live : (st : State) (l : LocalId) (block : BasicBlockId) → Gives (λ st₁. Built st st₁ 0 1) (pushStorageLiveForLocal st l block)
-unfolding pushStorageLiveForLocal tryEntry
-gives-live st l block =
-    guarded (eqb (length (st .scopes)) 0) MirLowerError.NoScope (andThen (tryEntry st l) (λ st₁. tryStatement st₁ (liveRow block l)))
-    (gives-then {Q = λ st₁. Built st st₁ 0 1} (tryEntry st l) (λ st₁. tryStatement st₁ (liveRow block l)) (room (λ st₁. Built st st₁ 0 0) (ltb (length (st .entries)) entryLimit) (pushEntry st l) (built-entry st l)) (λ st₁ g.
+-- a local's entry, unless it is held
+gives-record : (held : Bool) (st : State) (l : LocalId) → Gives (λ st₁. Built st st₁ 0 0) (recordUnless held st l)
+unfolding tryEntry
+gives-record true st l = gives (λ st₁. Built st st₁ 0 0) st (built-none st)
+gives-record false st l = room (λ st₁. Built st st₁ 0 0) (ltb (length (st .entries)) entryLimit) (pushEntry st l) (built-entry st l)
+
+-- a mark that a local, held or not, is live
+pub gives-live : (held : Bool) (st : State) (l : LocalId) (block : BasicBlockId) → Gives (λ st₁. Built st st₁ 0 1) (markLive held st l block)
+unfolding markLive
+gives-live held st l block =
+    guarded (eqb (length (st .scopes)) 0) MirLowerError.NoScope (andThen (recordUnless held st l) (λ st₁. tryStatement st₁ (liveRow block l)))
+    (gives-then {Q = λ st₁. Built st st₁ 0 1} (recordUnless held st l) (λ st₁. tryStatement st₁ (liveRow block l)) (gives-record held st l) (λ st₁ g.
     record { at = λ st₂ e. built-on g (gives-statement st₁ (liveRow block l) .at st₂ e) }))
 
 -- a temporary: the mark that it is live
 pub gives-temp : (image : List ℕ) (st : State) (word : ℕ) (block : BasicBlockId) → Gives (λ st₁. Built st st₁ 0 1) (temp image st word block)
 unfolding temp tryLocal
 gives-temp image st word block =
-    guarded (isSlice image word) MirLowerError.UnsizedTemporary (andThen (tryLocal st word) (λ st₁. pushStorageLiveForLocal st₁ (nextLocal st) block))
-    (gives-then {Q = λ st₁. Built st st₁ 0 1} (tryLocal st word) (λ st₁. pushStorageLiveForLocal st₁ (nextLocal st) block) (room (λ st₁. Built st st₁ 0 0) (ltb (length (st .locals)) localLimit) (newLocal st word) (built-local st word)) (λ st₁ g.
-    record { at = λ st₂ e. built-on g (gives-live st₁ (nextLocal st) block .at st₂ e) }))
+    guarded (isSlice image word) MirLowerError.UnsizedTemporary (andThen (tryLocal st word) (λ st₁. markLive false st₁ (nextLocal st) block))
+    (gives-then {Q = λ st₁. Built st st₁ 0 1} (tryLocal st word) (λ st₁. markLive false st₁ (nextLocal st) block) (room (λ st₁. Built st st₁ 0 0) (ltb (length (st .locals)) localLimit) (newLocal st word) (built-local st word)) (λ st₁ g.
+    record { at = λ st₂ e. built-on g (gives-live false st₁ (nextLocal st) block .at st₂ e) }))
 
 -- an else, where there is none
 pub gives-else : (st : State) (els : OptBlock) → Gives (λ st₁. Built st st₁ (elseMade true els) 0) (elseState st els)

@@ -218,7 +218,7 @@ holds-or {image = image} {ls = ls} {fs = fs} {rs = rs} e h pass c current els pl
     k₁ st = next (alternatives (h .number) ls (modeOf pass) (withState (visited c (h .number)) st) (nextBlock (visited c (h .number) .state)) current place) k₂
 
     small : Small (anOr h k f)
-    small = record { tests = omega arith; testStatements = omega arith; bindStatements = omega arith }
+    small = record { tests = omega arith; testStatements = omega arith }
 
     visit : (st : State) → Built (visited c (h .number) .state) st 1 0 → (pass : Pass) → After pass c els false k f (anOr h k f ∷ []) (record { ctx = withState (visited c (h .number)) st; then = join; else = els })
     visit st g checks = after-head checks (anOr h k f) small (steps-plain join els (went-built g refl))

@@ -41,7 +41,7 @@ holds-leaf pass h t s k f fails c current els l lt ls test skip = by pass
     x = testing h k f t s
 
     small : Small x
-    small = record { tests = omega arith; testStatements = ls; bindStatements = omega arith }
+    small = record { tests = omega arith; testStatements = ls }
 
     by : (pass : Pass) → Holds (After pass c els fails k f (x ∷ [])) (l (modeOf pass))
     by checks = holds-as (λ r a. after-head checks x small (steps-as same a)) test

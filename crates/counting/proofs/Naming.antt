@@ -94,7 +94,7 @@ module _ {image : List ℕ} {shape : AdtPatternShape} {fs : ℕ → List (Argume
   enum-tested = by pass
     where
       small : Small (naming h k f true)
-      small = record { tests = omega arith; testStatements = omega arith; bindStatements = omega arith }
+      small = record { tests = omega arith; testStatements = omega arith }
 
       by : (pass : Pass) → Holds (After pass c els true k f (naming h k f true ∷ []))
           (inCheck (modeOf pass) (discriminantTest image (h .number) v (visited c (h .number)) current els place) (out (visited c (h .number)) current els))

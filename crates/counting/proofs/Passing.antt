@@ -1,6 +1,7 @@
 -- The two passes over a pattern, and what each adds for a list of reached patterns. Assumes nothing.
 use mathlib.Core.Path.{_≡_, refl, ap, subst, _∙_}
 use mathlib.Core.Bool.{Bool, false, cond, _||_, or-false}
+use mathlib.Core.Option.{Option, none}
 use mathlib.Core.List.{List, [], _∷_, _++_, append-nil}
 use Prim.Native.Nat.{ℕ, _+_, _*_, _≤_}
 use native.Mathlib.Nat.{mul-add, mul-zero, add-zero}
@@ -12,7 +13,7 @@ use Rattle.lower.specs.declared.merging.OptBlock.{OptBlock}
 use Rattle.pattern_matching.specs.declared.MatchingMode.{MatchingMode}
 use Rattle.pattern_matching.specs.Walking.{Ctx, Out, visited}
 use Rattle.counting.specs.Reaching.{Reached, testing, binding}
-use Rattle.counting.specs.Counting.{one, total}
+use Rattle.counting.specs.Counting.{one, total, bindStatements}
 use Rattle.counting.proofs.Going.{What, block, statement, visit, nothing, made, Built, built-none, went-built, seen, went-visited}
 use Rattle.counting.proofs.Stepping.{Steps, steps-on, steps-as, steps-plain}
 
@@ -40,7 +41,7 @@ tested (visit n) r = cond (eqb (r .number) n) 1 0
 -- what a visit in Bind adds by itself
 abbrev pub own : What → Reached → ℕ
 own block r = one (r .isOr)
-own statement r = r .bindStatements
+own statement r = bindStatements (r .bound)
 own (visit n) r = cond (eqb (r .number) n) 1 0
 
 -- a pattern under so many Ors is tested once more for each of them in Bind
@@ -67,7 +68,6 @@ plusOf binds rs w = total (bound w) rs
 pub record Small (r : Reached) : Type 0 where
   pub tests : r .tests + 2 * one (r .isOr) ≤ 2
   pub testStatements : r .testStatements ≤ 4
-  pub bindStatements : r .bindStatements ≤ 2
 
 -- each of a list keeps to them
 abbrev pub AllSmall : List Reached → Type 0
@@ -150,7 +150,7 @@ ownBlocks binds x = one (x .isOr)
 -- and the statements
 abbrev pub ownStatements : Pass → Reached → ℕ
 ownStatements checks x = x .testStatements
-ownStatements binds x = x .bindStatements
+ownStatements binds x = bindStatements (x .bound)
 
 -- a pattern's own visit
 pub after-head : (pass : Pass) (x : Reached) {c : Ctx} {els : OptBlock} {fails : Bool} {r : Out} → Small x →
@@ -184,28 +184,28 @@ lateIn checks n = 0
 lateIn binds n = n
 
 -- a pattern that binds, and only after others are walked
-pub after-late : {pass : Pass} {c : Ctx} {els : OptBlock} {fails : Bool} {k : ℕ} {f : Bool} {rs : List Reached} {r r′ : Out} (h : Head) (t s n : ℕ) → n ≤ 2 →
-    After pass c els fails k f (binding h k f t s 0 ∷ rs) r → Steps (r .ctx) (r .else) r′ false nothing (made 0 (lateIn pass n)) →
-    After pass c els fails k f (binding h k f t s n ∷ rs) r′
+pub after-late : {pass : Pass} {c : Ctx} {els : OptBlock} {fails : Bool} {k : ℕ} {f : Bool} {rs : List Reached} {r r′ : Out} (h : Head) (t s : ℕ) (o : Option ℕ) →
+    After pass c els fails k f (binding h k f t s none ∷ rs) r → Steps (r .ctx) (r .else) r′ false nothing (made 0 (lateIn pass (bindStatements o))) →
+    After pass c els fails k f (binding h k f t s o ∷ rs) r′
 unfolding total
-after-late {pass = pass} {c = c} {els = els} {fails = fails} {k = k} {f = f} {rs = rs} {r = r} {r′ = r′} h t s n l g o =
+after-late {pass = pass} {c = c} {els = els} {fails = fails} {k = k} {f = f} {rs = rs} {r = r} {r′ = r′} h t s o g late =
     record {
-      steps = by pass (g .steps) o;
-      small = (record { tests = g .small .0 .tests; testStatements = g .small .0 .testStatements; bindStatements = l }, g .small .1);
+      steps = by pass (g .steps) late;
+      small = (record { tests = g .small .0 .tests; testStatements = g .small .0 .testStatements }, g .small .1);
     }
   where
     x₀ : Reached
-    x₀ = binding h k f t s 0
+    x₀ = binding h k f t s none
 
     x : Reached
-    x = binding h k f t s n
+    x = binding h k f t s o
 
     same : (w : What) → tested w x ≡ tested w x₀
     same block = refl
     same statement = refl
     same (visit m) = refl
 
-    its : (w : What) → own w x ≡ own w x₀ + made 0 n w
+    its : (w : What) → own w x ≡ own w x₀ + made 0 (bindStatements o) w
     its block = refl
     its statement = omega arith
     its (visit m) = omega arith
@@ -214,11 +214,11 @@ after-late {pass = pass} {c = c} {els = els} {fails = fails} {k = k} {f = f} {rs
     once w = let a = none-made w in let b = same w in omega (arith, a, b)
 
     again : (w : What) → k * (tested w x₀ + total (tested w) rs) + 0 + (k * tested w x + own w x + total (bound w) rs) ≡
-        k * (tested w x + total (tested w) rs) + (k * tested w x₀ + own w x₀ + total (bound w) rs + made 0 n w)
+        k * (tested w x + total (tested w) rs) + (k * tested w x₀ + own w x₀ + total (bound w) rs + made 0 (bindStatements o) w)
     again w = rw (same w) (let a = its w in omega (arith, a))
 
     by : (pass : Pass) → Steps c els r (inChecks pass fails) (minusOf pass k f (x₀ ∷ rs)) (plusOf pass (x₀ ∷ rs)) →
-        Steps (r .ctx) (r .else) r′ false nothing (made 0 (lateIn pass n)) →
+        Steps (r .ctx) (r .else) r′ false nothing (made 0 (lateIn pass (bindStatements o))) →
         Steps c els r′ (inChecks pass fails) (minusOf pass k f (x ∷ rs)) (plusOf pass (x ∷ rs))
     by checks a b =
         subst (λ (e : Bool). Steps c els r′ e (minusOf checks k f (x ∷ rs)) (plusOf checks (x ∷ rs))) (or-false fails) (steps-as once (steps-on a b))
@@ -230,7 +230,7 @@ pub after-plain : (pass : Pass) (h : Head) (k : ℕ) (f : Bool) (c : Ctx) (curre
 after-plain pass h k f c current els = after-head pass (testing h k f 0 0) small (by pass)
   where
     small : Small (testing h k f 0 0)
-    small = record { tests = omega arith; testStatements = omega arith; bindStatements = omega arith }
+    small = record { tests = omega arith; testStatements = omega arith }
 
     by : (pass : Pass) → Steps (visited c (h .number)) els (record { ctx = visited c (h .number); then = current; else = els }) (inChecks pass false) nothing
         (made (ownBlocks pass (testing h k f 0 0)) (ownStatements pass (testing h k f 0 0)))

@@ -1,5 +1,6 @@
 -- Every pattern adds what is counted of the patterns reached from it: by induction over the tree. Assumes nothing.
 use mathlib.Core.Bool.{Bool, false, cond, _||_}
+use mathlib.Core.Option.{some}
 use mathlib.Core.List.{List, [], _∷_}
 use Prim.Native.Nat.{ℕ}
 use Rattle.image.specs.declared.kinds.BindingMode.{BindingMode}
@@ -13,7 +14,7 @@ use Rattle.lower.specs.declared.merging.OptBlock.{OptBlock}
 use Rattle.pattern_matching.specs.Walking.{Ctx, Lowering, visited}
 use Rattle.pattern_matching.specs.Slices.{RestOf, sliceOn}
 use Rattle.pattern_matching.specs.Patterns.{bindPattern, orPattern, restOf, patternMatchInner, lowerings, lowering?}
-use Rattle.counting.specs.Reaching.{isSliceShape, items, someArgument, allAlternatives, canFail, failing, canFail?, Reaching, binding, anOr, lengthStatements, restBinds, throughArguments, throughAlternatives, reached, reachings, reaching?}
+use Rattle.counting.specs.Reaching.{isSliceShape, items, someArgument, allAlternatives, canFail, failing, canFail?, Reaching, binding, anOr, lengthStatements, restBinding, throughArguments, throughAlternatives, reached, reachings, reaching?}
 use Rattle.counting.proofs.Holding.{Holds, holds}
 use Rattle.counting.proofs.Passing.{Pass, modeOf, After, after-none}
 use Rattle.counting.proofs.Typed.{On}
@@ -31,7 +32,7 @@ record Below (image : List ℕ) (l : Lowering) (fails : PlaceTy → Bool) (reach
 
 -- a Bind
 inside-bind : {image : List ℕ} {l : Lowering} {fails : PlaceTy → Bool} {reach : Reaching} (bindings : List ℕ) (h : Head) (b : ℕ) (how : BindingMode) → Below image l fails reach →
-    Inside image h (bindPattern bindings (h .number) b how l) fails (λ ty k f. binding h k f 0 0 2 ∷ reach ty k false)
+    Inside image h (bindPattern bindings (h .number) b how l) fails (λ ty k f. binding h k f 0 0 (some b) ∷ reach ty k false)
 unfolding visited
 inside-bind {l = l} {fails = fails} {reach = reach} bindings h b how below =
     record {
@@ -42,7 +43,7 @@ inside-bind {l = l} {fails = fails} {reach = reach} bindings h b how below =
 -- a Slice
 inside-slice : {image : List ℕ} {ls ls′ : List Lowering} {fs fs′ : List (PlaceTy → Bool)} {rs rs′ : List Reaching} (bindings : List ℕ) (h : Head) (rest : RestOf) → Each image ls fs rs → Each image ls′ fs′ rs′ →
     Inside image h (sliceOn (tyOf image (h .ty) .shape) image bindings (h .number) ls rest ls′) (λ ty. isSliceShape (tyOf image (h .ty) .shape) || someArgument image ty (items fs fs′))
-    (λ ty k f. binding h k f (cond (isSliceShape (tyOf image (h .ty) .shape)) 1 0) (cond (isSliceShape (tyOf image (h .ty) .shape)) (lengthStatements rest) 0) (restBinds rest) ∷ throughArguments image ty k (items rs rs′))
+    (λ ty k f. binding h k f (cond (isSliceShape (tyOf image (h .ty) .shape)) 1 0) (cond (isSliceShape (tyOf image (h .ty) .shape)) (lengthStatements rest) 0) (restBinding rest) ∷ throughArguments image ty k (items rs rs′))
 inside-slice {image = image} bindings h rest front back =
     record { goes = λ pass c current els place ty k f o. holds-slice front back bindings h rest pass c els place ty k f (tyOf image (h .ty) .shape) current o }
 

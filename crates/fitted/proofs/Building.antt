@@ -22,7 +22,7 @@ use Rattle.mir.specs.Rvalues.{liveRow}
 use Rattle.state.specs.State.{State}
 use Rattle.state.specs.Steps.{newBlock, setTerminator, pushStatement, newLocal, pushEntry, within, tryBlock, tryStatement, tryLocal, tryEntry, nextLocal}
 use Rattle.lower.specs.declared.merging.OptBlock.{OptBlock}
-use Rattle.lower.specs.Temps.{isSlice, temp, pushStorageLiveForLocal}
+use Rattle.lower.specs.Temps.{isSlice, recordUnless, markLive, temp}
 use Rattle.pattern_matching.specs.Walking.{elseState}
 use Rattle.fitted.proofs.Stopping.{Fair, fair-done, fair-stopped, fair-then, fair-as, fair-cond}
 
@@ -74,20 +74,26 @@ fair-local st word =
       kept = λ i l. List·getD-append (st .locals) (word ∷ []) 0 i l;
     })
 
--- a local made live
-pub fair-live : (st : State) (l : LocalId) (block : BasicBlockId) → Fair (Kept st) (pushStorageLiveForLocal st l block)
-unfolding pushStorageLiveForLocal
-fair-live st l block =
-    fair-cond (eqb (length (st .scopes)) 0) MirLowerError.NoScope (andThen (tryEntry st l) (λ st₁. tryStatement st₁ (liveRow block l))) tt
-    (fair-then {Q = Kept st} (tryEntry st l) (λ st₁. tryStatement st₁ (liveRow block l)) (fair-entry st l) (λ st₁ g. fair-as (λ st₂ h. kept-on g h) (fair-statement st₁ (liveRow block l))))
+-- a local that is held, or one entry
+fair-recorded : (held : Bool) (st : State) (l : LocalId) → Fair (Kept st) (recordUnless held st l)
+fair-recorded true st l = fair-done (Kept st) st (kept-same st)
+fair-recorded false st l = fair-entry st l
+
+-- a local made live, held or not
+pub fair-live : (held : Bool) (st : State) (l : LocalId) (block : BasicBlockId) → Fair (Kept st) (markLive held st l block)
+unfolding markLive
+fair-live held st l block =
+    fair-cond (eqb (length (st .scopes)) 0) MirLowerError.NoScope (andThen (recordUnless held st l) (λ st₁. tryStatement st₁ (liveRow block l))) tt
+    (fair-then {Q = Kept st} (recordUnless held st l) (λ st₁. tryStatement st₁ (liveRow block l)) (fair-recorded held st l) (λ st₁ g.
+    fair-as (λ st₂ h. kept-on g h) (fair-statement st₁ (liveRow block l))))
 
 -- a temporary whose type is no slice
 pub fair-temp : (image : List ℕ) (st : State) (word : ℕ) (block : BasicBlockId) → isSlice image word ≡ false → Fair (Kept st) (temp image st word block)
 unfolding temp
 fair-temp image st word block e =
     rw e
-    (fair-then {Q = Kept st} (tryLocal st word) (λ st₁. pushStorageLiveForLocal st₁ (nextLocal st) block) (fair-local st word) (λ st₁ g.
-    fair-as (λ st₂ h. kept-on g h) (fair-live st₁ (nextLocal st) block)))
+    (fair-then {Q = Kept st} (tryLocal st word) (λ st₁. markLive false st₁ (nextLocal st) block) (fair-local st word) (λ st₁ g.
+    fair-as (λ st₂ h. kept-on g h) (fair-live false st₁ (nextLocal st) block)))
 
 -- the words of the types that tests make are beyond the type table
 pub no-slice : (image : List ℕ) (word : ℕ) → typeCount image ≤ word → isSlice image word ≡ false

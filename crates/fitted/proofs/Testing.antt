@@ -27,7 +27,7 @@ use Rattle.state.specs.State.{State}
 use Rattle.state.specs.Steps.{tryBlock, tryStatement}
 use Rattle.literals.specs.Literals.{integerConstant, literalBy, lowerLiteralToOperand, literalOrConstBy, lowerLiteralOrConstToOperand}
 use Rattle.lower.specs.declared.merging.OptBlock.{OptBlock}
-use Rattle.lower.specs.Temps.{isSlice, temp, bindingLocal, pushStorageLiveForLocal, discrTempPlace}
+use Rattle.lower.specs.Temps.{isSlice, isHeld, temp, bindingLocal, pushStorageLiveForLocal, discrTempPlace}
 use Rattle.pattern_matching.specs.Walking.{Ctx, elseState, elseBlock}
 use Rattle.pattern_matching.specs.Tests.{boolWord, usizeWord, compare, patternMatchConst, literal, litBy, constantPath, rangeEnd, rangeEnd?, patternMatchBinding}
 use Rattle.pattern_matching.specs.Variants.{discriminantTest}
@@ -123,7 +123,7 @@ pub fine-binding : (bindings : List ℕ) (p q b : ℕ) (how : BindingMode) (c : 
 unfolding patternMatchBinding
 fine-binding bindings p q b how c current els place e =
     fine-step q (bindingLocal bindings b) _ (fair-binding bindings b e) (λ l _.
-    fine-step p (pushStorageLiveForLocal (c .state) l current) _ (fair-live (c .state) l current) (λ st₁ g₁.
+    fine-step p (pushStorageLiveForLocal (c .state) l current) _ (fair-live (isHeld (c .state) l) (c .state) l current) (λ st₁ g₁.
     fine-step p (tryStatement st₁ _) _ (fair-statement st₁ _) (λ st₂ g₂. fine-ok (Stays c) _ (kept-on g₁ g₂))))
 
 -- tests, in an image whose types are at most 256

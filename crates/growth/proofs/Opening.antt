@@ -26,7 +26,7 @@ use Rattle.mir.specs.Rvalues.{liveRow, placeRvalueRow, constantRow, binaryRow}
 use Rattle.state.specs.State.{State}
 use Rattle.state.specs.Steps.{within, nextLocal, newBlock, pushStatement, newLocal, pushEntry, tryBlock, tryStatement, tryLocal, tryEntry}
 use Rattle.lower.specs.declared.merging.OptBlock.{OptBlock}
-use Rattle.lower.specs.Temps.{isSlice, temp, pushStorageLiveForLocal}
+use Rattle.lower.specs.Temps.{isSlice, recordUnless, markLive, temp}
 use Rattle.views.specs.Views.{Line, terminatorOf, lineOf, mirOf}
 use Rattle.views.specs.Growing.{Quiet}
 use Rattle.pattern_matching.specs.Walking.{elseState}
@@ -231,13 +231,19 @@ pub binary-block : (block : BasicBlockId) (target : LocalId) (op : BinOp) (left 
 unfolding lineOf binaryRow
 binary-block block target op left place = refl
 
--- a local made live
-pub adds-live : (st st₁ : State) (l : LocalId) (block : BasicBlockId) → pushStorageLiveForLocal st l block ≡ ok st₁ → Adds st (block .0) st₁
-unfolding pushStorageLiveForLocal tryEntry
-adds-live st st₁ l block e =
-    followed (tryEntry st l) _ (unrefused (eqb (length (st .scopes)) 0) MirLowerError.NoScope _ e) (λ st₂ e₂ e₃.
-    adds-seq (subst (λ (s : State). Adds st (block .0) s) (given (ltb (length (st .entries)) entryLimit) (pushEntry st l) st₂ e₂) (adds-entry st (block .0) l))
-    (adds-statement st₂ st₁ (block .0) (liveRow block l) (live-block block l) e₃))
+-- a local that is held, or one entry more, where there is room
+adds-recorded : (held : Bool) (st st₁ : State) (current : ℕ) (l : LocalId) → recordUnless held st l ≡ ok st₁ → Adds st current st₁
+unfolding tryEntry
+adds-recorded true st st₁ current l e = let same : st ≡ st₁ = cc in subst (λ (s : State). Adds st current s) same (adds-same st current)
+adds-recorded false st st₁ current l e =
+    subst (λ (s : State). Adds st current s) (given (ltb (length (st .entries)) entryLimit) (pushEntry st l) st₁ e) (adds-entry st current l)
+
+-- a local made live, held or not
+pub adds-live : (held : Bool) (st st₁ : State) (l : LocalId) (block : BasicBlockId) → markLive held st l block ≡ ok st₁ → Adds st (block .0) st₁
+unfolding markLive
+adds-live held st st₁ l block e =
+    followed (recordUnless held st l) _ (unrefused (eqb (length (st .scopes)) 0) MirLowerError.NoScope _ e) (λ st₂ e₂ e₃.
+    adds-seq (adds-recorded held st st₂ (block .0) l e₂) (adds-statement st₂ st₁ (block .0) (liveRow block l) (live-block block l) e₃))
 
 -- a temporary
 pub adds-temp : (image : List ℕ) (st st₁ : State) (word : ℕ) (block : BasicBlockId) → temp image st word block ≡ ok st₁ → Adds st (block .0) st₁
@@ -245,7 +251,7 @@ unfolding temp tryLocal
 adds-temp image st st₁ word block e =
     followed (tryLocal st word) _ (unrefused (isSlice image word) MirLowerError.UnsizedTemporary _ e) (λ st₂ e₂ e₃.
     adds-seq (subst (λ (s : State). Adds st (block .0) s) (given (ltb (length (st .locals)) localLimit) (newLocal st word) st₂ e₂) (adds-local st (block .0) word))
-    (adds-live st₂ st₁ (nextLocal st) block e₃))
+    (adds-live false st₂ st₁ (nextLocal st) block e₃))
 
 -- the else that there is, or a new block
 pub opens-else : (st st₁ : State) (current : ℕ) (els : OptBlock) → elseState st els ≡ ok st₁ → Opens st current st₁

@@ -20,7 +20,7 @@ use Rattle.state.specs.State.{State}
 use Rattle.state.specs.Steps.{nextBlock, nextLocal, tryBlock, tryStatement, setTerminator}
 use Rattle.literals.specs.Literals.{lowerLiteralToOperand, lowerConstToOperand, lowerLiteralOrConstToOperand}
 use Rattle.lower.specs.declared.merging.OptBlock.{OptBlock}
-use Rattle.lower.specs.Temps.{temp, bindingLocal, pushStorageLiveForLocal, discrTempPlace}
+use Rattle.lower.specs.Temps.{isHeld, temp, bindingLocal, pushStorageLiveForLocal, discrTempPlace}
 use Rattle.views.specs.Growing.{Closed}
 use Rattle.pattern_matching.specs.declared.MatchingMode.{MatchingMode}
 use Rattle.pattern_matching.specs.Walking.{Ctx, ok, localPlace, elseState, elseBlock}
@@ -184,7 +184,7 @@ good-binding bindings p q b how ctx c els place =
     good-step q (bindingLocal bindings b) _ (λ l e.
     good-step p (pushStorageLiveForLocal st l c) _ (λ st₁ e₁.
     good-step p (tryStatement st₁ (placeRvalueRow c l (bindingRvalue how) place)) _ (λ st₂ e₂.
-    good-lines (ctx .visits) (adds-seq (adds-live st st₁ l c e₁)
+    good-lines (ctx .visits) (adds-seq (adds-live (isHeld st l) st st₁ l c e₁)
     (adds-statement st₁ st₂ (c .0) (placeRvalueRow c l (bindingRvalue how) place) (place-block c l (bindingRvalue how) place) e₂)))))
 
 -- a path that names a local

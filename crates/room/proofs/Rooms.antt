@@ -28,7 +28,7 @@ use Rattle.meaning.specs.Fits.{fits}
 use Rattle.fitted.proofs.Building.{kept-same}
 use Rattle.fitted.proofs.Refusing.{fit-refused}
 use Rattle.room.specs.Elements.{elements}
-use Rattle.room.specs.Room.{temporaries, boundLocals, localsOf, entriesOf, newLocals, newEntries, longestPlace, Room, Passed, ScopeOpen, Made}
+use Rattle.room.specs.Room.{temporaries, boundLocals, localsOf, entriesOf, newLocals, newEntries, longestPlace, Room, Passed, ScopeOpen, LocalsBelow, Made}
 use Rattle.room.specs.Room.{tooManyBlocks, tooManyStatements, tooManyLocals, tooManyEntries, tooManyElements}
 use Rattle.room.proofs.Telling.{Tells, Sound, sound-next}
 use Rattle.room.proofs.Building.{Table, block, statement, local, entry, held, limit, onceMore}
@@ -67,7 +67,7 @@ both-passes w = total-both (counted w) (spent checks 0 w) (spent binds 0 w) (λ 
     by entry r = once (r .ors) (temporaries r) (boundLocals r)
 
 module _ (image bindings : List ℕ) (root : Pat) (ctx : Ctx) (current : BasicBlockId) (els : OptBlock) (place : Place) (rooted : place .local .0 < length (ctx .state .locals))
-    (whole : length (place .elems) ≡ 16) (short : place .len ≤ 16) where
+    (whole : length (place .elems) ≡ 16) (short : place .len ≤ 16) (below : LocalsBelow bindings (ctx .state)) where
   abbrev ty : PlaceTy
   ty = placeTy image (ctx .state) place
 
@@ -82,7 +82,7 @@ module _ (image bindings : List ℕ) (root : Pat) (ctx : Ctx) (current : BasicBl
   inTheEnd w = held w (ctx .state) + (onceMore (canFail image root ty) els w + (total (spent checks 0 w) rs + (total (spent binds 0 w) rs + 0)))
 
   -- there is room for that
-  room-for-both : (A : Type 0) → (A → Room image root ctx els place) → A → (w : Table) → inTheEnd w ≤ limit w
+  room-for-both : (A : Type 0) → (A → Room image bindings root ctx els place) → A → (w : Table) → inTheEnd w ≤ limit w
   unfolding newBlocks newStatements newLocals newEntries
   room-for-both A room a block = let x = room a .blocks in let y = both-passes block rs in omega (arith, x, y)
   room-for-both A room a statement = let x = room a .statements in let y = both-passes statement rs in omega (arith, x, y)
@@ -90,7 +90,7 @@ module _ (image bindings : List ℕ) (root : Pat) (ctx : Ctx) (current : BasicBl
   room-for-both A room a entry = let x = room a .entries in let y = both-passes entry rs in omega (arith, x, y)
 
   -- what a refusal tells, and what an acceptance has made
-  told : (A : Type 0) → (A → Room image root ctx els place) →
+  told : (A : Type 0) → (A → Room image bindings root ctx els place) →
       Sound A ctx (Ends A ctx inTheEnd (canFail image root ty) (λ w. 0) binds place (elements image root ty)) (patternMatch image bindings root ctx current els place)
   unfolding patternMatch longestPlace
   told A room =
@@ -101,7 +101,7 @@ module _ (image bindings : List ℕ) (root : Pat) (ctx : Ctx) (current : BasicBl
       g .goes binds 0 inTheEnd (canFail image root ty) (λ w. 0) (r .ctx) (r .then) (r .else) place at (λ a. room a .elements) (λ t. absurd (false≢true t)) (h .0))
 
   -- Whether the pattern fits or not, an accepted lowering makes exactly as many locals and entries as are counted, and comes to no longer place.
-  pub made : (r : Out) → patternMatch image bindings root ctx current els place ≡ ok r → Made image root ctx place r
+  pub made : (r : Out) → patternMatch image bindings root ctx current els place ≡ ok r → Made image bindings root ctx place r
   unfolding newLocals newEntries longestPlace
   made r accepted =
       let h = told ⊥ (λ never. absurd never) .at r accepted in
@@ -112,11 +112,11 @@ module _ (image bindings : List ℕ) (root : Pat) (ctx : Ctx) (current : BasicBl
       }
 
   -- The theorem beside: whether the pattern fits or not, a refusal by 11 names a limit that is passed ..
-  pub refused-limit : (p : ℕ) → patternMatch image bindings root ctx current els place ≡ refused MirLowerError.Limit p → Passed image root ctx els place
+  pub refused-limit : (p : ℕ) → patternMatch image bindings root ctx current els place ≡ refused MirLowerError.Limit p → Passed image bindings root ctx els place
   refused-limit p stopped = by (le-or-lt B 512) (le-or-lt S 1024) (le-or-lt L 512) (le-or-lt N 1024) (le-or-lt P 16)
     where
-      none : Room image root ctx els place → ⊥
-      none = told (Room image root ctx els place) (λ room. room) .stop MirLowerError.Limit p stopped
+      none : Room image bindings root ctx els place → ⊥
+      none = told (Room image bindings root ctx els place) (λ room. room) .stop MirLowerError.Limit p stopped
 
       B : ℕ
       B = length (ctx .state .blocks) + newBlocks image root ty els
@@ -133,7 +133,7 @@ module _ (image bindings : List ℕ) (root : Pat) (ctx : Ctx) (current : BasicBl
       P : ℕ
       P = longestPlace image root ty (place .len)
 
-      by : (B ≤ 512) ⊎ (512 < B) → (S ≤ 1024) ⊎ (1024 < S) → (L ≤ 512) ⊎ (512 < L) → (N ≤ 1024) ⊎ (1024 < N) → (P ≤ 16) ⊎ (16 < P) → Passed image root ctx els place
+      by : (B ≤ 512) ⊎ (512 < B) → (S ≤ 1024) ⊎ (1024 < S) → (L ≤ 512) ⊎ (512 < L) → (N ≤ 1024) ⊎ (1024 < N) → (P ≤ 16) ⊎ (16 < P) → Passed image bindings root ctx els place
       by b s l n q =
           ⊎-elim (λ b. ⊎-elim (λ s. ⊎-elim (λ l. ⊎-elim (λ n. ⊎-elim (λ q. absurd (none (record { blocks = b; statements = s; locals = l; entries = n; elements = q }))) (λ q. tooManyElements q) q)
           (λ n. tooManyEntries n) n) (λ l. tooManyLocals l) l) (λ s. tooManyStatements s) s) (λ b. tooManyBlocks b) b
@@ -144,12 +144,12 @@ module _ (image bindings : List ℕ) (root : Pat) (ctx : Ctx) (current : BasicBl
 
 -- The theorem: a pattern that fits, with room and a scope open, is accepted.
 pub fit-accepted : (image bindings : List ℕ) (pat : Pat) (ctx : Ctx) (current : BasicBlockId) (els : OptBlock) (place : Place) (t : ℕ) → valid image ≡ true → t < typeCount image →
-    placeTy image (ctx .state) place ≡ PlaceTy.Ty t → place .local .0 < length (ctx .state .locals) → length (place .elems) ≡ 16 →
-    fits image bindings (place .local .0) t pat ≡ true → Room image pat ctx els place → ScopeOpen ctx → (r : Out) × (patternMatch image bindings pat ctx current els place ≡ ok r)
+    placeTy image (ctx .state) place ≡ PlaceTy.Ty t → place .local .0 < length (ctx .state .locals) → length (place .elems) ≡ 16 → LocalsBelow bindings (ctx .state) →
+    fits image bindings (place .local .0) t pat ≡ true → Room image bindings pat ctx els place → ScopeOpen ctx → (r : Out) × (patternMatch image bindings pat ctx current els place ≡ ok r)
 unfolding numberOf
-fit-accepted image bindings pat ctx current els place t v there placed rooted whole fit room scope = by (patternMatch image bindings pat ctx current els place) refl
+fit-accepted image bindings pat ctx current els place t v there placed rooted whole below fit room scope = by (patternMatch image bindings pat ctx current els place) refl
   where
-    none : (e : MirLowerError) → (numberOf e ≡ 11) ⊎ (numberOf e ≡ 14) → Tells (Room image pat ctx els place) ctx e → ⊥
+    none : (e : MirLowerError) → (numberOf e ≡ 11) ⊎ (numberOf e ≡ 14) → Tells (Room image bindings pat ctx els place) ctx e → ⊥
     none MirLowerError.IncompletePattern l told = ⊎-elim (λ x. omega (arith, x)) (λ x. omega (arith, x)) l
     none (MirLowerError.TypeError reason) l told = ⊎-elim (λ x. omega (arith, x)) (λ x. omega (arith, x)) l
     none MirLowerError.UnresolvedField l told = ⊎-elim (λ x. omega (arith, x)) (λ x. omega (arith, x)) l
@@ -170,4 +170,4 @@ fit-accepted image bindings pat ctx current els place t v there placed rooted wh
     by (ok r) e = (r, refl)
     by (refused error p) e =
         absurd (none error (fit-refused image bindings pat ctx current els place t error p v there placed rooted whole fit e)
-        (told image bindings pat ctx current els place rooted whole short (Room image pat ctx els place) (λ room. room) .stop error p e))
+        (told image bindings pat ctx current els place rooted whole short below (Room image bindings pat ctx els place) (λ room. room) .stop error p e))
