@@ -2,7 +2,7 @@
 use Prim.Native.Nat.{ℕ, suc, _+_, _≤_, _<_}
 use native.Mathlib.Nat.{le-refl, le-trans, lt-of-lt-of-le}
 use native.Mathlib.Omega.{arith}
-use mathlib.Core.Path.{_≡_, refl, sym, ap, _∙_}
+use mathlib.Core.Path.{_≡_, refl, sym, ap, subst, _∙_}
 use mathlib.Core.Bool.{Bool, true, false, cond}
 use mathlib.Core.List.{List, [], _∷_, _++_}
 use borrow.Author.Tests.{eqb-false}
@@ -23,12 +23,12 @@ use Rattle.state.specs.State.{State}
 use Rattle.state.specs.Steps.{newBlock, setTerminator, pushStatement, newLocal, pushEntry, within, tryBlock, tryStatement, tryLocal, tryEntry, nextLocal}
 use Rattle.lower.specs.declared.merging.OptBlock.{OptBlock}
 use Rattle.lower.specs.Temps.{isSlice, isHeld, recordUnless, markLive, pushStorageLiveForLocal, temp, bindingLocal}
-use Rattle.lower.specs.Recorded.{recorded}
+use Rattle.lower.specs.Recorded.{recorded, occurs, OncePerLocal}
 use Rattle.views.specs.Views.{Line, terminatorOf, lineOf, mirOf}
 use Rattle.pattern_matching.specs.Walking.{elseState}
 use Rattle.counting.proofs.Holding.{Gives, gives, stops, gives-then}
 use Rattle.named.specs.Named.{StatementBelow, TerminatorBelow, NamesBelow, NamedBelow, WordsBelow}
-use Rattle.named.proofs.Recording.{Made, made-nothing, made-beside, made-line, none-above}
+use Rattle.named.proofs.Recording.{Made, made-nothing, made-beside, made-line, none-above, once-recorded}
 use Rattle.named.proofs.Rows.{each-as, each-more, each-made, each-set, statement-more, terminator-more, terminator-row, RowBelow, live-row, live-marks}
 
 -- a state with at least n locals, in which nothing names one that there is not, and what was made of it from a state s₀ on
@@ -222,6 +222,17 @@ temp-looked-for image st word block h =
         ≡ andThen (within b (newLocal st word)) (λ st₁. pushStorageLiveForLocal st₁ (nextLocal st) block)
     by true = ap (λ (held : Bool). markLive held (newLocal st word) (nextLocal st) block) (sym (unheld-new st word h))
     by false = refl
+
+-- a local is made
+pub named-local : (st : State) (word : ℕ) → NamedBelow st → NamedBelow (newLocal st word)
+named-local st word h = kept-local st word (kept-start st h) .named
+
+-- a local is made and recorded without a live mark, as a parameter's is: it is new, so a local stands in the entries at most once if it did
+pub entered-local : (st : State) (word : ℕ) → NamedBelow st → NamedBelow (pushEntry (newLocal st word) (nextLocal st)) × OncePerLocal st (pushEntry (newLocal st word) (nextLocal st))
+unfolding newLocal
+entered-local st word h =
+    let r = entered-new (newLocal st word) (nextLocal st) (omega arith) (kept-local st word (kept-start st h)) (unheld-new st word h) in
+    (r .named, λ l few. subst (λ (es : List ℕ). occurs l es ≤ 1) (sym (r .entries)) (once-recorded (st .entries) (length (st .locals) ∷ []) l few))
 
 -- the local of a binding that has one
 pub bound-local : {n : ℕ} (bindings : List ℕ) (b : ℕ) → WordsBelow bindings n → Gives (λ (l : LocalId). l .0 < n) (bindingLocal bindings b)

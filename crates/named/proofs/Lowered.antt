@@ -18,50 +18,53 @@ use Rattle.pattern_matching.specs.Patterns.{patternMatchInner, patternMatch, ma
 use Rattle.counting.proofs.Holding.{holds-next}
 use Rattle.named.specs.Named.{NamedBelow, WordsBelow}
 use Rattle.named.specs.Marked.{MarksRecorded}
-use Rattle.named.proofs.Recording.{made-recorded, once-made}
+use Rattle.named.proofs.Recording.{Made, made-recorded, once-made}
 use Rattle.named.proofs.Keeping.{Kept, kept-start}
 use Rattle.named.proofs.Testing.{KeptBehind, keeps-binding}
 use Rattle.named.proofs.Walks.{keeps}
 
--- accepted lowerings of a pattern, from a state in which nothing names a local that there is not: so is the state that comes of it, and what was made is recorded
-module _ (image bindings : List ℕ) (pat : Pat) (ctx : Ctx) (c : BasicBlockId) (place : Place) (r : Out) (named : NamedBelow (ctx .state))
+-- an accepted `pattern_match`, in two passes
+pub match-kept : {s₀ : State} {n : ℕ} (image bindings : List ℕ) → WordsBelow bindings n → (pat : Pat) (ctx : Ctx) (c : BasicBlockId) (els : OptBlock) (place : Place) (r : Out) →
+    place .local .0 < n → Kept s₀ n (ctx .state) → patternMatch image bindings pat ctx c els place ≡ ok r → Kept s₀ n (r .ctx .state)
+unfolding patternMatch
+match-kept {s₀} {n} image bindings below pat ctx c els place r root k e =
+    holds-next {P = KeptBehind s₀ n} {Q = KeptBehind s₀ n} (patternMatchInner image bindings pat MatchingMode.Check ctx c els place)
+    (λ r₁. patternMatchInner image bindings pat MatchingMode.Bind (r₁ .ctx) (r₁ .then) (r₁ .else) place) (keeps s₀ n bindings below image pat MatchingMode.Check ctx c els place root k)
+    (λ r₁ k₁. keeps s₀ n bindings below image pat MatchingMode.Bind (r₁ .ctx) (r₁ .then) (r₁ .else) place root k₁) .at r e
+
+-- accepted lowerings of a pattern, from a state in which nothing names a local that there is not
+module _ (image bindings : List ℕ) (pat : Pat) (ctx : Ctx) (c : BasicBlockId) (els : OptBlock) (place : Place) (r : Out) (named : NamedBelow (ctx .state))
     (below : WordsBelow bindings (length (ctx .state .locals))) (root : place .local .0 < length (ctx .state .locals)) where
-  abbrev s₀ : State
-  s₀ = ctx .state
+  -- what was made
+  inner-made : (mode : MatchingMode) → patternMatchInner image bindings pat mode ctx c els place ≡ ok r → Made (ctx .state) (r .ctx .state)
+  inner-made mode e = keeps (ctx .state) (length (ctx .state .locals)) bindings below image pat mode ctx c els place root (kept-start (ctx .state) named) .at r e .made
 
-  abbrev n : ℕ
-  n = length (ctx .state .locals)
-
-  -- in one mode, as `pattern_match_assignment` is
-  pub inner-kept : (mode : MatchingMode) (els : OptBlock) → patternMatchInner image bindings pat mode ctx c els place ≡ ok r → Kept s₀ n (r .ctx .state)
-  inner-kept mode els e = keeps s₀ n bindings below image pat mode ctx c els place root (kept-start s₀ named) .at r e
-
-  -- `pattern_match`, in two passes
-  pub match-kept : (els : OptBlock) → patternMatch image bindings pat ctx c els place ≡ ok r → Kept s₀ n (r .ctx .state)
-  unfolding patternMatch
-  match-kept els e =
-      holds-next {P = KeptBehind s₀ n} {Q = KeptBehind s₀ n} (patternMatchInner image bindings pat MatchingMode.Check ctx c els place)
-      (λ r₁. patternMatchInner image bindings pat MatchingMode.Bind (r₁ .ctx) (r₁ .then) (r₁ .else) place)
-      (keeps s₀ n bindings below image pat MatchingMode.Check ctx c els place root (kept-start s₀ named))
-      (λ r₁ k₁. keeps s₀ n bindings below image pat MatchingMode.Bind (r₁ .ctx) (r₁ .then) (r₁ .else) place root k₁) .at r e
+  match-made : patternMatch image bindings pat ctx c els place ≡ ok r → Made (ctx .state) (r .ctx .state)
+  match-made e = match-kept image bindings below pat ctx c els place r root (kept-start (ctx .state) named) e .made
 
   -- "A live mark now records its local in the last scope unless an open scope already holds it."
-  pub inner-recorded : (mode : MatchingMode) (els : OptBlock) → patternMatchInner image bindings pat mode ctx c els place ≡ ok r → MarksRecorded s₀ (r .ctx .state)
-  inner-recorded mode els e = made-recorded (inner-kept mode els e .made)
+  pub inner-recorded : (mode : MatchingMode) → patternMatchInner image bindings pat mode ctx c els place ≡ ok r → MarksRecorded (ctx .state) (r .ctx .state)
+  inner-recorded mode e = made-recorded (inner-made mode e)
 
-  pub match-recorded : (els : OptBlock) → patternMatch image bindings pat ctx c els place ≡ ok r → MarksRecorded s₀ (r .ctx .state)
-  match-recorded els e = made-recorded (match-kept els e .made)
+  pub match-recorded : patternMatch image bindings pat ctx c els place ≡ ok r → MarksRecorded (ctx .state) (r .ctx .state)
+  match-recorded e = made-recorded (match-made e)
 
   -- "Where a local stands at most once in all the scopes handed in, it still does afterwards"
-  pub inner-once : (mode : MatchingMode) (els : OptBlock) → patternMatchInner image bindings pat mode ctx c els place ≡ ok r → OncePerLocal s₀ (r .ctx .state)
-  inner-once mode els e = once-made (inner-kept mode els e .made)
+  pub inner-once : (mode : MatchingMode) → patternMatchInner image bindings pat mode ctx c els place ≡ ok r → OncePerLocal (ctx .state) (r .ctx .state)
+  inner-once mode e = once-made (inner-made mode e)
 
-  pub match-once : (els : OptBlock) → patternMatch image bindings pat ctx c els place ≡ ok r → OncePerLocal s₀ (r .ctx .state)
-  match-once els e = once-made (match-kept els e .made)
+  pub match-once : patternMatch image bindings pat ctx c els place ≡ ok r → OncePerLocal (ctx .state) (r .ctx .state)
+  match-once e = once-made (match-made e)
 
 -- an accepted `match_self_param`
-pub self-kept : (image bindings : List ℕ) (b : ℕ) (ctx : Ctx) (c : BasicBlockId) (l : LocalId) (r : Out) → NamedBelow (ctx .state) → WordsBelow bindings (length (ctx .state .locals)) →
-    l .0 < length (ctx .state .locals) → matchSelfParam image bindings b ctx c l ≡ ok r → Kept (ctx .state) (length (ctx .state .locals)) (r .ctx .state)
-unfolding matchSelfParam localPlace
-self-kept image bindings b ctx c l r named below there e =
-    keeps-binding bindings below noPattern noPattern b BindingMode.Value ctx c OptBlock.None (localPlace l) there (kept-start (ctx .state) named) .at r e
+module _ (image bindings : List ℕ) (b : ℕ) (ctx : Ctx) (c : BasicBlockId) (l : LocalId) (r : Out) (named : NamedBelow (ctx .state))
+    (below : WordsBelow bindings (length (ctx .state .locals))) (there : l .0 < length (ctx .state .locals)) where
+  self-made : matchSelfParam image bindings b ctx c l ≡ ok r → Made (ctx .state) (r .ctx .state)
+  unfolding matchSelfParam localPlace
+  self-made e = keeps-binding bindings below noPattern noPattern b BindingMode.Value ctx c OptBlock.None (localPlace l) there (kept-start (ctx .state) named) .at r e .made
+
+  pub self-recorded : matchSelfParam image bindings b ctx c l ≡ ok r → MarksRecorded (ctx .state) (r .ctx .state)
+  self-recorded e = made-recorded (self-made e)
+
+  pub self-once : matchSelfParam image bindings b ctx c l ≡ ok r → OncePerLocal (ctx .state) (r .ctx .state)
+  self-once e = once-made (self-made e)

@@ -15,3 +15,4 @@ mod Fitting
 mod Holding
 pub mod Through
 pub mod Runs
+pub mod Scoping

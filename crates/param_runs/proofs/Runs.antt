@@ -82,7 +82,7 @@ unfolding selfNamed
 self-there image b ty e = ltb-true (b .0) (bindingCount image) (and-left (ltb (b .0) (bindingCount image)) (ltb ty (typeCount image)) e)
 
 -- a type for each parameter
-types-count : (qs : List Param) → length (paramTypes qs) ≡ length qs
+pub types-count : (qs : List Param) → length (paramTypes qs) ≡ length qs
 unfolding paramTypes
 types-count [] = refl
 types-count (q ∷ qs) = let e = types-count qs in omega (arith, e)
