@@ -35,7 +35,7 @@ pub an-accepted-call-had-room : (call : Call) (out : HandedOut) → Accepted cal
 an-accepted-call-had-room = calls.had-room
 
 -- .. and, beside demand 3 on blocks and statements, the new locals and entries are exactly as many as are counted.
-pub locals-and-entries-are-as-many-as-counted : (call : Call) (out : HandedOut) → Accepted call out → Made (call .image) (patternOf call) (startOf call) (call .place) (resultOf out)
+pub locals-and-entries-are-as-many-as-counted : (call : Call) (out : HandedOut) → Accepted call out → Made (call .image) (call .bindings) (patternOf call) (startOf call) (call .place) (resultOf out)
 locals-and-entries-are-as-many-as-counted = calls.made
 
 -- The same of the definition, which a call that is taken comes to: the lowering gives something.

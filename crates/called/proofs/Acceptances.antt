@@ -33,7 +33,7 @@ pub fit-lowered : {call : Call} → FittingPattern call → Taken call → HasRo
 fit-lowered {call} fit T room scope =
     let G = given call T in
     rooms.fit-accepted (call .image) (call .bindings) (patternOf call) (startOf call) (call .start) (call .else) (call .place) (fit .type) (G .image-valid) (fit .of-type .named) (fit .of-type .typed)
-    (G .root) (call .elements) (fit .fitting) room scope
+    (G .root) (call .elements) (G .bound) (fit .fitting) room scope
 
 -- whatever the contract lets it answer
 pub fit-accepted : {call : Call} → FittingPattern call → Taken call → HasRoom call → ScopeOpen (startOf call) → (r : MatchCall) (body : Body) (visits : List ℕ) → Promised call r body visits →
@@ -47,20 +47,21 @@ fit-accepted {call} fit T room scope r body visits P =
 pub refused-limit : (call : Call) (p : PatId) → Refused call MirLowerError.Limit p → LimitPassed call
 refused-limit call p refusal =
     let (T, W) = taken call (MatchCall.Refused MirLowerError.Limit p) (refusal .body) (refusal .visits) tt (refusal .promised) in
-    rooms.refused-limit (call .image) (call .bindings) (patternOf call) (startOf call) (call .start) (call .else) (call .place) (given call T .root) (call .elements) (given call T .within) (p .0)
+    rooms.refused-limit (call .image) (call .bindings) (patternOf call) (startOf call) (call .start) (call .else) (call .place) (given call T .root) (call .elements) (given call T .within) (given call T .bound) (p .0)
     (stopping (walkOf call) MirLowerError.Limit p W)
 
 -- and one by 14 finds no scope open
 pub refused-scope : (call : Call) (p : PatId) → Refused call MirLowerError.NoScope p → length (before call .scopes) ≡ 0
 refused-scope call p refusal =
     let (T, W) = taken call (MatchCall.Refused MirLowerError.NoScope p) (refusal .body) (refusal .visits) tt (refusal .promised) in
-    rooms.refused-scope (call .image) (call .bindings) (patternOf call) (startOf call) (call .start) (call .else) (call .place) (given call T .root) (call .elements) (given call T .within) (p .0)
+    rooms.refused-scope (call .image) (call .bindings) (patternOf call) (startOf call) (call .start) (call .else) (call .place) (given call T .root) (call .elements) (given call T .within) (given call T .bound) (p .0)
     (stopping (walkOf call) MirLowerError.NoScope p W)
 
 -- an acceptance has made exactly as many locals and entries as are counted
-pub made : (call : Call) (out : HandedOut) → Accepted call out → Made (call .image) (patternOf call) (startOf call) (call .place) (resultOf out)
+pub made : (call : Call) (out : HandedOut) → Accepted call out → Made (call .image) (call .bindings) (patternOf call) (startOf call) (call .place) (resultOf out)
 made call out accepted =
-    rooms.made (call .image) (call .bindings) (patternOf call) (startOf call) (call .start) (call .else) (call .place) (handed call out accepted .root) (call .elements) (handed call out accepted .within) (resultOf out)
+    rooms.made (call .image) (call .bindings) (patternOf call) (startOf call) (call .start) (call .else) (call .place) (handed call out accepted .root) (call .elements) (handed call out accepted .within) (handed call out accepted .bound)
+    (resultOf out)
     (gives call out accepted)
 
 -- so there was room for it
@@ -81,7 +82,7 @@ had-room call out accepted =
     counts : Counted (call .image) (patternOf call) (startOf call) (call .else) (call .place) (resultOf out)
     counts = counted call out accepted
 
-    makes : Made (call .image) (patternOf call) (startOf call) (call .place) (resultOf out)
+    makes : Made (call .image) (call .bindings) (patternOf call) (startOf call) (call .place) (resultOf out)
     makes = made call out accepted
 
     ready : Ready (out .body) (countsOf (after out))

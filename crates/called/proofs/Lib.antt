@@ -9,3 +9,4 @@ pub mod Restored
 pub mod Params
 pub mod Acceptances
 pub mod Naming
+pub mod Scopes

@@ -6,3 +6,4 @@ pub mod Naming
 pub mod AsFound
 pub mod Contracts
 pub mod Params
+pub mod Scopes

@@ -7,7 +7,7 @@ use mathlib.Core.List.{List, [], _∷_, _++_}
 use lib.Dec.{eqb, ltb}
 use lib.ListN.{length, getD, set, length-append}
 use Rattle.refusals.specs.declared.MirLowerError.{MirLowerError}
-use Rattle.refusals.specs.Refusals.{Result, ok as done, refused, andThen}
+use Rattle.refusals.specs.Refusals.{ok as done, refused, andThen}
 use Rattle.image.specs.Tables.{bindingCount}
 use Rattle.image.specs.Types.{bindingOf}
 use Rattle.image.specs.Tree.{tree}
@@ -29,7 +29,6 @@ use Rattle.named.proofs.Recording.{once-made}
 use Rattle.named.proofs.Keeping.{Kept, kept-start, kept-terminator, guarded, named-local, entered-local}
 use Rattle.named.proofs.Leaving.{same-once}
 use Rattle.named.proofs.Lowered.{match-kept}
-use Rattle.param_runs.proofs.Shutting.{shutOut}
 use Rattle.param_runs.proofs.Owning.{param-case}
 use Rattle.param_runs.proofs.Declaring.{selfTypes, paramTypes, makes-count, all-made}
 use Rattle.param_runs.proofs.Stepping.{steps}
