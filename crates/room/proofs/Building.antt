@@ -180,22 +180,24 @@ module _ {A : Type 0} {base : Origin} {T : Goal} (st : State) (m : Table → ℕ
   unfolding tryLocal newLocal
   spend-local word h =
       within-room (λ st′. Has A base T st′ m × (length (st .locals) < 512)) (length (st .locals)) 512 (newLocal st word) (λ a. let x = h .sum local in let y = h .room a local in omega (arith, x, y)) (λ less. (
-      record {
-        scopes = h .scopes;
-        kept = kept-on (h .kept) (record {
-          locals = let e = length-append (st .locals) (word ∷ []) in omega (arith, e);
-          kept = λ i l. List·getD-append (st .locals) (word ∷ []) 0 i l;
-        });
-        old = h .old;
-        room = h .room;
-        sum =
-            let n = length-append (st .locals) (word ∷ []) in
-            let x = h .sum block in
-            let y = h .sum statement in
-            let z = h .sum local in
-            let u = h .sum entry in
-            by-table _ _ (omega (arith, x)) (omega (arith, y)) (omega (arith, n, z)) (omega (arith, u));
-      }, less))
+        record {
+          scopes = h .scopes;
+          kept = kept-on (h .kept) (record {
+            locals = let e = length-append (st .locals) (word ∷ []) in omega (arith, e);
+            kept = λ i l. List·getD-append (st .locals) (word ∷ []) 0 i l;
+          });
+          old = h .old;
+          room = h .room;
+          sum =
+              let n = length-append (st .locals) (word ∷ []) in
+              let x = h .sum block in
+              let y = h .sum statement in
+              let z = h .sum local in
+              let u = h .sum entry in
+              by-table _ _ (omega (arith, x)) (omega (arith, y)) (omega (arith, n, z)) (omega (arith, u));
+        },
+        less,
+      ))
 
   -- a terminator takes no room
   pub has-terminator : (b : BasicBlockId) (t : Terminator) → Has A base T st m → Has A base T (setTerminator st b t) m

@@ -92,7 +92,9 @@ recorded-beside (l ∷ ls) e e′ n same more =
 -- one more entry, whose local is none of those to be recorded
 pub recorded-another : (t : ℕ) (ls e : List ℕ) → member t ls ≡ false → length (recorded (e ++ (t ∷ [])) ls) ≡ length (recorded e ls) + 1
 unfolding member
-recorded-another t ls e none = recorded-beside ls e (e ++ (t ∷ [])) 1 (λ x q. member-append x e (t ∷ []) ∙ or-turned (member x e) (eqb x t) ∙ ap (λ (b : Bool). b || member x e) (ne-eqb x t (λ p. other x q p))) (length-append e (t ∷ []))
+recorded-another t ls e none =
+    recorded-beside ls e (e ++ (t ∷ [])) 1
+    (λ x q. member-append x e (t ∷ []) ∙ or-turned (member x e) (eqb x t) ∙ ap (λ (b : Bool). b || member x e) (ne-eqb x t (other x q))) (length-append e (t ∷ []))
   where
     other : (x : ℕ) → member x ls ≡ true → x ≡ t → ⊥
     other x q p = false≢true (sym none ∙ subst (λ (k : ℕ). member k ls ≡ true) p q)
