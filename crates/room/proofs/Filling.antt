@@ -1,7 +1,8 @@
 -- Bindings, and the items and the rest of a Slice, take what is counted of them. Assumes nothing.
 use mathlib.Core.Path.{_≡_, refl, sym, ap, subst, _∙_}
 use mathlib.Core.Bool.{Bool, true, false, cond, _||_}
-use mathlib.Core.List.{List, [], _∷_, _++_, map}
+use mathlib.Core.Option.{Option, none, some}
+use mathlib.Core.List.{List, [], _∷_, _++_, map, append-nil}
 use Prim.Native.Nat.{ℕ, suc, _+_, _-_, _≤_, max}
 use native.Mathlib.Nat.{le-refl, le-trans, le-antisymm, le-max-left, le-max-right, max-le, max-zero, zero-max}
 use native.Mathlib.Omega.{arith}
@@ -22,89 +23,98 @@ use Rattle.pattern_matching.specs.Tests.{patternMatchBinding}
 use Rattle.pattern_matching.specs.Variants.{patternMatchAdt}
 use Rattle.pattern_matching.specs.Slices.{RestOf, lengthTest, restBound, sliceItems, sliceOn, suffixItems}
 use Rattle.pattern_matching.specs.Patterns.{bindPattern}
-use Rattle.counting.specs.Reaching.{Argument, zip, isSliceShape, items, someArgument, Reached, Reaching, testing, binding, lengthStatements, restBinds, throughArguments}
+use Rattle.counting.specs.Reaching.{Argument, zip, isSliceShape, items, someArgument, Reached, Reaching, testing, binding, lengthStatements, restBinding, throughArguments}
 use Rattle.counting.specs.Counting.{total}
 use Rattle.counting.proofs.Passing.{Pass, checks, binds, modeOf, inChecks, total-append}
 use Rattle.counting.proofs.Arguments.{fit-all}
 use Rattle.counting.proofs.Rows.{through-append, some-argument-append}
 use Rattle.room.specs.Elements.{mostOfArguments, restElements}
-use Rattle.room.proofs.Telling.{Sound, sound-ok, sound-step, sound-as}
-use Rattle.room.proofs.Building.{Table, block, statement, local, entry, make, has-as, has-by}
-use Rattle.room.proofs.Spending.{At, Ends, reach-none, reach-back, no-or, idle-testing, free-testing, spent-free, spent, tested, own, AllAbove, above-append, Fares, Spends, spends-within, spends-as, spends-under, spends-refused, spends-both, spends-test, sure-project}
+use Rattle.room.proofs.Telling.{Origin, Sound, sound-ok, sound-step, sound-as}
+use Rattle.room.proofs.Recording.{Alike, alike-is, alike-on, alike-moved}
+use Rattle.room.proofs.Building.{Table, block, statement, local, entry, make, Goal, owing, has-as, has-by}
+use Rattle.room.proofs.Spending.{At, Ends, reach-none, reach-back, no-or, idle-testing, free-testing, spent-free, spent, tested, own, markedBy, markedIn, marked-append, AllAbove, above-append, Fares, Spends, spends-within, spends-as, spends-under, spends-refused, spends-both, spends-test, sure-project}
 use Rattle.room.proofs.Rows.{Each, none-left, one-more, Row, spends-arguments, most-append}
 use Rattle.room.proofs.Testing.{sound-length, sound-binding}
 
 -- what a binding takes in Bind
-fills : {A : Type 0} {base : Ctx} {T : Table → ℕ} (h : Head) (k : ℕ) (F : Bool) (m : Table → ℕ) (c : Ctx) (els : OptBlock) → Fares A base T F (λ w. total (spent binds k w) (binding h k false 0 0 2 ∷ []) + m w) c els →
-    Fares A base T F (λ w. make 0 2 0 1 w + m w) c els
+fills : {A : Type 0} {base : Origin} {T : Goal} (h : Head) (b k : ℕ) (F : Bool) (m : Table → ℕ) (c : Ctx) (els : OptBlock) → Fares A base T F (λ w. total (spent binds k w) (binding h k false 0 0 (some b) ∷ []) + m w) c els →
+    Fares A base T F (λ w. make 0 2 0 0 w + m w) c els
 unfolding total
-fills h k F m c els room = has-by room _ (omega arith) (omega arith) (omega arith) (omega arith)
+fills h b k F m c els room = has-by room _ (omega arith) (omega arith) (omega arith) (omega arith)
 
-module _ {A : Type 0} {base : Ctx} {image : List ℕ} (ty : PlaceTy) (h : Head) where
+module _ {A : Type 0} {base : Origin} {image : List ℕ} (ty : PlaceTy) (h : Head) where
   -- a binding
-  spends-binding : (bindings : List ℕ) (q b : ℕ) (how : BindingMode) →
-      Spends A base image ty (λ mode c current els place. inCheck mode (out c current els) (patternMatchBinding bindings (h .number) q b how c current els place)) false 0
-      (λ k. binding h k false 0 0 2 ∷ [])
+  spends-binding : (q b : ℕ) (how : BindingMode) →
+      Spends A base image ty (λ mode c current els place. inCheck mode (out c current els) (patternMatchBinding (base .bindings) (h .number) q b how c current els place)) false 0
+      (λ k. binding h k false 0 0 (some b) ∷ [])
   unfolding total
-  spends-binding bindings q b how = record { above = λ k. (le-refl _, tt); goes = by }
+  spends-binding q b how = record { above = λ k. (le-refl _, tt); goes = by }
     where
-      by : (pass : Pass) (k : ℕ) (T : Table → ℕ) (F : Bool) (m : Table → ℕ) (c : Ctx) (current : BasicBlockId) (els : OptBlock) (place : Place) → At image base place ty → (A → place .len + 0 ≤ 16) →
-          (inChecks pass false ≡ true → F ≡ true) → Fares A base T F (λ w. total (spent pass k w) (binding h k false 0 0 2 ∷ []) + m w) c els →
-          Sound A base (Ends A base T F m pass place 0) (inCheck (modeOf pass) (out c current els) (patternMatchBinding bindings (h .number) q b how c current els place))
+      by : (pass : Pass) (k : ℕ) (T : Goal) (F : Bool) (m : Table → ℕ) (c : Ctx) (current : BasicBlockId) (els : OptBlock) (place : Place) → At image base place ty → (A → place .len + 0 ≤ 16) →
+          (inChecks pass false ≡ true → F ≡ true) → Fares A base (owing (markedIn (base .bindings) pass (binding h k false 0 0 (some b) ∷ [])) T) F (λ w. total (spent pass k w) (binding h k false 0 0 (some b) ∷ []) + m w) c els →
+          Sound A base (Ends A base T F m pass place 0) (inCheck (modeOf pass) (out c current els) (patternMatchBinding (base .bindings) (h .number) q b how c current els place))
       by checks k T F m c current els place at len f room = sound-ok (Ends A base T F m checks place 0) _ (has-by room _ (omega arith) (omega arith) (omega arith) (omega arith), tt)
       by binds k T F m c current els place at len f room =
-          sound-as (λ r z. (z, reach-none binds place (at .short))) (sound-binding image (h .number) m c F bindings q b how current els place (fills h k F m c els room))
+          sound-as (λ r z. (z, reach-none binds place (at .short))) (sound-binding image (h .number) m c F (base .bindings) q b how current els place (fills h b k F m c els room))
 
   -- a Bind: its subpattern first
-  pub spends-bind : {l : Lowering} {fails : Bool} {deep : ℕ} {rs : ℕ → List Reached} (bindings : List ℕ) (b : ℕ) (how : BindingMode) → Spends A base image ty l fails deep rs →
-      Spends A base image ty (bindPattern bindings (h .number) b how l) fails deep (λ k. binding h k false 0 0 2 ∷ rs k)
+  pub spends-bind : {l : Lowering} {fails : Bool} {deep : ℕ} {rs : ℕ → List Reached} (b : ℕ) (how : BindingMode) → Spends A base image ty l fails deep rs →
+      Spends A base image ty (bindPattern (base .bindings) (h .number) b how l) fails deep (λ k. binding h k false 0 0 (some b) ∷ rs k)
   unfolding bindPattern total
-  spends-bind {l = l} {fails = fails} {deep = deep} {rs = rs} bindings b how g =
-      let both = spends-within {fails′ = fails} {deep′ = deep} {rs′ = λ k. binding h k false 0 0 2 ∷ rs k} (or-only fails) (max-zero deep) (λ k. (le-refl _, g .above k))
-      (λ pass k w. let x = total-append (spent pass k w) (rs k) (binding h k false 0 0 2 ∷ []) in omega (arith, x)) (spends-both l _ g (spends-binding bindings (h .number) b how)) in
+  spends-bind {l = l} {fails = fails} {deep = deep} {rs = rs} b how g =
+      let both = spends-within {fails′ = fails} {deep′ = deep} {rs′ = λ k. binding h k false 0 0 (some b) ∷ rs k} (or-only fails) (max-zero deep) (λ k. (le-refl _, g .above k))
+      (λ pass k w. let x = total-append (spent pass k w) (rs k) (binding h k false 0 0 (some b) ∷ []) in omega (arith, x)) (λ pass k ls. late pass k ls) (spends-both l _ g (spends-binding (h .number) b how)) in
       record { above = both .above; goes = both .goes }
     where
+      late : (pass : Pass) (k : ℕ) (ls : List ℕ) →
+          Alike (markedIn (base .bindings) pass (binding h k false 0 0 (some b) ∷ rs k) ++ ls) (markedIn (base .bindings) pass (rs k ++ (binding h k false 0 0 (some b) ∷ [])) ++ ls)
+      late pass k ls =
+          let own = markedBy (base .bindings) pass (some b) in
+          let below = markedIn (base .bindings) pass (rs k) in
+          alike-on (alike-is (ap (λ (l : List ℕ). (own ++ l) ++ ls) (sym (append-nil below))))
+          (alike-on (alike-moved own below [] ls) (alike-is (ap (λ (l : List ℕ). l ++ ls) (sym (marked-append (base .bindings) pass (rs k) (binding h k false 0 0 (some b) ∷ []))))))
+
       or-only : (x : Bool) → (x || false) ≡ true → x ≡ true
       or-only true e = refl
       or-only false e = e
 
   -- a rest
-  spends-rest : (bindings : List ℕ) (front end : ℕ) (rest : RestOf) →
-      Spends A base image ty (restBound rest bindings (h .number) front end) false (restElements rest) (λ k. binding h k false 0 0 (restBinds rest) ∷ [])
-  unfolding restBound restElements restBinds total
-  spends-rest bindings front end RestOf.none =
+  spends-rest : (front end : ℕ) (rest : RestOf) →
+      Spends A base image ty (restBound rest (base .bindings) (h .number) front end) false (restElements rest) (λ k. binding h k false 0 0 (restBinding rest) ∷ [])
+  unfolding restBound restElements restBinding total
+  spends-rest front end RestOf.none =
       record {
         above = λ k. (le-refl _, tt);
         goes = λ pass k T F m c current els place at len f room.
             sound-ok (Ends A base T F m pass place 0) _
             (has-as _ (λ w. let a = spent-free (λ k. testing h k false 0 0) (free-testing h) pass k w in omega (arith, a)) room, reach-none pass place (at .short));
       }
-  spends-rest bindings front end RestOf.ignores =
+  spends-rest front end RestOf.ignores =
       record {
         above = λ k. (le-refl _, tt);
         goes = λ pass k T F m c current els place at len f room.
             sound-ok (Ends A base T F m pass place 0) _
             (has-as _ (λ w. let a = spent-free (λ k. testing h k false 0 0) (free-testing h) pass k w in omega (arith, a)) room, reach-none pass place (at .short));
       }
-  spends-rest bindings front end (RestOf.binds q b how) = record { above = λ k. (le-refl _, tt); goes = by }
+  spends-rest front end (RestOf.binds q b how) = record { above = λ k. (le-refl _, tt); goes = by }
     where
-      by : (pass : Pass) (k : ℕ) (T : Table → ℕ) (F : Bool) (m : Table → ℕ) (c : Ctx) (current : BasicBlockId) (els : OptBlock) (place : Place) → At image base place ty → (A → place .len + 1 ≤ 16) →
-          (inChecks pass false ≡ true → F ≡ true) → Fares A base T F (λ w. total (spent pass k w) (binding h k false 0 0 2 ∷ []) + m w) c els →
-          Sound A base (Ends A base T F m pass place 1) (restBound (RestOf.binds q b how) bindings (h .number) front end (modeOf pass) c current els place)
+      by : (pass : Pass) (k : ℕ) (T : Goal) (F : Bool) (m : Table → ℕ) (c : Ctx) (current : BasicBlockId) (els : OptBlock) (place : Place) → At image base place ty → (A → place .len + 1 ≤ 16) →
+          (inChecks pass false ≡ true → F ≡ true) → Fares A base (owing (markedIn (base .bindings) pass (binding h k false 0 0 (some b) ∷ [])) T) F (λ w. total (spent pass k w) (binding h k false 0 0 (some b) ∷ []) + m w) c els →
+          Sound A base (Ends A base T F m pass place 1) (restBound (RestOf.binds q b how) (base .bindings) (h .number) front end (modeOf pass) c current els place)
       by checks k T F m c current els place at len f room = sound-ok (Ends A base T F m checks place 1) _ (has-by room _ (omega arith) (omega arith) (omega arith) (omega arith), tt)
       by binds k T F m c current els place at len f room =
           sound-step (h .number) (project place (ProjectionElem.Subslice front end)) _ (sure-project place (ProjectionElem.Subslice front end) 0 len) (λ place′ o.
           sound-as (λ r z. (z, reach-back binds place place′ 1 0 (o .longer) (reach-none binds place′ (o .short))))
-          (sound-binding image (h .number) m c F bindings q b how current els place′ (fills h k F m c els room)))
+          (sound-binding image (h .number) m c F (base .bindings) q b how current els place′ (fills h b k F m c els room)))
 
 -- as many of each
-each-count : {A : Type 0} {base : Ctx} {image : List ℕ} {ls : List Lowering} {fs : List (PlaceTy → Bool)} {rs : List Reaching} {ds : List (PlaceTy → ℕ)} → Each A base image ls fs rs ds →
+each-count : {A : Type 0} {base : Origin} {image : List ℕ} {ls : List Lowering} {fs : List (PlaceTy → Bool)} {rs : List Reaching} {ds : List (PlaceTy → ℕ)} → Each A base image ls fs rs ds →
     (length ls ≡ length fs) × (length ls ≡ length rs) × (length ls ≡ length ds)
 each-count none-left = (refl, refl, refl)
 each-count (one-more c e) = let (a, b, d) = each-count e in (ap suc a, ap suc b, ap suc d)
 
 -- items of one end
-spends-items : {A : Type 0} {base : Ctx} {image : List ℕ} {ls : List Lowering} {fs : List (PlaceTy → Bool)} {rs : List Reaching} {ds : List (PlaceTy → ℕ)} (p : ℕ) (ty : PlaceTy)
+spends-items : {A : Type 0} {base : Origin} {image : List ℕ} {ls : List Lowering} {fs : List (PlaceTy → Bool)} {rs : List Reaching} {ds : List (PlaceTy → ℕ)} (p : ℕ) (ty : PlaceTy)
     (elem : ℕ → ℕ → ProjectionElem) → ((n i : ℕ) → Fits (elem n i)) → Each A base image ls fs rs ds → Row A base image ty (patternMatchAdt p (map (elem (length ls)) (upFrom 0 (length ls))) ls)
     (zip (map (elem (length fs)) (upFrom 0 (length fs))) fs) (zip (map (elem (length ds)) (upFrom 0 (length ds))) ds) (zip (map (elem (length rs)) (upFrom 0 (length rs))) rs)
 spends-items {image = image} {ls = ls} {fs = fs} {rs = rs} {ds = ds} p ty elem fit e =
@@ -113,20 +123,20 @@ spends-items {image = image} {ls = ls} {fs = fs} {rs = rs} {ds = ds} p ty elem f
     (λ k. ap (λ (n : ℕ). throughArguments image ty k (zip (map (elem n) (upFrom 0 n)) rs)) b) (spends-arguments p (map (elem (length ls)) (upFrom 0 (length ls))) ty e (fit-all (elem (length ls)) (fit (length ls)) (upFrom 0 (length ls))))
 
 -- what a Slice takes is what its test takes and what its rest does
-slice-split : (h : Head) (t s n : ℕ) (pass : Pass) (k : ℕ) (w : Table) →
-    spent pass k w (binding h k false t s n) ≡ spent pass k w (binding h k false t s 0) + spent pass k w (binding h k false 0 0 n)
-slice-split h t s n checks k block = omega arith
-slice-split h t s n checks k statement = omega arith
-slice-split h t s n checks k local = omega arith
-slice-split h t s n checks k entry = omega arith
-slice-split h t s n binds k w =
-    let a = no-or k (tested w (binding h k false t s n)) in
-    let b = no-or k (tested w (binding h k false t s 0)) in
-    let c = no-or k (tested w (binding h k false 0 0 n)) in
+slice-split : (h : Head) (t s : ℕ) (o : Option ℕ) (pass : Pass) (k : ℕ) (w : Table) →
+    spent pass k w (binding h k false t s o) ≡ spent pass k w (binding h k false t s none) + spent pass k w (binding h k false 0 0 o)
+slice-split h t s o checks k block = omega arith
+slice-split h t s o checks k statement = omega arith
+slice-split h t s o checks k local = omega arith
+slice-split h t s o checks k entry = omega arith
+slice-split h t s o binds k w =
+    let a = no-or k (tested w (binding h k false t s o)) in
+    let b = no-or k (tested w (binding h k false t s none)) in
+    let c = no-or k (tested w (binding h k false 0 0 o)) in
     let d = its w in
     omega (arith, a, b, c, d)
   where
-    its : (w : Table) → own w (binding h k false t s n) ≡ own w (binding h k false t s 0) + own w (binding h k false 0 0 n)
+    its : (w : Table) → own w (binding h k false t s o) ≡ own w (binding h k false t s none) + own w (binding h k false 0 0 o)
     its block = omega arith
     its statement = omega arith
     its local = omega arith
@@ -148,8 +158,8 @@ prefix xs = zip (map (λ i. ProjectionElem.Index i) (upFrom 0 (length xs))) xs
 abbrev suffix : {X : Type 0} → List X → List (Argument X)
 suffix xs = zip (suffixItems (length xs)) xs
 
-module _ {A : Type 0} {base : Ctx} {image : List ℕ} {ls ls′ : List Lowering} {fs fs′ : List (PlaceTy → Bool)} {rs rs′ : List Reaching} {ds ds′ : List (PlaceTy → ℕ)} (front : Each A base image ls fs rs ds)
-    (back : Each A base image ls′ fs′ rs′ ds′) (ty : PlaceTy) (h : Head) (bindings : List ℕ) (rest : RestOf) where
+module _ {A : Type 0} {base : Origin} {image : List ℕ} {ls ls′ : List Lowering} {fs fs′ : List (PlaceTy → Bool)} {rs rs′ : List Reaching} {ds ds′ : List (PlaceTy → ℕ)} (front : Each A base image ls fs rs ds)
+    (back : Each A base image ls′ fs′ rs′ ds′) (ty : PlaceTy) (h : Head) (rest : RestOf) where
   -- what is reached through them
   abbrev first : ℕ → List Reached
   first k = throughArguments image ty k (prefix rs)
@@ -162,19 +172,19 @@ module _ {A : Type 0} {base : Ctx} {image : List ℕ} {ls ls′ : List Lowering}
   most = max (mostOfArguments image ty (prefix ds)) (max (restElements rest) (mostOfArguments image ty (suffix ds′)))
 
   -- the items in front, the rest, and the items at the end
-  spends-inner : Spends A base image ty (sliceItems bindings (h .number) ls rest ls′) (someArgument image ty (prefix fs) || someArgument image ty (suffix fs′)) most
-      (λ k. first k ++ (binding h k false 0 0 (restBinds rest) ∷ last k))
+  spends-inner : Spends A base image ty (sliceItems (base .bindings) (h .number) ls rest ls′) (someArgument image ty (prefix fs) || someArgument image ty (suffix fs′)) most
+      (λ k. first k ++ (binding h k false 0 0 (restBinding rest) ∷ last k))
   unfolding sliceItems
   spends-inner =
       let g = spends-both _ _ (spends-items (h .number) ty (λ n i. ProjectionElem.Index i) (λ n i. tt) front)
-      (spends-both _ _ (spends-rest ty h bindings (length ls) (length ls′) rest) (spends-items (h .number) ty (λ n i. ProjectionElem.IndexFromEnd (n - 1 - i)) (λ n i. tt) back)) in
+      (spends-both _ _ (spends-rest ty h (length ls) (length ls′) rest) (spends-items (h .number) ty (λ n i. ProjectionElem.IndexFromEnd (n - 1 - i)) (λ n i. tt) back)) in
       record { above = g .above; goes = g .goes }
 
   -- with what the length's test takes
   slice-as : {l : Lowering} (f : Bool) (t s : ℕ) {deep : ℕ} → deep ≡ most → Spends A base image ty l (f || (someArgument image ty (prefix fs) || someArgument image ty (suffix fs′))) deep
-      (λ k. binding h k false t s 0 ∷ (first k ++ (binding h k false 0 0 (restBinds rest) ∷ last k))) →
+      (λ k. binding h k false t s none ∷ (first k ++ (binding h k false 0 0 (restBinding rest) ∷ last k))) →
       Spends A base image ty l (f || someArgument image ty (items fs fs′)) (max (restElements rest) (mostOfArguments image ty (items ds ds′)))
-      (λ k. binding h k false t s (restBinds rest) ∷ throughArguments image ty k (items rs rs′))
+      (λ k. binding h k false t s (restBinding rest) ∷ throughArguments image ty k (items rs rs′))
   unfolding items total
   slice-as f t s same g =
       let R = restElements rest in
@@ -187,31 +197,41 @@ module _ {A : Type 0} {base : Ctx} {image : List ℕ} {ls ls′ : List Lowering}
             (spends-items (h .number) ty (λ n i. ProjectionElem.IndexFromEnd (n - 1 - i)) (λ n i. tt) back .above k)),
       ))
       (λ pass k w.
-      let x = total-append (spent pass k w) (first k) (binding h k false 0 0 (restBinds rest) ∷ last k) in
+      let x = total-append (spent pass k w) (first k) (binding h k false 0 0 (restBinding rest) ∷ last k) in
       let y : total (spent pass k w) (throughArguments image ty k (prefix rs ++ suffix rs′)) ≡ total (spent pass k w) (first k) + total (spent pass k w) (last k) =
       ap (total (spent pass k w)) (through k) ∙ total-append (spent pass k w) (first k) (last k) in
-      let z = slice-split h t s (restBinds rest) pass k w in
+      let z = slice-split h t s (restBinding rest) pass k w in
       omega (arith, x, y, z))
+      (λ pass k ls. late pass k ls)
       g
+    where
+      late : (pass : Pass) (k : ℕ) (ls : List ℕ) → Alike (markedIn (base .bindings) pass (binding h k false t s (restBinding rest) ∷ throughArguments image ty k (prefix rs ++ suffix rs′)) ++ ls)
+          (markedIn (base .bindings) pass (binding h k false t s none ∷ (first k ++ (binding h k false 0 0 (restBinding rest) ∷ last k))) ++ ls)
+      late pass k ls =
+          let own = markedBy (base .bindings) pass (restBinding rest) in
+          let marked : List Reached → List ℕ = λ rs. markedIn (base .bindings) pass rs in
+          alike-on (alike-is (ap (λ (l : List ℕ). (own ++ l) ++ ls) (ap marked (through-append image ty k (prefix rs) (suffix rs′)) ∙ marked-append (base .bindings) pass (first k) (last k))))
+          (alike-on (alike-moved own (marked (first k)) (marked (last k)) ls)
+          (alike-is (ap (λ (l : List ℕ). l ++ ls) (sym (marked-append (base .bindings) pass (first k) (binding h k false 0 0 (restBinding rest) ∷ last k))))))
 
   -- the length's test
   spends-length : (n : ℕ) → Spends A base image ty (λ mode c current els place. inCheck mode (lengthTest rest image (h .number) n c current els place) (out c current els)) true 0
-      (λ k. binding h k false 1 (lengthStatements rest) 0 ∷ [])
+      (λ k. binding h k false 1 (lengthStatements rest) none ∷ [])
   unfolding total
   spends-length n =
-      spends-test true (λ k. binding h k false 1 (lengthStatements rest) 0) (λ c current els place. lengthTest rest image (h .number) n c current els place) (idle-testing h 1 (lengthStatements rest))
+      spends-test true (λ k. binding h k false 1 (lengthStatements rest) none) (λ c current els place. lengthTest rest image (h .number) n c current els place) (idle-testing h 1 (lengthStatements rest))
       (λ k T F m c current els place f room.
       sound-length image (h .number) m c F rest n current els place (f refl) (has-by room _ (omega arith) (omega arith) (omega arith) (omega arith)))
 
   -- of what is no slice nothing is tested
-  spends-array : Spends A base image ty (sliceItems bindings (h .number) ls rest ls′) (someArgument image ty (items fs fs′)) (max (restElements rest) (mostOfArguments image ty (items ds ds′)))
-      (λ k. binding h k false 0 0 (restBinds rest) ∷ throughArguments image ty k (items rs rs′))
-  spends-array = slice-as false 0 0 refl (spends-under (λ k. binding h k false 0 0 0) (free-testing h) spends-inner)
+  spends-array : Spends A base image ty (sliceItems (base .bindings) (h .number) ls rest ls′) (someArgument image ty (items fs fs′)) (max (restElements rest) (mostOfArguments image ty (items ds ds′)))
+      (λ k. binding h k false 0 0 (restBinding rest) ∷ throughArguments image ty k (items rs rs′))
+  spends-array = slice-as false 0 0 refl (spends-under (λ k. binding h k false 0 0 none) (free-testing h) spends-inner)
 
   -- a Slice by its own type
-  pub spends-slice : (s : Shape) → Spends A base image ty (sliceOn s image bindings (h .number) ls rest ls′) (isSliceShape s || someArgument image ty (items fs fs′))
+  pub spends-slice : (s : Shape) → Spends A base image ty (sliceOn s image (base .bindings) (h .number) ls rest ls′) (isSliceShape s || someArgument image ty (items fs fs′))
       (max (restElements rest) (mostOfArguments image ty (items ds ds′)))
-      (λ k. binding h k false (cond (isSliceShape s) 1 0) (cond (isSliceShape s) (lengthStatements rest) 0) (restBinds rest) ∷ throughArguments image ty k (items rs rs′))
+      (λ k. binding h k false (cond (isSliceShape s) 1 0) (cond (isSliceShape s) (lengthStatements rest) 0) (restBinding rest) ∷ throughArguments image ty k (items rs rs′))
   unfolding sliceOn isSliceShape
   spends-slice (array t n) = record { above = spends-array .above; goes = spends-array .goes }
   spends-slice (slice t) =

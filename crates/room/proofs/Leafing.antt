@@ -24,13 +24,13 @@ use Rattle.counting.specs.Reaching.{Argument, isEnum, downcast, ofVariant, some
 use Rattle.counting.specs.Counting.{one, total}
 use Rattle.counting.proofs.Passing.{Pass, checks, binds, modeOf, inChecks}
 use Rattle.room.specs.Elements.{mostOfArguments, pathElements}
-use Rattle.room.proofs.Telling.{Sound, sound-ok, sound-refused, sound-next, sound-step}
-use Rattle.room.proofs.Building.{Table, make, has-as, has-by}
+use Rattle.room.proofs.Telling.{Origin, Sound, sound-ok, sound-refused, sound-next, sound-step}
+use Rattle.room.proofs.Building.{Table, make, Goal, has-as, has-by}
 use Rattle.room.proofs.Spending.{At, Ends, reach-none, idle-testing, free-testing, spent-free, spent, Fares, Leaves, Spends, spends-as, spends-refused, spends-test}
 use Rattle.room.proofs.Testing.{sure-literal, sound-const, sound-end, sound-constant}
 use Rattle.room.proofs.Shaping.{Fielded, fielded-unit, spends-named}
 
-module _ {A : Type 0} {base : Ctx} {image : List ℕ} (ty : PlaceTy) (h : Head) where
+module _ {A : Type 0} {base : Origin} {image : List ℕ} (ty : PlaceTy) (h : Head) where
   -- a literal
   spends-literal : (o : Operand) → Spends A base image ty (literal image (h .number) (h .ty) o) true 0 (λ k. testing h k false 1 2 ∷ [])
   unfolding literal lowerLiteralToOperand total
@@ -83,7 +83,7 @@ module _ {A : Type 0} {base : Ctx} {image : List ℕ} (ty : PlaceTy) (h : Head) 
       some-second (some o) none e = refl
       some-second (some o) (some o′) e = refl
 
-      split : (start end : Option Operand) (k : ℕ) (T : Table → ℕ) (F : Bool) (m : Table → ℕ) (c : Ctx) (els : OptBlock) →
+      split : (start end : Option Operand) (k : ℕ) (T : Goal) (F : Bool) (m : Table → ℕ) (c : Ctx) (els : OptBlock) →
           Fares A base T F (λ w. total (spent checks k w) (testing h k false (endCount start + endCount end) (endCount start + endCount end + (endCount start + endCount end)) ∷ []) + m w) c els →
           Fares A base T F (λ w. make (endCount start) (endCount start + endCount start) (endCount start) (endCount start) w
           + (make (endCount end) (endCount end + endCount end) (endCount end) (endCount end) w + m w)) c els
@@ -119,7 +119,7 @@ module _ {A : Type 0} {base : Ctx} {image : List ℕ} (ty : PlaceTy) (h : Head) 
       by false g = unfold someArgument mostOfArguments downcast throughArguments in spends-as refl refl (λ k. refl) g
   spends-path bindings (local b) = record { above = λ k. (le-refl _, tt); goes = by }
     where
-      by : (pass : Pass) (k : ℕ) (T : Table → ℕ) (F : Bool) (m : Table → ℕ) (c : Ctx) (current : BasicBlockId) (els : OptBlock) (place : Place) → At image base place ty → (A → place .len + 0 ≤ 16) →
+      by : (pass : Pass) (k : ℕ) (T : Goal) (F : Bool) (m : Table → ℕ) (c : Ctx) (current : BasicBlockId) (els : OptBlock) (place : Place) → At image base place ty → (A → place .len + 0 ≤ 16) →
           (inChecks pass false ≡ true → F ≡ true) → Fares A base T F (λ w. total (spent pass k w) (testing h k false 0 0 ∷ []) + m w) c els →
           Sound A base (Ends A base T F m pass place 0) (localPath bindings (h .number) b (modeOf pass) c current els place)
       by checks k T F m c current els place at len f room = unfold localPath in sound-refused (Ends A base T F m checks place 0) MirLowerError.NotSupported (h .number) tt

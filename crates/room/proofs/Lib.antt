@@ -1,4 +1,5 @@
 mod Telling
+mod Recording
 mod Building
 mod Spending
 mod Testing

@@ -1,12 +1,15 @@
 -- With room by document 01's counts, and a scope open, the lowering of a pattern that fits is accepted; and without room none is. Assumes nothing.
-use mathlib.Core.Path.{_≡_, refl, ap}
-use mathlib.Core.Bool.{Bool, true, false, false≢true}
+use mathlib.Core.Path.{_≡_, refl, sym, ap, subst, _∙_}
+use mathlib.Core.Bool.{Bool, true, false, _||_, false≢true}
+use mathlib.Core.Option.{Option, none, some}
 use mathlib.Core.Logic.{_⊎_, ⊎-elim}
-use mathlib.Core.List.{List, [], _∷_}
+use mathlib.Core.List.{List, [], _∷_, _++_, append-nil}
 use Prim.Native.Nat.{ℕ, _+_, _-_, _*_, _≤_, _<_}
 use native.Mathlib.Nat.{add-mul, mul-add, one-mul, sub-zero}
 use native.Mathlib.Omega.{arith}
-use lib.ListN.{length}
+use borrow.Author.Tests.{ne-eqb}
+use lib.ListN.{length, getD}
+use Rattle.image.specs.Lists.{member}
 use Rattle.image.specs.Tables.{typeCount}
 use Rattle.image.specs.Valid.{valid}
 use Rattle.image.specs.Tree.{Pat}
@@ -15,24 +18,26 @@ use Rattle.refusals.specs.Refusals.{numberOf}
 use Rattle.place.specs.declared.Place.{Place}
 use Rattle.place.specs.declared.place_ty.PlaceTy.{PlaceTy}
 use Rattle.mir.specs.declared.BasicBlockId.{BasicBlockId}
+use Rattle.state.specs.State.{State}
 use Rattle.lower.specs.declared.merging.OptBlock.{OptBlock}
+use Rattle.lower.specs.Recorded.{recorded}
 use Rattle.pattern_matching.specs.declared.MatchingMode.{MatchingMode}
 use Rattle.pattern_matching.specs.Walking.{Ctx, Out, Walk, ok, refused}
 use Rattle.pattern_matching.specs.Variants.{placeTy}
 use Rattle.pattern_matching.specs.Patterns.{patternMatchInner, patternMatch}
 use Rattle.counting.specs.Reaching.{canFail, Reached}
-use Rattle.counting.specs.Counting.{one, total, reachedFrom, blocksOf, statementsOf, newBlocks, newStatements}
+use Rattle.counting.specs.Counting.{one, total, reachedFrom, blocksOf, bindStatements, statementsOf, newBlocks, newStatements}
 use Rattle.counting.proofs.Passing.{checks, binds}
 use Rattle.counting.proofs.Tallies.{le-or-lt}
 use Rattle.meaning.specs.Fits.{fits}
 use Rattle.fitted.proofs.Building.{kept-same}
 use Rattle.fitted.proofs.Refusing.{fit-refused}
 use Rattle.room.specs.Elements.{elements}
-use Rattle.room.specs.Room.{temporaries, boundLocals, localsOf, entriesOf, newLocals, newEntries, longestPlace, Room, Passed, ScopeOpen, LocalsBelow, Made}
+use Rattle.room.specs.Room.{temporaries, localsOf, localOf, boundLocals, newLocals, neededEntries, longestPlace, Room, Passed, ScopeOpen, LocalsBelow, Made}
 use Rattle.room.specs.Room.{tooManyBlocks, tooManyStatements, tooManyLocals, tooManyEntries, tooManyElements}
-use Rattle.room.proofs.Telling.{Tells, Sound, sound-next}
-use Rattle.room.proofs.Building.{Table, block, statement, local, entry, held, limit, onceMore}
-use Rattle.room.proofs.Spending.{spent, At, Ends}
+use Rattle.room.proofs.Telling.{Origin, Tells, Sound, sound-next}
+use Rattle.room.proofs.Building.{Table, block, statement, local, entry, amount, limit, Goal, owing, NoneNew, onceMore}
+use Rattle.room.proofs.Spending.{spent, markedBy, markedIn, marked-checks, At, Ends}
 use Rattle.room.proofs.Trees.{spends-pattern}
 
 -- a sum of sums
@@ -46,7 +51,7 @@ abbrev counted : Table → Reached → ℕ
 counted block = blocksOf
 counted statement = statementsOf
 counted local = localsOf
-counted entry = entriesOf
+counted entry = localsOf
 
 both-passes : (w : Table) (rs : List Reached) → total (counted w) rs ≡ total (spent checks 0 w) rs + total (spent binds 0 w) rs
 both-passes w = total-both (counted w) (spent checks 0 w) (spent binds 0 w) (λ r. by w r)
@@ -62,9 +67,35 @@ both-passes w = total-both (counted w) (spent checks 0 w) (spent binds 0 w) (λ 
 
     by : (w : Table) (r : Reached) → counted w r ≡ spent checks 0 w r + spent binds 0 w r
     by block r = each (r .ors) (r .isOr) (r .tests + one (r .failingAlternative))
-    by statement r = once (r .ors) (r .testStatements) (r .bindStatements)
+    by statement r = once (r .ors) (r .testStatements) (bindStatements (r .bound))
     by local r = let a = once (r .ors) (temporaries r) 0 in omega (arith, a)
-    by entry r = once (r .ors) (temporaries r) (boundLocals r)
+    by entry r = let a = once (r .ors) (temporaries r) 0 in omega (arith, a)
+
+-- the locals that are marked live in both passes are those of the bindings
+marked-locals : (bindings : List ℕ) (rs : List Reached) → markedIn bindings checks rs ++ (markedIn bindings binds rs ++ []) ≡ boundLocals bindings rs
+unfolding boundLocals
+marked-locals bindings rs = ap (λ (l : List ℕ). l ++ (markedIn bindings binds rs ++ [])) (marked-checks bindings rs) ∙ append-nil (markedIn bindings binds rs) ∙ inBind rs
+  where
+    same : (o : Option ℕ) → markedBy bindings binds o ≡ localOf bindings o
+    same none = refl
+    same (some b) = refl
+
+    inBind : (rs : List Reached) → markedIn bindings binds rs ≡ boundLocals bindings rs
+    inBind [] = refl
+    inBind (r ∷ rs) = ap (λ (l : List ℕ). l ++ markedIn bindings binds rs) (same (r .bound)) ∙ ap (λ (l : List ℕ). localOf bindings (r .bound) ++ l) (inBind rs)
+
+-- none of them is a local that is not in the body yet
+bound-old : (bindings : List ℕ) (st : State) → LocalsBelow bindings st → (rs : List Reached) → NoneNew st (boundLocals bindings rs)
+unfolding boundLocals member
+bound-old bindings st below [] l new few = refl
+bound-old bindings st below (r ∷ rs) l new few = by (r .bound) (bound-old bindings st below rs l new few)
+  where
+    other : (b : ℕ) → l ≡ getD bindings b 65535 → ⊥
+    other b e = let k = below b (λ q. omega (arith, e, q, few)) in omega (arith, e, k, new)
+
+    by : (o : Option ℕ) → member l (boundLocals bindings rs) ≡ false → member l (localOf bindings o ++ boundLocals bindings rs) ≡ false
+    by none q = q
+    by (some b) q = ap (λ (x : Bool). x || member l (boundLocals bindings rs)) (ne-eqb l (getD bindings b 65535) (other b)) ∙ q
 
 module _ (image bindings : List ℕ) (root : Pat) (ctx : Ctx) (current : BasicBlockId) (els : OptBlock) (place : Place) (rooted : place .local .0 < length (ctx .state .locals))
     (whole : length (place .elems) ≡ 16) (short : place .len ≤ 16) (below : LocalsBelow bindings (ctx .state)) where
@@ -74,40 +105,61 @@ module _ (image bindings : List ℕ) (root : Pat) (ctx : Ctx) (current : BasicBl
   abbrev rs : List Reached
   rs = reachedFrom image root ty
 
-  at : At image ctx place ty
+  -- what the walk starts from
+  abbrev base : Origin
+  base = record { ctx = ctx; bindings = bindings }
+
+  at : At image base place ty
   at = record { on = record { rooted = rooted; whole = whole; typed = refl }; short = short }
+
+  -- the locals that both passes mark live
+  abbrev marks : List ℕ
+  marks = markedIn bindings checks rs ++ (markedIn bindings binds rs ++ [])
 
   -- how much there is in each table behind both passes
   abbrev inTheEnd : Table → ℕ
-  inTheEnd w = held w (ctx .state) + (onceMore (canFail image root ty) els w + (total (spent checks 0 w) rs + (total (spent binds 0 w) rs + 0)))
+  inTheEnd w = amount marks w (ctx .state) + (onceMore (canFail image root ty) els w + (total (spent checks 0 w) rs + (total (spent binds 0 w) rs + 0)))
+
+  -- the entries are those that are needed
+  as-recorded : length (recorded (ctx .state .entries) marks) ≡ length (recorded (ctx .state .entries) (boundLocals bindings rs))
+  as-recorded = ap (λ (l : List ℕ). length (recorded (ctx .state .entries) l)) (marked-locals bindings rs)
+
+  -- where both passes lead to
+  abbrev end : Goal
+  end = record { sums = inTheEnd; later = [] }
 
   -- there is room for that
   room-for-both : (A : Type 0) → (A → Room image bindings root ctx els place) → A → (w : Table) → inTheEnd w ≤ limit w
-  unfolding newBlocks newStatements newLocals newEntries
+  unfolding newBlocks newStatements newLocals neededEntries
   room-for-both A room a block = let x = room a .blocks in let y = both-passes block rs in omega (arith, x, y)
   room-for-both A room a statement = let x = room a .statements in let y = both-passes statement rs in omega (arith, x, y)
   room-for-both A room a local = let x = room a .locals in let y = both-passes local rs in omega (arith, x, y)
-  room-for-both A room a entry = let x = room a .entries in let y = both-passes entry rs in omega (arith, x, y)
+  room-for-both A room a entry = let x = room a .entries in let y = both-passes entry rs in let z = as-recorded in omega (arith, x, y, z)
+
+  -- no local that is marked live is new
+  starts : NoneNew (ctx .state) marks
+  starts = subst (NoneNew (ctx .state)) (sym (marked-locals bindings rs)) (bound-old bindings (ctx .state) below rs)
 
   -- what a refusal tells, and what an acceptance has made
   told : (A : Type 0) → (A → Room image bindings root ctx els place) →
-      Sound A ctx (Ends A ctx inTheEnd (canFail image root ty) (λ w. 0) binds place (elements image root ty)) (patternMatch image bindings root ctx current els place)
+      Sound A base (Ends A base end (canFail image root ty) (λ w. 0) binds place (elements image root ty)) (patternMatch image bindings root ctx current els place)
   unfolding patternMatch longestPlace
   told A room =
-      let g = spends-pattern A ctx image bindings root ty in
+      let g = spends-pattern A base image root ty in
+      let then = owing (markedIn bindings binds rs) end in
       sound-next (patternMatchInner image bindings root MatchingMode.Check ctx current els place) _
-      (g .goes checks 0 inTheEnd (canFail image root ty) (λ w. total (spent binds 0 w) rs + 0) ctx current els place at (λ a. room a .elements) (λ t. t)
-      (record { scopes = refl; kept = kept-same (ctx .state); sum = λ w. refl; room = room-for-both A room })) (λ r h.
-      g .goes binds 0 inTheEnd (canFail image root ty) (λ w. 0) (r .ctx) (r .then) (r .else) place at (λ a. room a .elements) (λ t. absurd (false≢true t)) (h .0))
+      (g .goes checks 0 then (canFail image root ty) (λ w. total (spent binds 0 w) rs + 0) ctx current els place at (λ a. room a .elements) (λ t. t)
+      (record { scopes = refl; kept = kept-same (ctx .state); old = starts; sum = λ w. refl; room = room-for-both A room })) (λ r h.
+      g .goes binds 0 end (canFail image root ty) (λ w. 0) (r .ctx) (r .then) (r .else) place at (λ a. room a .elements) (λ t. absurd (false≢true t)) (h .0))
 
   -- Whether the pattern fits or not, an accepted lowering makes exactly as many locals and entries as are counted, and comes to no longer place.
   pub made : (r : Out) → patternMatch image bindings root ctx current els place ≡ ok r → Made image bindings root ctx place r
-  unfolding newLocals newEntries longestPlace
+  unfolding newLocals neededEntries longestPlace recorded
   made r accepted =
       let h = told ⊥ (λ never. absurd never) .at r accepted in
       record {
         locals = let x = h .0 .sum local in let y = both-passes local rs in omega (arith, x, y);
-        entries = let x = h .0 .sum entry in let y = both-passes entry rs in omega (arith, x, y);
+        entries = let x = h .0 .sum entry in let y = both-passes entry rs in let z = as-recorded in omega (arith, x, y, z);
         elements = h .1;
       }
 
@@ -128,7 +180,7 @@ module _ (image bindings : List ℕ) (root : Pat) (ctx : Ctx) (current : BasicBl
       L = length (ctx .state .locals) + newLocals image root ty
 
       N : ℕ
-      N = length (ctx .state .entries) + newEntries image root ty
+      N = neededEntries image bindings root ty (ctx .state .entries)
 
       P : ℕ
       P = longestPlace image root ty (place .len)
@@ -149,7 +201,7 @@ pub fit-accepted : (image bindings : List ℕ) (pat : Pat) (ctx : Ctx) (current 
 unfolding numberOf
 fit-accepted image bindings pat ctx current els place t v there placed rooted whole below fit room scope = by (patternMatch image bindings pat ctx current els place) refl
   where
-    none : (e : MirLowerError) → (numberOf e ≡ 11) ⊎ (numberOf e ≡ 14) → Tells (Room image bindings pat ctx els place) ctx e → ⊥
+    none : (e : MirLowerError) → (numberOf e ≡ 11) ⊎ (numberOf e ≡ 14) → Tells (Room image bindings pat ctx els place) (record { ctx = ctx; bindings = bindings }) e → ⊥
     none MirLowerError.IncompletePattern l told = ⊎-elim (λ x. omega (arith, x)) (λ x. omega (arith, x)) l
     none (MirLowerError.TypeError reason) l told = ⊎-elim (λ x. omega (arith, x)) (λ x. omega (arith, x)) l
     none MirLowerError.UnresolvedField l told = ⊎-elim (λ x. omega (arith, x)) (λ x. omega (arith, x)) l

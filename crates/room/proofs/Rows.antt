@@ -29,9 +29,10 @@ use Rattle.counting.proofs.Holding.{Holds}
 use Rattle.counting.proofs.Arguments.{AllFit, fit-reverse, fit-all}
 use Rattle.counting.proofs.Rows.{through-append, some-argument-append, row-whole, Resolves, resolves}
 use Rattle.room.specs.Elements.{mostOfArguments}
-use Rattle.room.proofs.Telling.{sound-refused, sound-next, sound-step, sound-as}
-use Rattle.room.proofs.Building.{has-as}
-use Rattle.room.proofs.Spending.{spent, AllAbove, above-append, or-first, or-second, in-checks, reach-max, reach-back, at-onward, Spends, spends-none, spends-as, spends-both, sure-on}
+use Rattle.room.proofs.Telling.{Origin, sound-refused, sound-next, sound-step, sound-as}
+use Rattle.room.proofs.Recording.{or-first, or-second}
+use Rattle.room.proofs.Building.{owing, has-as}
+use Rattle.room.proofs.Spending.{spent, markedIn, AllAbove, above-append, in-checks, reach-max, reach-back, at-onward, Spends, has-both, spends-none, spends-as, spends-both, sure-on}
 
 -- a pattern, noted as an alternative that can fail, or not
 abbrev pub flaggedAs : Bool → Reached → Reached
@@ -43,7 +44,7 @@ flaggedAs f r =
       testStatements = r .testStatements;
       failingAlternative = f;
       isOr = r .isOr;
-      bindStatements = r .bindStatements;
+      bound = r .bound;
     }
 
 -- what is reached from a pattern under k Ors is the pattern itself, which alone is noted as such, and others
@@ -58,23 +59,23 @@ abbrev pub Settled : Bool → OptBlock → Type 0
 Settled fails els = (fails ≡ false → els ≡ OptBlock.None) × (elseMade fails els ≡ 0)
 
 -- a lowering takes what the patterns that are reached take, whatever the type of its place, and leaves an else if it can fail
-pub record Pays (A : Type 0) (base : Ctx) (image : List ℕ) (l : Lowering) (fails : PlaceTy → Bool) (reach : Reaching) (deep : PlaceTy → ℕ) : Type 0 where
+pub record Pays (A : Type 0) (base : Origin) (image : List ℕ) (l : Lowering) (fails : PlaceTy → Bool) (reach : Reaching) (deep : PlaceTy → ℕ) : Type 0 where
   pub spends : (ty : PlaceTy) → Spends A base image ty l (fails ty) (deep ty) (λ k. reach ty k false)
   pub headed : (ty : PlaceTy) (k : ℕ) → Headed k (λ f. reach ty k f)
   pub settles : (ty : PlaceTy) (c : Ctx) (current : BasicBlockId) (place : Place) → On image c place ty →
       Holds (λ (r : Out). Settled (fails ty) (r .else)) (l MatchingMode.Check c current OptBlock.None place)
 
 -- each of a row of lowerings does
-pub data Each (A : Type 0) (base : Ctx) (image : List ℕ) : List Lowering → List (PlaceTy → Bool) → List Reaching → List (PlaceTy → ℕ) → Type 0 where
+pub data Each (A : Type 0) (base : Origin) (image : List ℕ) : List Lowering → List (PlaceTy → Bool) → List Reaching → List (PlaceTy → ℕ) → Type 0 where
   none-left : Each A base image [] [] [] []
   one-more : {l : Lowering} {fails : PlaceTy → Bool} {reach : Reaching} {deep : PlaceTy → ℕ} {ls : List Lowering} {fs : List (PlaceTy → Bool)} {rs : List Reaching} {ds : List (PlaceTy → ℕ)} →
       Pays A base image l fails reach deep → Each A base image ls fs rs ds → Each A base image (l ∷ ls) (fails ∷ fs) (reach ∷ rs) (deep ∷ ds)
 
 -- arguments take what their patterns take
-abbrev pub Row : Type 0 → Ctx → List ℕ → PlaceTy → Lowering → List (Argument (PlaceTy → Bool)) → List (Argument (PlaceTy → ℕ)) → List (Argument Reaching) → Type 0
+abbrev pub Row : Type 0 → Origin → List ℕ → PlaceTy → Lowering → List (Argument (PlaceTy → Bool)) → List (Argument (PlaceTy → ℕ)) → List (Argument Reaching) → Type 0
 Row A base image ty l fs ds rs = Spends A base image ty l (someArgument image ty fs) (mostOfArguments image ty ds) (λ k. throughArguments image ty k rs)
 
-module _ {A : Type 0} {base : Ctx} {image : List ℕ} where
+module _ {A : Type 0} {base : Origin} {image : List ℕ} where
   -- the first n of a row
   each-take : {ls : List Lowering} {fs : List (PlaceTy → Bool)} {rs : List Reaching} {ds : List (PlaceTy → ℕ)} (n : ℕ) → Each A base image ls fs rs ds →
       Each A base image (take n ls) (take n fs) (take n rs) (take n ds)
@@ -115,8 +116,8 @@ module _ {A : Type 0} {base : Ctx} {image : List ℕ} where
             sound-step p (project place elem) (λ place′. next (l (modeOf pass) c current els place′) after)
             (sure-on elem (deep ty′) (fit .0) at (λ a. let x = len a in let y = le-max-left (1 + deep ty′) most in omega (arith, x, y))) (λ place′ q.
             sound-next (l (modeOf pass) c current els place′) after
-            (g .goes pass k T F (λ w. total (spent pass k w) others + m w) c current els place′ (at-onward q) (q .0 .room)
-            (λ t. f (in-checks pass (fails ty′) (fails ty′ || someArgument image ty (zip elems fs)) (or-first (fails ty′) (someArgument image ty (zip elems fs))) t)) (has-as _ (λ w. let x = total-append (spent pass k w) first others in omega (arith, x)) room))
+            (g .goes pass k (owing (markedIn (base .bindings) pass others) T) F (λ w. total (spent pass k w) others + m w) c current els place′ (at-onward q) (q .0 .room)
+            (λ t. f (in-checks pass (fails ty′) (fails ty′ || someArgument image ty (zip elems fs)) (or-first (fails ty′) (someArgument image ty (zip elems fs))) t)) (has-as _ (λ w. let x = total-append (spent pass k w) first others in omega (arith, x)) (has-both T pass first others room)))
             (λ r h.
             sound-as (λ r′ z. (z .0, reach-max pass place (1 + deep ty′) most (reach-back pass place place′ 1 (deep ty′) (q .0 .longer) (h .1)) (z .1)))
             (rest .goes pass k T F m (r .ctx) (r .then) (r .else) place at (λ a. let x = len a in let y = le-max-right (1 + deep ty′) most in omega (arith, x, y))
@@ -154,7 +155,7 @@ pub most-append : (image : List ℕ) (ty : PlaceTy) (xs ys : List (Argument (Pla
 most-append image ty xs ys = le-antisymm (max-le (most-first image ty xs ys) (most-second image ty xs ys)) (most-both image ty xs ys)
 
 -- arguments of one list, and then those of another
-pub row-both : {A : Type 0} {base : Ctx} {image : List ℕ} {ty : PlaceTy} (l l′ : Lowering) (fs fs′ : List (Argument (PlaceTy → Bool))) (ds ds′ : List (Argument (PlaceTy → ℕ)))
+pub row-both : {A : Type 0} {base : Origin} {image : List ℕ} {ty : PlaceTy} (l l′ : Lowering) (fs fs′ : List (Argument (PlaceTy → Bool))) (ds ds′ : List (Argument (PlaceTy → ℕ)))
     (rs rs′ : List (Argument Reaching)) → Row A base image ty l fs ds rs → Row A base image ty l′ fs′ ds′ rs′ →
     Row A base image ty (λ mode c current els place. next (l mode c current els place) (λ r. l′ mode (r .ctx) (r .then) (r .else) place)) (fs ++ fs′) (ds ++ ds′) (rs ++ rs′)
 row-both {image = image} {ty = ty} l l′ fs fs′ ds ds′ rs rs′ g g′ =
@@ -168,7 +169,7 @@ two p n b xs ys mode c current els place =
     patternMatchAdt p (reverse (fieldsUpTo n)) (reverse ys) mode (r .ctx) (r .then) (r .else) place))
     (refused MirLowerError.Ellipsis p)
 
-module _ {A : Type 0} {base : Ctx} {image : List ℕ} (p n : ℕ) (ty : PlaceTy) where
+module _ {A : Type 0} {base : Origin} {image : List ℕ} (p n : ℕ) (ty : PlaceTy) where
   -- both take what their patterns take
   spends-two : {xs ys : List Lowering} {fs gs : List (PlaceTy → Bool)} {rs qs : List Reaching} {ds es : List (PlaceTy → ℕ)} (b : Bool) → Each A base image xs fs rs ds → Each A base image ys gs qs es →
       Row A base image ty (two p n b xs ys) (zip (fieldsUpTo n) fs ++ zip (reverse (fieldsUpTo n)) (reverse gs)) (zip (fieldsUpTo n) ds ++ zip (reverse (fieldsUpTo n)) (reverse es))

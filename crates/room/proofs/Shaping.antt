@@ -23,14 +23,14 @@ use Rattle.counting.proofs.Passing.{modeOf}
 use Rattle.counting.proofs.Naming.{through-downcast, some-downcast}
 use Rattle.fitted.proofs.Walks.{on-kept}
 use Rattle.room.specs.Elements.{mostOfArguments}
-use Rattle.room.proofs.Telling.{Sound}
+use Rattle.room.proofs.Telling.{Origin, Sound}
 use Rattle.room.proofs.Building.{has-by}
 use Rattle.room.proofs.Spending.{idle-naming, free-testing, free-naming, Ends, Spends, spends-none, spends-as, spends-under, spends-refused, spends-both, spends-test, spends-behind}
 use Rattle.room.proofs.Rows.{Each, Row, Pays, spends-row, spends-fields}
 use Rattle.room.proofs.Testing.{sound-discriminant}
 
 -- what is done by the type of a place, which is known
-spends-needed : {A : Type 0} {base : Ctx} {image : List ℕ} {ty : PlaceTy} {fails : Bool} {deep : ℕ} {rs : ℕ → List Reached} (p : ℕ) (l : Shape → Lowering) →
+spends-needed : {A : Type 0} {base : Origin} {image : List ℕ} {ty : PlaceTy} {fails : Bool} {deep : ℕ} {rs : ℕ → List Reached} (p : ℕ) (l : Shape → Lowering) →
     Spends A base image ty (λ mode c current els place. needed p (shapeOf image ty) (λ s. l s mode c current els place)) fails deep rs →
     Spends A base image ty (λ mode c current els place. needed p (shapeOf image (placeTy image (c .state) place)) (λ s. l s mode c current els place)) fails deep rs
 spends-needed {A = A} {base = base} {image = image} {ty = ty} {deep = deep} p l g =
@@ -38,10 +38,10 @@ spends-needed {A = A} {base = base} {image = image} {ty = ty} {deep = deep} p l 
       above = g .above;
       goes = λ pass k T F m c current els place at len f h.
           subst (λ (t : PlaceTy). Sound A base (Ends A base T F m pass place deep) (needed p (shapeOf image t) (λ s. l s (modeOf pass) c current els place)))
-          (sym (on-kept {c = base} {c′ = c} (h .kept) (at .on) .typed)) (g .goes pass k T F m c current els place at len f h);
+          (sym (on-kept {c = base .ctx} {c′ = c} (h .kept) (at .on) .typed)) (g .goes pass k T F m c current els place at len f h);
     }
 
-module _ {A : Type 0} {base : Ctx} {image : List ℕ} (ty : PlaceTy) where
+module _ {A : Type 0} {base : Origin} {image : List ℕ} (ty : PlaceTy) where
   -- a Tuple
   pub spends-tuple : {ls : List Lowering} {fs : List (PlaceTy → Bool)} {rs : List Reaching} {ds : List (PlaceTy → ℕ)} (h : Head) (ellipsis : Option ℕ) → Each A base image ls fs rs ds →
       Spends A base image ty (tuplePattern image (h .number) ls ellipsis) (someArgument image ty (inARow ellipsis (fieldCount (shapeOf image ty)) fs))
@@ -99,23 +99,23 @@ module _ {A : Type 0} {base : Ctx} {image : List ℕ} (ty : PlaceTy) where
       by (some unknown) = spends-refused (MirLowerError.TypeError 3) (h .number) tt (inner .above)
 
 -- the fields of a variant with n take what their patterns take
-pub record Fielded (A : Type 0) (base : Ctx) (image : List ℕ) (shape : AdtPatternShape) (fs : ℕ → List (Argument (PlaceTy → Bool))) (ds : ℕ → List (Argument (PlaceTy → ℕ))) (rs : ℕ → List (Argument Reaching)) : Type 0 where
+pub record Fielded (A : Type 0) (base : Origin) (image : List ℕ) (shape : AdtPatternShape) (fs : ℕ → List (Argument (PlaceTy → Bool))) (ds : ℕ → List (Argument (PlaceTy → ℕ))) (rs : ℕ → List (Argument Reaching)) : Type 0 where
   pub goes : (p n : ℕ) (ty : PlaceTy) → Row A base image ty (variantFields shape p n) (fs n) (ds n) (rs n)
 
 -- in a row
-pub fielded-row : {A : Type 0} {base : Ctx} {image : List ℕ} {ls : List Lowering} {fs : List (PlaceTy → Bool)} {rs : List Reaching} {ds : List (PlaceTy → ℕ)} (ellipsis : Option ℕ) →
+pub fielded-row : {A : Type 0} {base : Origin} {image : List ℕ} {ls : List Lowering} {fs : List (PlaceTy → Bool)} {rs : List Reaching} {ds : List (PlaceTy → ℕ)} (ellipsis : Option ℕ) →
     Each A base image ls fs rs ds → Fielded A base image (AdtPatternShape.Tuple ls ellipsis) (λ n. inARow ellipsis n fs) (λ n. inARow ellipsis n ds) (λ n. inARow ellipsis n rs)
 unfolding variantFields
 fielded-row ellipsis e = record { goes = λ p n ty. let g = spends-row p n ty ellipsis e in record { above = g .above; goes = g .goes } }
 
 -- by fields
-pub fielded-record : {A : Type 0} {base : Ctx} {image : List ℕ} {ls : List Lowering} {fs : List (PlaceTy → Bool)} {rs : List Reaching} {ds : List (PlaceTy → ℕ)} (fields : List (Option ℕ)) →
+pub fielded-record : {A : Type 0} {base : Origin} {image : List ℕ} {ls : List Lowering} {fs : List (PlaceTy → Bool)} {rs : List Reaching} {ds : List (PlaceTy → ℕ)} (fields : List (Option ℕ)) →
     Each A base image ls fs rs ds → Fielded A base image (AdtPatternShape.Record fields ls) (λ n. byFields fields fs) (λ n. byFields fields ds) (λ n. byFields fields rs)
 unfolding variantFields
 fielded-record fields e = record { goes = λ p n ty. let g = spends-fields p n ty fields e in record { above = g .above; goes = g .goes } }
 
 -- none
-pub fielded-unit : (A : Type 0) (base : Ctx) (image : List ℕ) → Fielded A base image AdtPatternShape.Unit (λ n. []) (λ n. []) (λ n. [])
+pub fielded-unit : (A : Type 0) (base : Origin) (image : List ℕ) → Fielded A base image AdtPatternShape.Unit (λ n. []) (λ n. []) (λ n. [])
 unfolding variantFields throughArguments someArgument mostOfArguments
 fielded-unit A base image = record { goes = λ p n ty. let g = spends-none image ty in record { above = g .above; goes = g .goes } }
 
@@ -158,7 +158,7 @@ downcast-most : (image : List ℕ) (ty : PlaceTy) (v : ℕ) (args : List (Argume
     1 + mostOfArguments image (projectionTy ty image (ProjectionElem.Downcast v)) args ≡ max 1 (mostOfArguments image ty (downcast true v args))
 downcast-most image ty v args = le-antisymm (most-downcast image ty v args) (max-le (omega arith) (most-within image ty v args))
 
-module _ {A : Type 0} {base : Ctx} {image : List ℕ} (ty : PlaceTy) (h : Head) where
+module _ {A : Type 0} {base : Origin} {image : List ℕ} (ty : PlaceTy) (h : Head) where
   -- the test of an enum
   spends-discriminant : (v : ℕ) → Spends A base image ty (λ mode c current els place. inCheck mode (discriminantTest image (h .number) v c current els place) (out c current els)) true 0
       (λ k. naming h k false true ∷ [])

@@ -1,8 +1,8 @@
 -- Each test, and each binding, takes what is counted of it. Assumes nothing.
-use mathlib.Core.Path.{_≡_, refl}
+use mathlib.Core.Path.{_≡_, refl, subst}
 use mathlib.Core.Bool.{Bool, true, false, cond, false≢true}
 use mathlib.Core.Option.{Option, none, some}
-use mathlib.Core.List.{List}
+use mathlib.Core.List.{List, [], _∷_}
 use Prim.Native.Nat.{ℕ, _+_, _/_}
 use native.Mathlib.Omega.{arith}
 use lib.Dec.{eqb}
@@ -30,8 +30,8 @@ use Rattle.pattern_matching.specs.Slices.{RestOf, lengthCompared, lengthTest}
 use Rattle.pattern_matching.specs.declared.MatchingMode.{MatchingMode}
 use Rattle.counting.specs.Reaching.{endCount, lengthStatements}
 use Rattle.counting.specs.Counting.{elseMade}
-use Rattle.room.proofs.Telling.{Sound, Sure, sound-ok, sure-done, sure-stopped, sound-step}
-use Rattle.room.proofs.Building.{Table, make, Has, has-by, has-terminator, onceMore, spend-block, spend-statement, spend-live, spend-temp, spend-else}
+use Rattle.room.proofs.Telling.{Origin, Sound, Sure, sound-ok, sure-done, sure-stopped, sound-step}
+use Rattle.room.proofs.Building.{Table, make, Goal, owing, Has, has-by, has-terminator, onceMore, spend-block, spend-statement, spend-bound, spend-temp, spend-else}
 use Rattle.room.proofs.Spending.{Fares, Leaves}
 
 -- of an answer nothing is asked
@@ -39,13 +39,13 @@ abbrev Any : {X : Type 0} → X → Type 0
 Any x = Unit {0}
 
 -- a binding's local
-sure-local : {A : Type 0} {base : Ctx} (bindings : List ℕ) (b : ℕ) → Sure A base Any (bindingLocal bindings b)
+sure-local : {A : Type 0} {base : Origin} (bindings : List ℕ) (b : ℕ) → Sure A base (λ l. getD bindings b 65535 ≡ l .0) (bindingLocal bindings b)
 unfolding bindingLocal
 sure-local {A = A} {base = base} bindings b = by (eqb (getD bindings b 65535) 65535)
   where
-    by : (x : Bool) → Sure A base {X = LocalId} Any (cond x (stopped MirLowerError.InaccessibleLocal) (done (record { 0 = getD bindings b 65535 })))
-    by true = sure-stopped Any MirLowerError.InaccessibleLocal tt
-    by false = sure-done Any _ tt
+    by : (x : Bool) → Sure A base {X = LocalId} (λ l. getD bindings b 65535 ≡ l .0) (cond x (stopped MirLowerError.InaccessibleLocal) (done (record { 0 = getD bindings b 65535 })))
+    by true = sure-stopped (λ l. getD bindings b 65535 ≡ l .0) MirLowerError.InaccessibleLocal tt
+    by false = sure-done (λ l. getD bindings b 65535 ≡ l .0) _ refl
 
 -- what a length's test takes after the length is there
 abbrev after : RestOf → Table → ℕ
@@ -54,7 +54,7 @@ after (RestOf.binds q b how) = make 0 2 1 1
 after RestOf.ignores = make 0 2 1 1
 
 -- an integer literal is not refused for a limit
-sure-integer : {A : Type 0} {base : Ctx} (s : Shape) (t : ℕ) (bytes : List ℕ) → Sure A base Any (integerConstant s t bytes)
+sure-integer : {A : Type 0} {base : Origin} (s : Shape) (t : ℕ) (bytes : List ℕ) → Sure A base Any (integerConstant s t bytes)
 unfolding integerConstant
 sure-integer (integer size signed) t bytes = sure-done Any _ tt
 sure-integer bool t bytes = sure-stopped Any MirLowerError.NotSupported tt
@@ -68,7 +68,7 @@ sure-integer (slice u) t bytes = sure-stopped Any MirLowerError.NotSupported tt
 sure-integer unknown t bytes = sure-stopped Any MirLowerError.NotSupported tt
 
 -- no literal is
-pub sure-literal : {A : Type 0} {base : Ctx} (kind : OperandKind) (image : List ℕ) (t offset : ℕ) (bytes : List ℕ) → Sure A base Any (literalBy kind image t offset bytes)
+pub sure-literal : {A : Type 0} {base : Origin} (kind : OperandKind) (image : List ℕ) (t offset : ℕ) (bytes : List ℕ) → Sure A base Any (literalBy kind image t offset bytes)
 unfolding literalBy
 sure-literal OperandKind.Int image t offset bytes = sure-integer (tyOf image t .shape) t bytes
 sure-literal OperandKind.Uint image t offset bytes = sure-integer (tyOf image t .shape) t bytes
@@ -83,7 +83,7 @@ sure-literal OperandKind.Other image t offset bytes = sure-stopped Any MirLowerE
 sure-literal OperandKind.Unknown image t offset bytes = sure-stopped Any MirLowerError.NotSupported tt
 
 -- nor is the end of a range
-sure-end : {A : Type 0} {base : Ctx} (image : List ℕ) (t : ℕ) (o : Operand) → Sure A base Any (lowerLiteralOrConstToOperand image t o)
+sure-end : {A : Type 0} {base : Origin} (image : List ℕ) (t : ℕ) (o : Operand) → Sure A base Any (lowerLiteralOrConstToOperand image t o)
 unfolding lowerLiteralOrConstToOperand lowerLiteralToOperand literalOrConstBy
 sure-end {A = A} {base = base} image t o = by (o .kind)
   where
@@ -100,7 +100,7 @@ sure-end {A = A} {base = base} image t o = by (o .kind)
     by OperandKind.Other = sure-literal (o .kind) image t (o .offset) (o .bytes)
     by OperandKind.Unknown = sure-literal (o .kind) image t (o .offset) (o .bytes)
 
-module _ {A : Type 0} {base : Ctx} {T : Table → ℕ} (image : List ℕ) (p : ℕ) (m : Table → ℕ) (c : Ctx) where
+module _ {A : Type 0} {base : Origin} {T : Goal} (image : List ℕ) (p : ℕ) (m : Table → ℕ) (c : Ctx) where
   -- a test's end
   tested-end : (F : Bool) (st : State) (els : BasicBlockId) → Has A base T st m → Has A base T st (λ w. onceMore F (OptBlock.Some els) w + m w)
   tested-end F st els h = has-by h _ (omega arith) (omega arith) (omega arith) (omega arith)
@@ -212,12 +212,13 @@ module _ {A : Type 0} {base : Ctx} {T : Table → ℕ} (image : List ℕ) (p : �
       sound-ok (Leaves A base T true m) _ (has-terminator st₄ _ current _ (has-by h₄ _ (omega arith) (omega arith) (omega arith) (omega arith)))))))
 
   -- what fills a binding
-  pub sound-binding : (F : Bool) (bindings : List ℕ) (q b : ℕ) (how : BindingMode) (current : BasicBlockId) (els : OptBlock) (place : Place) → Fares A base T F (λ w. make 0 2 0 1 w + m w) c els →
-      Sound A base (Leaves A base T F m) (patternMatchBinding bindings p q b how c current els place)
+  pub sound-binding : (F : Bool) (bindings : List ℕ) (q b : ℕ) (how : BindingMode) (current : BasicBlockId) (els : OptBlock) (place : Place) →
+      Fares A base (owing (getD bindings b 65535 ∷ []) T) F (λ w. make 0 2 0 0 w + m w) c els → Sound A base (Leaves A base T F m) (patternMatchBinding bindings p q b how c current els place)
   unfolding patternMatchBinding
   sound-binding F bindings q b how current els place h =
       let rest : Table → ℕ = λ w. onceMore F els w + m w in
-      sound-step q (bindingLocal bindings b) _ (sure-local bindings b) (λ l _.
+      sound-step q (bindingLocal bindings b) _ (sure-local bindings b) (λ l is.
       sound-step p (pushStorageLiveForLocal (c .state) l current) _
-      (spend-live (c .state) (λ w. make 0 1 0 0 w + rest w) l current (has-by h _ (omega arith) (omega arith) (omega arith) (omega arith))) (λ st₁ h₁.
+      (spend-bound (c .state) (λ w. make 0 1 0 0 w + rest w) l current
+      (subst (λ (x : ℕ). Has A base (owing (x ∷ []) T) (c .state) (λ w. make 0 1 0 0 w + (make 0 1 0 0 w + rest w))) is (has-by h _ (omega arith) (omega arith) (omega arith) (omega arith)))) (λ st₁ h₁.
       sound-step p (tryStatement st₁ _) _ (spend-statement st₁ rest _ h₁) (λ st₂ h₂. sound-ok (Leaves A base T F m) _ h₂)))
