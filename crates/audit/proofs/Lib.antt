@@ -7,3 +7,5 @@ pub mod Judged
 pub mod Clauses
 pub mod Pinned
 pub mod Parameters
+pub mod Entries
+pub mod Scopes

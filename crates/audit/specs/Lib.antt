@@ -1,3 +1,4 @@
 pub mod Started
 pub mod Call
 pub mod Judged
+pub mod Entries

@@ -66,7 +66,7 @@ module _ {s₀ : State} {n : ℕ} (st : State) where
           terminators = each-made (TerminatorBelow (length (st .locals))) terminatorOf (st .blocks) (zeros 12) (k .named .terminators) tt;
           entries = k .named .entries;
         };
-        made = made-beside (newBlock st) (k .made) refl refl;
+        made = made-beside (newBlock st) (k .made) refl refl refl;
       }
 
   -- a terminator
@@ -81,7 +81,7 @@ module _ {s₀ : State} {n : ℕ} (st : State) where
               (terminator-row (length (st .locals)) t (terminator-more (k .more) t h));
           entries = k .named .entries;
         };
-        made = made-beside (setTerminator st b t) (k .made) refl refl;
+        made = made-beside (setTerminator st b t) (k .made) refl refl refl;
       }
 
   -- one statement more, no live mark
@@ -96,7 +96,7 @@ module _ {s₀ : State} {n : ℕ} (st : State) where
           terminators = k .named .terminators;
           entries = k .named .entries;
         };
-        made = made-line (pushStatement st row) row (k .made) refl (ap (recorded (st .entries)) (sym (h .unmarked)));
+        made = made-line (pushStatement st row) row (k .made) refl refl (ap (recorded (st .entries)) (sym (h .unmarked)));
       }
 
   -- one local more
@@ -108,7 +108,7 @@ module _ {s₀ : State} {n : ℕ} (st : State) where
       record {
         more = omega (arith, long);
         named = record { statements = h .statements; terminators = h .terminators; entries = h .entries };
-        made = made-beside (newLocal st word) (k .made) refl refl;
+        made = made-beside (newLocal st word) (k .made) refl refl refl;
       }
 
 -- a step within a limit
@@ -151,6 +151,7 @@ record Entered (s₀ : State) (n : ℕ) (st : State) (l : LocalId) (st₁ : Stat
   more : n ≤ length (st₁ .locals)
   named : NamedBelow st₁
   statements : st₁ .statements ≡ st .statements
+  scopes : st₁ .scopes ≡ st .scopes
   entries : st₁ .entries ≡ recorded (st .entries) (l .0 ∷ [])
 
 module _ {s₀ : State} {n : ℕ} (st : State) (l : LocalId) (below : l .0 < n) (k : Kept s₀ n st) where
@@ -166,6 +167,7 @@ module _ {s₀ : State} {n : ℕ} (st : State) (l : LocalId) (below : l .0 < n) 
           entries = each-more (λ (x : ℕ). x < length (st .locals)) (st .entries) (l .0) (k .named .entries) (lt-of-lt-of-le below (k .more));
         };
         statements = refl;
+        scopes = refl;
         entries = ap (λ (b : Bool). cond b (st .entries) (st .entries ++ (l .0 ∷ []))) (sym e);
       }
 
@@ -174,7 +176,7 @@ module _ {s₀ : State} {n : ℕ} (st : State) (l : LocalId) (below : l .0 < n) 
   unfolding tryEntry recorded isHeld
   enters true e =
       gives (Entered s₀ n st l) st
-      (record { more = k .more; named = k .named; statements = refl; entries = ap (λ (b : Bool). cond b (st .entries) (st .entries ++ (l .0 ∷ []))) (sym e) })
+      (record { more = k .more; named = k .named; statements = refl; scopes = refl; entries = ap (λ (b : Bool). cond b (st .entries) (st .entries ++ (l .0 ∷ []))) (sym e) })
   enters false e = room (Entered s₀ n st l) (ltb (length (st .entries)) entryLimit) (pushEntry st l) (entered-new e)
 
   -- the mark itself behind that
@@ -190,7 +192,7 @@ module _ {s₀ : State} {n : ℕ} (st : State) (l : LocalId) (below : l .0 < n) 
           terminators = r .named .terminators;
           entries = r .named .entries;
         };
-        made = made-line (pushStatement st₁ row) row (k .made) (ap (λ (x : List (List ℕ)). x ++ (row ∷ [])) (r .statements)) (r .entries ∙ ap (recorded (st .entries)) (sym (live-marks block l)));
+        made = made-line (pushStatement st₁ row) row (k .made) (ap (λ (x : List (List ℕ)). x ++ (row ∷ [])) (r .statements)) (r .scopes) (r .entries ∙ ap (recorded (st .entries)) (sym (live-marks block l)));
       }
 
   -- a mark that a local is live, which a scope holds or not

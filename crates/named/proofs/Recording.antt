@@ -36,27 +36,29 @@ marked-append (x ∷ xs) ys =
 pub record Made (s st : State) : Type 0 where
   pub made : List Line
   pub lines : mirOf st .lines ≡ mirOf s .lines ++ made
+  pub scopes : st .scopes ≡ s .scopes
   pub entries : st .entries ≡ recorded (s .entries) (markedLive made)
 
 -- nothing
 pub made-nothing : (s : State) → Made s s
 unfolding recorded markedLive
-made-nothing s = record { made = []; lines = sym (append-nil (mirOf s .lines)); entries = refl }
+made-nothing s = record { made = []; lines = sym (append-nil (mirOf s .lines)); scopes = refl; entries = refl }
 
 -- a step that makes no line and no entry
-pub made-beside : {s st : State} (st₁ : State) → Made s st → st₁ .statements ≡ st .statements → st₁ .entries ≡ st .entries → Made s st₁
+pub made-beside : {s st : State} (st₁ : State) → Made s st → st₁ .statements ≡ st .statements → st₁ .scopes ≡ st .scopes → st₁ .entries ≡ st .entries → Made s st₁
 unfolding mirOf
-made-beside st₁ m lines entries = record { made = m .made; lines = ap (map lineOf) lines ∙ m .lines; entries = entries ∙ m .entries }
+made-beside st₁ m lines scopes entries = record { made = m .made; lines = ap (map lineOf) lines ∙ m .lines; scopes = scopes ∙ m .scopes; entries = entries ∙ m .entries }
 
 -- one line more, and the entry that it records if it is a live mark
-pub made-line : {s st : State} (st₁ : State) (row : List ℕ) → Made s st → st₁ .statements ≡ st .statements ++ (row ∷ []) → st₁ .entries ≡ recorded (st .entries) (markedLive (lineOf row ∷ [])) →
-    Made s st₁
+pub made-line : {s st : State} (st₁ : State) (row : List ℕ) → Made s st → st₁ .statements ≡ st .statements ++ (row ∷ []) → st₁ .scopes ≡ st .scopes →
+    st₁ .entries ≡ recorded (st .entries) (markedLive (lineOf row ∷ [])) → Made s st₁
 unfolding mirOf
-made-line {s} {st} st₁ row m lines entries =
+made-line {s} {st} st₁ row m lines scopes entries =
     let x = lineOf row ∷ [] in
     record {
       made = m .made ++ x;
       lines = ap (map lineOf) lines ∙ map-append lineOf (st .statements) (row ∷ []) ∙ ap (λ (ls : List Line). ls ++ x) (m .lines) ∙ append-assoc (mirOf s .lines) (m .made) x;
+      scopes = scopes ∙ m .scopes;
       entries = entries ∙ ap (λ (es : List ℕ). recorded es (markedLive x)) (m .entries) ∙ sym (recorded-append (s .entries) (markedLive (m .made)) (markedLive x))
           ∙ ap (recorded (s .entries)) (sym (marked-append (m .made) x));
     }
@@ -67,6 +69,7 @@ made-recorded {s} {st} m =
     let same : drop (length (mirOf s .lines)) (mirOf st .lines) ≡ m .made = ap (drop (length (mirOf s .lines))) (m .lines) ∙ behind-list (mirOf s .lines) (m .made) in
     record {
       lines = m .lines ∙ ap (λ (ls : List Line). mirOf s .lines ++ ls) (sym same);
+      scopes = m .scopes;
       entries = m .entries ∙ ap (λ (ls : List Line). recorded (s .entries) (markedLive ls)) (sym same);
     }
 

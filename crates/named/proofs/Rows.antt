@@ -14,7 +14,7 @@ use Rattle.mir.specs.declared.rvalues.PlaceRvalue.{PlaceRvalue}
 use Rattle.mir.specs.declared.rvalues.Left.{Left}
 use Rattle.mir.specs.Blocks.{termRow}
 use Rattle.mir.specs.Statements.{placeWords}
-use Rattle.mir.specs.Rvalues.{constantWords, leftWords, placeRvalueKind, binaryKind, liveRow, placeRvalueRow, constantRow, binaryRow}
+use Rattle.mir.specs.Rvalues.{constantWords, leftWords, placeRvalueKind, binaryKind, liveRow, deadRow, placeRvalueRow, constantRow, binaryRow}
 use Rattle.views.specs.Views.{Rvalue, ofPlace, ofConstant, binary, unknown, Statement, live, dead, set, terminatorOf, pathOf, leftOf, lineOf}
 use Rattle.named.specs.Named.{LeftBelow, RvalueBelow, StatementBelow, TerminatorBelow, Throughout}
 use Rattle.named.specs.Marked.{markOf, markedLive}
@@ -86,6 +86,11 @@ live-row block l h = h
 pub live-marks : (block : BasicBlockId) (l : LocalId) → markedLive (lineOf (liveRow block l) ∷ []) ≡ l .0 ∷ []
 unfolding lineOf liveRow markedLive markOf
 live-marks block l = refl
+
+-- a dead mark marks none live
+pub dead-unmarked : (block : BasicBlockId) (l : LocalId) → markedLive (lineOf (deadRow block l) ∷ []) ≡ []
+unfolding lineOf deadRow markedLive markOf
+dead-unmarked block l = refl
 
 -- what is made of a place
 pub place-row : {n : ℕ} (block : BasicBlockId) (l : LocalId) (how : PlaceRvalue) (place : Place) → l .0 < n → place .local .0 < n → RowBelow n (placeRvalueRow block l how place)

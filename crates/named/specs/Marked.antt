@@ -22,7 +22,9 @@ markedLive (x ∷ xs) = markOf (x .statement) ++ markedLive xs
 abbrev pub linesMade : State → State → List Line
 linesMade before after = drop (length (mirOf before .lines)) (mirOf after .lines)
 
--- the lines before stand first, and the entries are those that there were and those that the live marks made record, each "unless an open scope already holds it"
+-- the lines before stand first, the scopes are the same, and behind the entries that there were, so in the last scope, stand those that the live marks made record, each
+-- "unless an open scope already holds it"
 pub record MarksRecorded (before after : State) : Type 0 where
   pub lines : mirOf after .lines ≡ mirOf before .lines ++ linesMade before after
+  pub scopes : after .scopes ≡ before .scopes
   pub entries : after .entries ≡ recorded (before .entries) (markedLive (linesMade before after))
