@@ -34,6 +34,8 @@ pub struct Changed {
     pub replaced: bool,
     /// Each of several discriminant tests has a local of its own.
     pub parted: bool,
+    /// Entries of locals that an open scope already held are struck out.
+    pub struck: bool,
 }
 
 /// A listing of a body that document 02 has changed.

@@ -42,7 +42,7 @@ impl LoweredPattern<'_> {
     ) -> Listed {
         let replaced = replace(&mut self.body, tables, roots, 0);
         let text = pretty::listing(&self.body, self.then, self.other, db, contents);
-        Listed { text, changed: Changed { replaced, parted } }
+        Listed { text, changed: Changed { replaced, parted, ..Changed::default() } }
     }
 }
 
