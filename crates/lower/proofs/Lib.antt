@@ -1,3 +1,4 @@
+mod Holding
 mod Marking
 mod Temporaries
 mod Joining

@@ -1,13 +1,15 @@
 -- Live marks, by the ways through the code. Assumes nothing.
-use mathlib.Core.Path.{_≡_, refl, ap}
+use mathlib.Core.Path.{_≡_, refl, ap, subst}
 use mathlib.Core.Logic.{inl}
+use mathlib.Core.Bool.{Bool, true, false, cond}
 use mathlib.Core.List.{List, [], _∷_}
 use Prim.Native.Nat.{ℕ, zero, suc, _<_}
 use native.Mathlib.Omega.{arith}
 use borrow.Author.Tests.{eq-eqb, ne-eqb}
-use lib.ListN.{length, getD}
+use lib.ListN.{length, getD, take}
 use Rattle.refusals.specs.declared.MirLowerError.{MirLowerError}
 use Rattle.refusals.specs.Refusals.{ok, refused, andThen}
+use Rattle.image.specs.Lists.{member}
 use Rattle.place.specs.declared.LocalId.{LocalId}
 use Rattle.mir.specs.declared.BasicBlockId.{BasicBlockId}
 use Rattle.mir.specs.declared.Counts.{Counts}
@@ -17,44 +19,52 @@ use Rattle.mir.specs.Statements.{newStatement, statementsAfter}
 use Rattle.mir.specs.Scopes.{newEntry, entriesAfter}
 use Rattle.state.specs.State.{body, decode}
 use Rattle.state.specs.Steps.{tryStatement}
-use Rattle.state.specs.Contracts.{Ready, Answers}
+use Rattle.state.specs.Contracts.{Ready, Answers, steppedCounts, steppedResult}
 use Rattle.state.specs.declared.Stepped.{Stepped}
 use Rattle.state.proofs.RowLengths.{live-length}
-use Rattle.state.proofs.Answering.{scope-count, then, stops, refuses}
-use Rattle.lower.specs.Temps.{pushStorageLiveForLocal, bindingLocal, pushStorageLive}
+use Rattle.state.proofs.Answering.{scope-count, then, stops, done, refuses}
+use Rattle.lower.specs.Temps.{isHeld, recordUnless, markLive, pushStorageLiveForLocal, bindingLocal, pushStorageLive}
 use Rattle.lower.specs.Promises.{Marks}
 use Rattle.state.proofs.Calls.{countedCounts, countedResult, push-entry-answers, push-statement-answers}
 
+-- `record_unless`, within a table of entries: the answer, and the table with the entry or without it
+record-answers : (bl s lo sc e₀ : List ℕ) (c : Counts) (current : ℕ) (l : LocalId) (held : Bool) {r : Counted} {e : List ℕ} →
+    r ≡ cond held (Counted.Now c) (newEntry c) → e ≡ cond held e₀ (entriesAfter c e₀ (l .0)) → Ready (body bl s lo sc e₀) c →
+    Answers (body bl s lo sc e₀) c current (body bl s lo sc e) (countedCounts r) (countedResult r (body bl s lo sc e)) (recordUnless held (decode (body bl s lo sc e₀) c) l)
+record-answers bl s lo sc e₀ c current l true is after R = rw (is, after) (done (decode (body bl s lo sc e₀) c) R)
+record-answers bl s lo sc e₀ c current l false is after R = push-entry-answers bl s lo sc e₀ c current l is after R
+
 -- s₀ and e₀ are the tables at entry
-module _ (s₀ e₀ : List ℕ) (c : Counts) (l : LocalId) (block : BasicBlockId) where
+module _ (s₀ e₀ : List ℕ) (c : Counts) (l : LocalId) (block : BasicBlockId) (held : Bool) where
   abbrev Live : Stepped → List ℕ → List ℕ → Type 0
-  Live = Marks (λ st. pushStorageLiveForLocal st l block) c block s₀ e₀
+  Live = Marks (λ st. markLive held st l block) c block s₀ e₀
 
   -- there is no scope
   pub live-no-scope : c .scopes ≡ 0 → Live (Stepped.Refused MirLowerError.NoScope) s₀ e₀
-  unfolding pushStorageLiveForLocal
+  unfolding markLive
   live-no-scope h bl lo sc R = refuses MirLowerError.NoScope (rw (scope-count (body bl s₀ lo sc e₀) c R, eq-eqb (c .scopes) 0 h) refl)
 
   module _ (scoped : c .scopes ≡ 0 → ⊥) where
     -- there is no room for the entry
-    pub live-no-entry : {e : List ℕ} → Counted.Full ≡ newEntry c → e ≡ entriesAfter c e₀ (l .0) → Live (Stepped.Refused MirLowerError.Limit) s₀ e
-    unfolding pushStorageLiveForLocal
+    pub live-no-entry : {e : List ℕ} → Counted.Full ≡ cond held (Counted.Now c) (newEntry c) → e ≡ cond held e₀ (entriesAfter c e₀ (l .0)) → Live (Stepped.Refused MirLowerError.Limit) s₀ e
+    unfolding markLive
     live-no-entry is after bl lo sc R =
         rw (scope-count (body bl s₀ lo sc e₀) c R, ne-eqb (c .scopes) 0 scoped)
-        (stops (λ st₁. tryStatement st₁ (liveRow block l)) (push-entry-answers bl s₀ lo sc e₀ c (block .0) l is after R))
+        (stops (λ st₁. tryStatement st₁ (liveRow block l)) (record-answers bl s₀ lo sc e₀ c (block .0) l held is after R))
 
-    -- the entry, and then the statement or no room for it
-    live-entry : {c₁ : Counts} {r : Counted} {s e : List ℕ} → Counted.Now c₁ ≡ newEntry c → e ≡ entriesAfter c e₀ (l .0) → r ≡ newStatement c₁ → s ≡ statementsAfter c₁ s₀ (liveRow block l) →
-        (bl lo sc : List ℕ) → Ready (body bl s₀ lo sc e₀) c →
-        Answers (body bl s₀ lo sc e₀) c (block .0) (body bl s lo sc e) (countedCounts r) (countedResult r (body bl s lo sc e)) (pushStorageLiveForLocal (decode (body bl s₀ lo sc e₀) c) l block)
-    unfolding pushStorageLiveForLocal
+    -- the entry, where one is made, and then the statement or no room for it
+    live-entry : {c₁ : Counts} {r : Counted} {s e : List ℕ} → Counted.Now c₁ ≡ cond held (Counted.Now c) (newEntry c) → e ≡ cond held e₀ (entriesAfter c e₀ (l .0)) →
+        r ≡ newStatement c₁ → s ≡ statementsAfter c₁ s₀ (liveRow block l) → (bl lo sc : List ℕ) → Ready (body bl s₀ lo sc e₀) c →
+        Answers (body bl s₀ lo sc e₀) c (block .0) (body bl s lo sc e) (countedCounts r) (countedResult r (body bl s lo sc e)) (markLive held (decode (body bl s₀ lo sc e₀) c) l block)
+    unfolding markLive
     live-entry {c₁ = c₁} {e = e} is after pushed stored bl lo sc R =
-        let first = push-entry-answers bl s₀ lo sc e₀ c (block .0) l is after R in
+        let first = record-answers bl s₀ lo sc e₀ c (block .0) l held is after R in
         rw (scope-count (body bl s₀ lo sc e₀) c R, ne-eqb (c .scopes) 0 scoped)
         (then (λ st₁. tryStatement st₁ (liveRow block l)) first (inl refl)
         (push-statement-answers bl s₀ lo sc e c₁ (block .0) (liveRow block l) (live-length block l) pushed stored (first .goes .0)))
 
-    module _ {c₁ : Counts} {s e : List ℕ} (is : Counted.Now c₁ ≡ newEntry c) (after : e ≡ entriesAfter c e₀ (l .0)) (stored : s ≡ statementsAfter c₁ s₀ (liveRow block l)) where
+    module _ {c₁ : Counts} {s e : List ℕ} (is : Counted.Now c₁ ≡ cond held (Counted.Now c) (newEntry c)) (after : e ≡ cond held e₀ (entriesAfter c e₀ (l .0)))
+        (stored : s ≡ statementsAfter c₁ s₀ (liveRow block l)) where
       -- there is no room for the statement
       pub live-no-statement : Counted.Full ≡ newStatement c₁ → Live (Stepped.Refused MirLowerError.Limit) s e
       live-no-statement full = live-entry is after full stored
@@ -62,6 +72,14 @@ module _ (s₀ e₀ : List ℕ) (c : Counts) (l : LocalId) (block : BasicBlockId
       -- both are made
       pub live-marked : {c₂ : Counts} → Counted.Now c₂ ≡ newStatement c₁ → Live (Stepped.Now c₂) s e
       live-marked pushed = live-entry is after pushed stored
+
+-- `push_storage_live_for_local`: a mark of a local that is held where the entries say so
+pub mark-looked : (s₀ e₀ : List ℕ) (c : Counts) (l : LocalId) (block : BasicBlockId) (held : Bool) (r : Stepped) {s e : List ℕ} →
+    held ≡ member (l .0) (take (c .entries) e₀) → Marks (λ st. markLive held st l block) c block s₀ e₀ r s e → Marks (λ st. pushStorageLiveForLocal st l block) c block s₀ e₀ r s e
+unfolding isHeld decode
+mark-looked s₀ e₀ c l block held r {s = s} {e = e} is M bl lo sc R =
+    subst (λ (h : Bool). Answers (body bl s₀ lo sc e₀) c (block .0) (body bl s lo sc e) (steppedCounts r) (steppedResult r (body bl s lo sc e)) (markLive h (decode (body bl s₀ lo sc e₀) c) l block))
+    is (M bl lo sc R)
 
 -- within a list it does not matter what there would be outside
 getD-within : (xs : List ℕ) (i d d′ : ℕ) → i < length xs → getD xs i d ≡ getD xs i d′

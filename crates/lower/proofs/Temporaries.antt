@@ -22,7 +22,7 @@ use Rattle.state.specs.Contracts.{Ready, Answers, steppedCounts, steppedResult}
 use Rattle.state.specs.declared.Stepped.{Stepped}
 use Rattle.state.proofs.Answering.{next-local, then, stops, refuses}
 use Rattle.lower.specs.declared.temps.NewTemp.{NewTemp}
-use Rattle.lower.specs.Temps.{isSlice, temp, pushStorageLiveForLocal}
+use Rattle.lower.specs.Temps.{isSlice, temp, markLive}
 use Rattle.lower.specs.Promises.{Marks, Makes}
 use Rattle.state.proofs.Calls.{local-number, new-local-answers}
 
@@ -53,27 +53,27 @@ module _ (image s₀ l₀ e₀ : List ℕ) (c : Counts) (word : ℕ) (block : Ba
     pub temp-no-local : {l : List ℕ} → NewLocal.Full ≡ newLocal c → l ≡ localsAfter c l₀ word → Temp (NewTemp.Refused MirLowerError.Limit) s₀ l e₀
     unfolding temp
     temp-no-local full after = record {
-      answers = λ bl sc R. rw sized (stops (λ st₁. pushStorageLiveForLocal st₁ (nextLocal (decode (body bl s₀ l₀ sc e₀) c)) block) (new-local-answers bl s₀ l₀ sc e₀ c (block .0) word full after R));
+      answers = λ bl sc R. rw sized (stops (λ st₁. markLive false st₁ (nextLocal (decode (body bl s₀ l₀ sc e₀) c)) block) (new-local-answers bl s₀ l₀ sc e₀ c (block .0) word full after R));
       number = tt;
     }
 
     module _ {c₁ : Counts} {n : LocalId} {s l e : List ℕ} (is : NewLocal.Local c₁ n ≡ newLocal c) (after : l ≡ localsAfter c l₀ word) where
       -- the local, and then what its mark gives
-      temp-marked : (r : Stepped) → Marks (λ st. pushStorageLiveForLocal st n block) c₁ block s₀ e₀ r s e → (bl sc : List ℕ) → Ready (body bl s₀ l₀ sc e₀) c →
+      temp-marked : (r : Stepped) → Marks (λ st. markLive false st n block) c₁ block s₀ e₀ r s e → (bl sc : List ℕ) → Ready (body bl s₀ l₀ sc e₀) c →
           Answers (body bl s₀ l₀ sc e₀) c (block .0) (body bl s l sc e) (steppedCounts r) (steppedResult r (body bl s l sc e)) (temp image (decode (body bl s₀ l₀ sc e₀) c) word block)
       unfolding temp
       temp-marked r M bl sc R =
           let first = new-local-answers bl s₀ l₀ sc e₀ c (block .0) word is after R in
           rw sized
           (subst
-          (λ (m : LocalId). Answers (body bl s₀ l₀ sc e₀) c (block .0) (body bl s l sc e) (steppedCounts r) (steppedResult r (body bl s l sc e)) (andThen (tryLocal (decode (body bl s₀ l₀ sc e₀) c) word) (λ st₁. pushStorageLiveForLocal st₁ m block)))
+          (λ (m : LocalId). Answers (body bl s₀ l₀ sc e₀) c (block .0) (body bl s l sc e) (steppedCounts r) (steppedResult r (body bl s l sc e)) (andThen (tryLocal (decode (body bl s₀ l₀ sc e₀) c) word) (λ st₁. markLive false st₁ m block)))
           (local-number c is ∙ next-local (body bl s₀ l₀ sc e₀) c R)
-          (then (λ st₁. pushStorageLiveForLocal st₁ n block) first (inl refl) (M bl l sc (first .goes .0))))
+          (then (λ st₁. markLive false st₁ n block) first (inl refl) (M bl l sc (first .goes .0))))
 
       -- the mark is refused
-      pub temp-stopped : {err : MirLowerError} → Marks (λ st. pushStorageLiveForLocal st n block) c₁ block s₀ e₀ (Stepped.Refused err) s e → Temp (NewTemp.Refused err) s l e
+      pub temp-stopped : {err : MirLowerError} → Marks (λ st. markLive false st n block) c₁ block s₀ e₀ (Stepped.Refused err) s e → Temp (NewTemp.Refused err) s l e
       temp-stopped {err = err} M = record { answers = temp-marked (Stepped.Refused err) M; number = tt }
 
       -- both are made
-      pub temp-made : {c₂ : Counts} → Marks (λ st. pushStorageLiveForLocal st n block) c₁ block s₀ e₀ (Stepped.Now c₂) s e → Temp (NewTemp.Local c₂ n) s l e
+      pub temp-made : {c₂ : Counts} → Marks (λ st. markLive false st n block) c₁ block s₀ e₀ (Stepped.Now c₂) s e → Temp (NewTemp.Local c₂ n) s l e
       temp-made {c₂ = c₂} M = record { answers = temp-marked (Stepped.Now c₂) M; number = local-number c is }

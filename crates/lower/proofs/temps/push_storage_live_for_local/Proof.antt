@@ -3,39 +3,19 @@ use Rattle.lower.proofs.temps.push_storage_live_for_local.Statement.{st
 use Rattle.lower.proofs.temps.push_storage_live_for_local.Tie as tie
 use Rattle.lower.proofs.temps.push_storage_live_for_local.Reads as reads
 use Rattle.lower.proofs.temps.push_storage_live_for_local.Lts as lts
-use Rattle.mir.proofs.rvalues.push_live.Reads as push-live-reads
-use Rattle.mir.proofs.scopes.push_entry.Reads as push-entry-reads
-use mathlib.Core.Path.{sym, _∙_}
-use Rattle.lower.proofs.Marking.{live-no-scope, live-no-entry, live-no-statement, live-marked}
+use Rattle.lower.proofs.temps.is_held.Reads as is-held-reads
+use Rattle.lower.proofs.temps.mark_live.Reads as mark-live-reads
+use Rattle.lower.proofs.Marking.{mark-looked}
 
 returns : tie.Need-returns
-returns c = live-no-scope _ _ _ _ _ (c .if1 .taken)
-
-returns-2 : tie.Need-returns-2
-returns-2 c = live-no-entry _ _ _ _ _ (c .before .before .before .before .before .before .if1 .left) (sym (c .enum-told .given .1) ∙ c .before .before .before .before .push-entry .ensures .0) (c .before .before .before .before .push-entry .ensures .1)
-
-returns-3 : tie.Need-returns-3
-returns-3 c = live-no-statement _ _ _ _ _ (c .before .before .before .before .before .before .before .before .before .before .before .before .before .if1 .left) (sym (c .before .before .before .before .before .before .before .c1 .given .1) ∙ c .before .before .before .before .before .before .before .before .before .before .before .push-entry .ensures .0) (c .before .before .before .before .before .before .before .before .before .before .before .push-entry .ensures .1) (c .before .before .before .before .push-live .ensures .1) (sym (c .enum-told2 .given .1) ∙ c .before .before .before .before .push-live .ensures .0)
-
-returns-4 : tie.Need-returns-4
-returns-4 c = live-marked _ _ _ _ _ (c .before .before .before .before .before .before .before .before .before .before .before .before .before .before .if1 .left) (sym (c .before .before .before .before .before .before .before .before .c1 .given .1) ∙ c .before .before .before .before .before .before .before .before .before .before .before .before .push-entry .ensures .0) (c .before .before .before .before .before .before .before .before .before .before .before .before .push-entry .ensures .1) (c .before .before .before .before .before .push-live .ensures .1) (sym (c .before .c2 .given .1) ∙ c .before .before .before .before .before .push-live .ensures .0)
+returns c = mark-looked _ _ _ _ _ _ (c .before .before .before .before .mark-live .result) (c .before .before .before .before .before .before .before .is-held .ensures) (c .before .before .before .before .mark-live .ensures)
 
 pub push-storage-live-for-local-spec : {M : Type 1} → statement M
 push-storage-live-for-local-spec =
     tie.close
     (tie.spec
-    returns
+    (λ c κs. search needs)
     (λ c κs. search needs)
     (λ c. search needs)
     (λ c. search needs)
-    (λ c κs. search needs)
-    (λ c. search needs)
-    (λ c. search needs)
-    (λ c. search needs)
-    returns-2
-    (λ c. search needs)
-    (λ c. search needs)
-    returns-3
-    (λ c. search needs)
-    (λ c. search needs)
-    returns-4)
+    returns)

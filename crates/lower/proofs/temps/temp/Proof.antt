@@ -4,7 +4,7 @@ use Rattle.lower.proofs.temps.temp.Tie as tie
 use Rattle.lower.proofs.temps.temp.Reads as reads
 use Rattle.lower.proofs.temps.temp.Lts as lts
 use Rattle.lower.proofs.temps.is_slice.Reads as is-slice-reads
-use Rattle.lower.proofs.temps.push_storage_live_for_local.Reads as push-storage-live-for-local-reads
+use Rattle.lower.proofs.temps.mark_live.Reads as mark-live-reads
 use Rattle.mir.proofs.locals.new_local.Reads as new-local-reads
 use mathlib.Core.Path.{sym, _∙_}
 use Rattle.lower.proofs.Temporaries.{temp-slice, temp-no-local, temp-stopped, temp-made}
@@ -16,10 +16,10 @@ returns-2 : tie.Need-returns-2
 returns-2 c = temp-no-local _ _ _ _ _ _ _ (sym (c .before .before .before .before .before .before .before .is-slice .ensures) ∙ c .before .before .before .before .before .before .if1 .left) (sym (c .enum-told .given .1) ∙ c .before .before .before .before .new-local .ensures .0) (c .before .before .before .before .new-local .ensures .1)
 
 returns-3 : tie.Need-returns-3
-returns-3 c = temp-stopped _ _ _ _ _ _ _ (sym (c .before .before .before .before .before .before .before .before .before .before .before .before .before .before .before .before .before .before .is-slice .ensures) ∙ c .before .before .before .before .before .before .before .before .before .before .before .before .before .before .before .before .before .if1 .left) (sym (c .before .before .before .before .before .before .before .before .before .before .before .c1 .given .1) ∙ c .before .before .before .before .before .before .before .before .before .before .before .before .before .before .before .new-local .ensures .0) (c .before .before .before .before .before .before .before .before .before .before .before .before .before .before .before .new-local .ensures .1) (rw (c .before .e .given .1) at (c .before .before .before .before .before .before .before .push-storage-live-for-local .ensures))
+returns-3 c = temp-stopped _ _ _ _ _ _ _ (sym (c .before .before .before .before .before .before .before .before .before .before .before .before .before .before .before .before .before .before .is-slice .ensures) ∙ c .before .before .before .before .before .before .before .before .before .before .before .before .before .before .before .before .before .if1 .left) (sym (c .before .before .before .before .before .before .before .before .before .before .before .c1 .given .1) ∙ c .before .before .before .before .before .before .before .before .before .before .before .before .before .before .before .new-local .ensures .0) (c .before .before .before .before .before .before .before .before .before .before .before .before .before .before .before .new-local .ensures .1) (rw (c .before .e .given .1) at (c .before .before .before .before .before .before .before .mark-live .ensures))
 
 returns-4 : tie.Need-returns-4
-returns-4 c = temp-made _ _ _ _ _ _ _ (sym (c .before .before .before .before .before .before .before .before .before .before .before .before .before .before .before .before .before .before .is-slice .ensures) ∙ c .before .before .before .before .before .before .before .before .before .before .before .before .before .before .before .before .before .if1 .left) (sym (c .before .before .before .before .before .before .before .before .before .before .before .c1 .given .1) ∙ c .before .before .before .before .before .before .before .before .before .before .before .before .before .before .before .new-local .ensures .0) (c .before .before .before .before .before .before .before .before .before .before .before .before .before .before .before .new-local .ensures .1) (rw (c .before .c2 .given .1) at (c .before .before .before .before .before .before .before .push-storage-live-for-local .ensures))
+returns-4 c = temp-made _ _ _ _ _ _ _ (sym (c .before .before .before .before .before .before .before .before .before .before .before .before .before .before .before .before .before .before .is-slice .ensures) ∙ c .before .before .before .before .before .before .before .before .before .before .before .before .before .before .before .before .before .if1 .left) (sym (c .before .before .before .before .before .before .before .before .before .before .before .c1 .given .1) ∙ c .before .before .before .before .before .before .before .before .before .before .before .before .before .before .before .new-local .ensures .0) (c .before .before .before .before .before .before .before .before .before .before .before .before .before .before .before .new-local .ensures .1) (rw (c .before .c2 .given .1) at (c .before .before .before .before .before .before .before .mark-live .ensures))
 
 pub temp-spec : {M : Type 1} → statement M
 temp-spec =
