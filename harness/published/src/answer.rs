@@ -75,7 +75,7 @@ pub fn lower(tables: &Tables, place_type: usize, how: How) -> Outcome {
     let place_type = Ty::numbered(place_type as u16);
     let made = quietly(|| {
         panic::catch_unwind(AssertUnwindSafe(|| {
-            lower_to_mir_with_store(db, &store, &inference, place_type, pattern, how.assigns)
+            lower_to_mir_with_store(db, &store, &inference, place_type, pattern, how.assigns, 0)
                 .map(|lowered| lowered.listing(db, tables, root as u16, how.contents))
         }))
     });
