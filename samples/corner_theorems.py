@@ -29,8 +29,13 @@ MODULES = [
     ("image", "Bytes", "wordAt littleEndian"),
     ("image", "Tables", "tablesOf"),
     ("image", "Rows", "typeAt variantAt patAt bindingAt listAt operandAt operandBytes"),
-    ("image", "Lists", "member upFrom"),
-    ("image", "Rules", "listed"),
+    ("image", "Lists", "allBelow allIn allTrue member distinct upFrom gather"),
+    ("image", "Operands", "isScalarValue operandValueHolds operandHolds"),
+    ("image", "Rules", "countsWhatFollows versionIsOne tablesFillTheRest listed typesListed isIntegerSize adtMayHave typeShapeHolds typeHolds variantsBy "
+     "adtsShareNoVariant variantHolds bindingHolds withinLimits"),
+    ("image", "Subpatterns", "ifPresent subpatternsBy"),
+    ("image", "Patterns", "pathHolds patternShapeHolds patternHolds subpatternsBelow usedOnce"),
+    ("image", "Valid", "valid"),
     ("image", "Types", "shapeBy tyOf variantOf bindingOf operandOf"),
     ("image", "Tree", "word? operand? trees tree? target nodeBy node treeOf tree"),
     ("place", "Elems", "elemOf wordOf"),
@@ -63,7 +68,6 @@ PARAM_MODULES = [
 ]
 
 FIT_MODULES = [
-    ("image", "Lists", "allTrue distinct"),
     ("image", "Integers", "leastValue greatestValue inRange integerValue"),
     ("meaning", "Values", "items partsOf intFits kindNumber fieldTypes valueFits"),
     ("meaning", "Typing", "referent behind typeIsThePlaces tupleFields variantsOf argumentsFit discriminantsDiffer integerFits"),
@@ -76,14 +80,7 @@ FIT_MODULES = [
 
 # What the rows on fit, meaning and run unfold besides, by the whole of its name.
 MEANING = {
-    "image.specs.Lists": "allBelow allIn allTrue distinct gather",
     "image.specs.Integers": "leastValue greatestValue inRange integerValue",
-    "image.specs.Operands": "isScalarValue operandValueHolds operandHolds",
-    "image.specs.Rules": "countsWhatFollows versionIsOne tablesFillTheRest typesListed isIntegerSize adtMayHave typeShapeHolds typeHolds variantsBy adtsShareNoVariant "
-    "variantHolds bindingHolds withinLimits",
-    "image.specs.Subpatterns": "ifPresent subpatternsBy",
-    "image.specs.Patterns": "pathHolds patternShapeHolds patternHolds subpatternsBelow usedOnce",
-    "image.specs.Valid": "valid",
     "counting.specs.Reaching": "isEnum isSliceShape behindDerefs fieldCount pathTests zip inARow byFields downcast ofVariant items someArgument allAlternatives canFail",
     "meaning.specs.Values": "items values derefed partsOf middle subslice partAt placeIn intFits kindNumber fieldTypes arrayLength valueFits",
     "meaning.specs.Running": "update valueOf dataBytes signedNumber constantBy constantValue scalarOf bytesOf sameBytes sameValue compared discriminantOf elemKind "

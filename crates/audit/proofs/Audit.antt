@@ -32,7 +32,9 @@ use Rattle.called.proofs.Refusals.{fit-refused}
 use Rattle.called.proofs.Naming.{named-throughout}
 use Rattle.audit.specs.Started.{Row, answerBy}
 use Rattle.audit.specs.Call.{lowering}
+use Rattle.param_runs.specs.Corner.{answer, Row as ParamsRow}
 use Rattle.audit.proofs.Proved as proved
+use Rattle.param_runs.proofs.Corners as on-parameters
 
 -- Demand 1, of every call that is accepted: what it hands out is what the definition of `pattern_match` gives, a transcription of the Rust but for requests
 -- S-1, S-4 and S-5.
@@ -100,6 +102,7 @@ the-test's-local-is-the-count = test-local
 pub a-fitting-pattern-is-refused-by-11-or-14-alone : {call : Call} → FittingPattern call → (e : MirLowerError) (p : PatId) → Refused call e p → (numberOf e ≡ 11) ⊎ (numberOf e ≡ 14)
 a-fitting-pattern-is-refused-by-11-or-14-alone = fit-refused
 
--- The corners of pattern_matching.rs that document 01 marks [P], from the bytes of their images.
-pub the-proved-corners : map (λ (row : Row). answerBy lowering (row .image) (row .ty)) proved.rows ≡ map (λ (row : Row). row .wanted) proved.rows
-the-proved-corners = proved.as-wanted
+-- The corners that document 01 marks [P], of pattern_matching.rs and of lower.rs on parameters, from the bytes of their images, which are valid; of parameters, others beside them.
+pub the-proved-corners : (map (λ (row : Row). answerBy lowering (row .image) (row .ty)) proved.rows ≡ map (λ (row : Row). row .wanted) proved.rows)
+    × (map (λ (row : ParamsRow). answer (row .image) (row .self) (row .params)) on-parameters.rows ≡ map (λ (row : ParamsRow). row .wanted) on-parameters.rows)
+the-proved-corners = (proved.as-wanted, on-parameters.as-wanted)

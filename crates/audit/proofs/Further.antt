@@ -13,8 +13,12 @@ use Rattle.views.specs.Views.{Rvalue, ofPlace, ofConstant, binary, Statement, l
 use Rattle.image.specs.Bytes.{wordAt, littleEndian}
 use Rattle.image.specs.Tables.{tablesOf}
 use Rattle.image.specs.Rows.{typeAt, variantAt, patAt, bindingAt, listAt, operandAt, operandBytes}
-use Rattle.image.specs.Lists.{member, upFrom}
-use Rattle.image.specs.Rules.{listed}
+use Rattle.image.specs.Lists.{allBelow, allIn, allTrue, member, distinct, upFrom, gather}
+use Rattle.image.specs.Operands.{isScalarValue, operandValueHolds, operandHolds}
+use Rattle.image.specs.Rules.{countsWhatFollows, versionIsOne, tablesFillTheRest, listed, typesListed, isIntegerSize, adtMayHave, typeShapeHolds, typeHolds, variantsBy, adtsShareNoVariant, variantHolds, bindingHolds, withinLimits}
+use Rattle.image.specs.Subpatterns.{ifPresent, subpatternsBy}
+use Rattle.image.specs.Patterns.{pathHolds, patternShapeHolds, patternHolds, subpatternsBelow, usedOnce}
+use Rattle.image.specs.Valid.{valid}
 use Rattle.image.specs.Types.{shapeBy, tyOf, variantOf, bindingOf, operandOf}
 use Rattle.image.specs.Tree.{word?, operand?, trees, tree?, target, nodeBy, node, treeOf, tree}
 use Rattle.place.specs.Elems.{elemOf, wordOf}
@@ -228,5 +232,5 @@ rows = surplus-row ∷ enum-twice-row ∷ bind-some-row ∷ nested-or-row ∷ or
 
 -- each row's image comes to the answer that is wanted
 pub as-wanted : map (λ (row : Row). answerBy lowering (row .image) (row .ty)) rows ≡ map (λ (row : Row). row .wanted) rows
-unfolding wordAt littleEndian tablesOf typeAt variantAt patAt bindingAt listAt operandAt operandBytes member upFrom listed shapeBy tyOf variantOf bindingOf operandOf word? operand? trees tree? target nodeBy node treeOf tree elemOf wordOf projectionOf fieldOf derefTy adtFieldTy fieldTy elementTy subsliceTy adtDowncastTy downcastTy tyProjection variantProjection partProjection projectionTy multiProjectionTy termRow halves placeWords localTy constantWords leftWords placeRvalueKind binaryKind liveRow deadRow placeRvalueRow constantRow binaryRow newBlock setTerminator pushStatement newLocal pushScope pushEntry tryBlock tryStatement tryLocal tryScope tryEntry constantOf stringConstant integerConstant literalBy lowerLiteralToOperand lowerConstToOperand literalOrConstBy lowerLiteralOrConstToOperand isSlice isHeld markLive temp bindingLocal terminatorOf elemsAt pathOf constantAt leftOf lineOf mirOf numberOf reasonOf refusalAt visited project localPlace elseState elseBlock derefed entered compare patternMatchConst literal litBy constantPath rangeEnd rangeEnd? bindingRvalue patternMatchBinding localPath placeTy shapeOf patternMatchAdt patternMatchTupleLike ellipsisAt tupleOn tuplePattern refOn refPattern resolved recordFields variantFields discriminantTest variantOn adtOn patternMatchingVariant variantPattern lengthConstant lengthCompared lengthTest restBound sliceItems sliceOn alternatives alternativesEnd orPattern endOp rangePattern pathPattern bindPattern restBy restOf patternMatchInner lowerings lowering? patternMatch startState start answerBy
+unfolding wordAt littleEndian tablesOf typeAt variantAt patAt bindingAt listAt operandAt operandBytes allBelow allIn allTrue member distinct upFrom gather isScalarValue operandValueHolds operandHolds countsWhatFollows versionIsOne tablesFillTheRest listed typesListed isIntegerSize adtMayHave typeShapeHolds typeHolds variantsBy adtsShareNoVariant variantHolds bindingHolds withinLimits ifPresent subpatternsBy pathHolds patternShapeHolds patternHolds subpatternsBelow usedOnce valid shapeBy tyOf variantOf bindingOf operandOf word? operand? trees tree? target nodeBy node treeOf tree elemOf wordOf projectionOf fieldOf derefTy adtFieldTy fieldTy elementTy subsliceTy adtDowncastTy downcastTy tyProjection variantProjection partProjection projectionTy multiProjectionTy termRow halves placeWords localTy constantWords leftWords placeRvalueKind binaryKind liveRow deadRow placeRvalueRow constantRow binaryRow newBlock setTerminator pushStatement newLocal pushScope pushEntry tryBlock tryStatement tryLocal tryScope tryEntry constantOf stringConstant integerConstant literalBy lowerLiteralToOperand lowerConstToOperand literalOrConstBy lowerLiteralOrConstToOperand isSlice isHeld markLive temp bindingLocal terminatorOf elemsAt pathOf constantAt leftOf lineOf mirOf numberOf reasonOf refusalAt visited project localPlace elseState elseBlock derefed entered compare patternMatchConst literal litBy constantPath rangeEnd rangeEnd? bindingRvalue patternMatchBinding localPath placeTy shapeOf patternMatchAdt patternMatchTupleLike ellipsisAt tupleOn tuplePattern refOn refPattern resolved recordFields variantFields discriminantTest variantOn adtOn patternMatchingVariant variantPattern lengthConstant lengthCompared lengthTest restBound sliceItems sliceOn alternatives alternativesEnd orPattern endOp rangePattern pathPattern bindPattern restBy restOf patternMatchInner lowerings lowering? patternMatch startState start answerBy
 as-wanted = refl

@@ -2,7 +2,7 @@
 -- lies in the tables when it returns. Each theorem is proved by one citation. Assumes nothing.
 use Prim.Native.Nat.{ℕ, _≤_, _<_}
 use mathlib.Core.Path.{_≡_}
-use mathlib.Core.List.{List, map}
+use mathlib.Core.List.{List}
 use lib.ListN.{length}
 use Rattle.refusals.specs.Refusals.{ok as done}
 use Rattle.mir.specs.declared.blocks.Terminator.{Terminator}
@@ -12,9 +12,7 @@ use Rattle.views.specs.Growing.{terminatorAt, GoesOn}
 use Rattle.meaning.specs.Values.{Value}
 use Rattle.meaning.specs.Running.{Env}
 use Rattle.lowered_params.specs.Params.{Declared}
-use Rattle.param_runs.specs.Corner.{Row, answer}
 use Rattle.param_runs.proofs.Receivers.{callWithSelf, SelfHas}
-use Rattle.param_runs.proofs.Corners as corners
 use Rattle.called.specs.Params.{ParamsHanded, ListTaken, NumbersTaken, definedOf, ParamsHandedOut, AcceptedParams, startOfParams, declaredOf, loweredOf, afterParams, resultOfParams, CountedParams, FittingParams, ComesThroughParams}
 use Rattle.called.proofs.Params as calls
 
@@ -56,7 +54,3 @@ self-has-its-own-local = calls.self-own-local
 pub the-self-branch-has-no-input : (call : ParamsHanded) →
     callWithSelf (call .image) (call .list) (call .self) (call .bindings) (call .body) (call .visits) (call .counts) (call .start) ≡ definedOf call
 the-self-branch-has-no-input = calls.self-branch-idle
-
--- The corners of lower.rs on parameters, those that document 01 marks [P] among them, from the bytes of their images.
-pub the-corners-on-parameters : map (λ (row : Row). answer (row .image) (row .self) (row .params)) corners.rows ≡ map (λ (row : Row). row .wanted) corners.rows
-the-corners-on-parameters = corners.as-wanted

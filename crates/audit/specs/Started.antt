@@ -1,13 +1,15 @@
 -- Document 01's start of its corners, "block 0 open, no else, place local 0, one scope open", and what a lowering from there comes to.
 -- Assumes nothing: these are definitions.
 use Prim.Native.Nat.{ℕ, _-_}
+use mathlib.Core.Bool.{not, cond}
 use mathlib.Core.List.{List, [], _∷_, map}
-use Rattle.refusals.specs.Refusals.{Refusal, refusalAt}
+use Rattle.refusals.specs.Refusals.{Refusal, breaksARule, refusalAt}
 use Rattle.row_tables.specs.Rows.{zeros}
 use Rattle.image.specs.Tables.{patternCount, bindingCount}
 use Rattle.image.specs.Lists.{upFrom}
 use Rattle.image.specs.Types.{bindingOf}
 use Rattle.image.specs.Tree.{Pat, tree}
+use Rattle.image.specs.Valid.{valid}
 use Rattle.place.specs.declared.Place.{Place}
 use Rattle.mir.specs.declared.BasicBlockId.{BasicBlockId}
 use Rattle.state.specs.State.{State}
@@ -42,11 +44,12 @@ abbrev pub answerOf : Walk Out → Answer
 answerOf (ok r) = accepted (r .then) (r .else) (mirOf (r .ctx .state)) (r .ctx .visits)
 answerOf (refused e p) = refusal (refusalAt e p)
 
--- the last pattern of the image, lowered against local 0 of the type t
+-- the last pattern of a valid image, lowered against local 0 of the type t
 unfoldable pub answerBy : Lowers → List ℕ → ℕ → Answer
 answerBy lowers image t =
-    answerOf
-    (lowers image (upFrom 1 (bindingCount image)) (tree image (patternCount image - 1)) (start image t) (record { 0 = 0 }) OptBlock.None (localPlace (record { 0 = 0 })))
+    cond (not (valid image)) (refusal breaksARule)
+    (answerOf
+    (lowers image (upFrom 1 (bindingCount image)) (tree image (patternCount image - 1)) (start image t) (record { 0 = 0 }) OptBlock.None (localPlace (record { 0 = 0 }))))
 
 -- a corner: an image, the type of local 0, and the answer that is wanted
 pub record Row : Type 0 where

@@ -16,8 +16,12 @@ use Rattle.views.specs.Views.{Rvalue, ofPlace, ofConstant, binary, Statement, l
 use Rattle.image.specs.Bytes.{wordAt, littleEndian}
 use Rattle.image.specs.Tables.{tablesOf}
 use Rattle.image.specs.Rows.{typeAt, variantAt, patAt, bindingAt, listAt, operandAt, operandBytes}
-use Rattle.image.specs.Lists.{member, upFrom}
-use Rattle.image.specs.Rules.{listed}
+use Rattle.image.specs.Lists.{allBelow, allIn, allTrue, member, distinct, upFrom, gather}
+use Rattle.image.specs.Operands.{isScalarValue, operandValueHolds, operandHolds}
+use Rattle.image.specs.Rules.{countsWhatFollows, versionIsOne, tablesFillTheRest, listed, typesListed, isIntegerSize, adtMayHave, typeShapeHolds, typeHolds, variantsBy, adtsShareNoVariant, variantHolds, bindingHolds, withinLimits}
+use Rattle.image.specs.Subpatterns.{ifPresent, subpatternsBy}
+use Rattle.image.specs.Patterns.{pathHolds, patternShapeHolds, patternHolds, subpatternsBelow, usedOnce}
+use Rattle.image.specs.Valid.{valid}
 use Rattle.image.specs.Types.{shapeBy, tyOf, variantOf, bindingOf, operandOf}
 use Rattle.image.specs.Tree.{word?, operand?, trees, tree?, target, nodeBy, node, treeOf, tree}
 use Rattle.place.specs.Elems.{elemOf, wordOf}
@@ -39,7 +43,6 @@ use Rattle.pattern_matching.specs.Slices.{lengthConstant, lengthCompared, lengt
 use Rattle.pattern_matching.specs.Patterns.{alternatives, alternativesEnd, orPattern, endOp, rangePattern, pathPattern, bindPattern, restBy, restOf, patternMatchInner, lowerings, lowering?, patternMatch}
 use Rattle.lowered_params.specs.Params.{paramLocal, byValue, plainBind, plainBinding, boundTo, declareSelf, declareParam, declareParams, declareBinding, declareBindings, declare, shutElse, shut, unlessBound, unlessOwn, lowerParam, lowerParams, selfCount, lowerAll, lowerParamsAndBindings}
 use Rattle.lowered_params.specs.Calls.{bindsReceiver, noneBindsReceiver, receiverApart}
-use Rattle.image.specs.Lists.{allTrue, distinct}
 use Rattle.image.specs.Integers.{leastValue, greatestValue, inRange, integerValue}
 use Rattle.meaning.specs.Values.{items, partsOf, intFits, kindNumber, fieldTypes, valueFits}
 use Rattle.meaning.specs.Typing.{referent, behind, typeIsThePlaces, tupleFields, variantsOf, argumentsFit, discriminantsDiffer, integerFits}
@@ -105,10 +108,10 @@ rows = plain-row ∷ mutable-row ∷ bound-some-row ∷ by-reference-row ∷ ref
 
 -- each row's image comes to the answer that is wanted
 pub as-wanted : map (λ (row : Row). answer (row .image) (row .self) (row .params)) rows ≡ map (λ (row : Row). row .wanted) rows
-unfolding wordAt littleEndian tablesOf typeAt variantAt patAt bindingAt listAt operandAt operandBytes member upFrom listed shapeBy tyOf variantOf bindingOf operandOf word? operand? trees tree? target nodeBy node treeOf tree elemOf wordOf projectionOf fieldOf derefTy adtFieldTy fieldTy elementTy subsliceTy adtDowncastTy downcastTy tyProjection variantProjection partProjection projectionTy multiProjectionTy termRow halves placeWords localTy constantWords leftWords placeRvalueKind binaryKind liveRow deadRow placeRvalueRow constantRow binaryRow newBlock setTerminator pushStatement newLocal pushScope pushEntry tryBlock tryStatement tryLocal tryScope tryEntry constantOf stringConstant integerConstant literalBy lowerLiteralToOperand lowerConstToOperand literalOrConstBy lowerLiteralOrConstToOperand isSlice isHeld markLive temp bindingLocal terminatorOf elemsAt pathOf constantAt leftOf lineOf mirOf numberOf reasonOf refusalAt visited project localPlace elseState elseBlock derefed entered compare patternMatchConst literal litBy constantPath rangeEnd rangeEnd? bindingRvalue patternMatchBinding localPath placeTy shapeOf patternMatchAdt patternMatchTupleLike ellipsisAt tupleOn tuplePattern refOn refPattern resolved recordFields variantFields discriminantTest variantOn adtOn patternMatchingVariant variantPattern lengthConstant lengthCompared lengthTest restBound sliceItems sliceOn alternatives alternativesEnd orPattern endOp rangePattern pathPattern bindPattern restBy restOf patternMatchInner lowerings lowering? patternMatch paramLocal byValue plainBind plainBinding boundTo declareSelf declareParam declareParams declareBinding declareBindings declare shutElse shut unlessBound unlessOwn lowerParam lowerParams selfCount lowerAll lowerParamsAndBindings bindsReceiver noneBindsReceiver receiverApart start unbound answer
+unfolding wordAt littleEndian tablesOf typeAt variantAt patAt bindingAt listAt operandAt operandBytes allBelow allIn allTrue member distinct upFrom gather isScalarValue operandValueHolds operandHolds countsWhatFollows versionIsOne tablesFillTheRest listed typesListed isIntegerSize adtMayHave typeShapeHolds typeHolds variantsBy adtsShareNoVariant variantHolds bindingHolds withinLimits ifPresent subpatternsBy pathHolds patternShapeHolds patternHolds subpatternsBelow usedOnce valid shapeBy tyOf variantOf bindingOf operandOf word? operand? trees tree? target nodeBy node treeOf tree elemOf wordOf projectionOf fieldOf derefTy adtFieldTy fieldTy elementTy subsliceTy adtDowncastTy downcastTy tyProjection variantProjection partProjection projectionTy multiProjectionTy termRow halves placeWords localTy constantWords leftWords placeRvalueKind binaryKind liveRow deadRow placeRvalueRow constantRow binaryRow newBlock setTerminator pushStatement newLocal pushScope pushEntry tryBlock tryStatement tryLocal tryScope tryEntry constantOf stringConstant integerConstant literalBy lowerLiteralToOperand lowerConstToOperand literalOrConstBy lowerLiteralOrConstToOperand isSlice isHeld markLive temp bindingLocal terminatorOf elemsAt pathOf constantAt leftOf lineOf mirOf numberOf reasonOf refusalAt visited project localPlace elseState elseBlock derefed entered compare patternMatchConst literal litBy constantPath rangeEnd rangeEnd? bindingRvalue patternMatchBinding localPath placeTy shapeOf patternMatchAdt patternMatchTupleLike ellipsisAt tupleOn tuplePattern refOn refPattern resolved recordFields variantFields discriminantTest variantOn adtOn patternMatchingVariant variantPattern lengthConstant lengthCompared lengthTest restBound sliceItems sliceOn alternatives alternativesEnd orPattern endOp rangePattern pathPattern bindPattern restBy restOf patternMatchInner lowerings lowering? patternMatch paramLocal byValue plainBind plainBinding boundTo declareSelf declareParam declareParams declareBinding declareBindings declare shutElse shut unlessBound unlessOwn lowerParam lowerParams selfCount lowerAll lowerParamsAndBindings bindsReceiver noneBindsReceiver receiverApart start unbound answer
 as-wanted = refl
 
 -- whether the parameters fit the values beside them, as the theorem on runs asks
 pub fit-as-said : map cornerFits rows ≡ map (λ (row : Row). row .fit) rows
-unfolding wordAt littleEndian tablesOf typeAt variantAt patAt bindingAt listAt operandAt operandBytes member upFrom listed shapeBy tyOf variantOf bindingOf operandOf word? operand? trees tree? target nodeBy node treeOf tree allTrue distinct leastValue greatestValue inRange integerValue items partsOf intFits kindNumber fieldTypes valueFits referent behind typeIsThePlaces tupleFields variantsOf argumentsFit discriminantsDiffer integerFits literalFits pathFits rowFits eachFits typesFit boundIn bindingsFit hasVariant pathTaken nothingRefused present localsDiffer fits crossed created matchAll matchRow isVariant pathMatches matches scalarOf bytesOf sameValue Rattle.meaning.specs.Typing.variantFields ownLocal plain patternFits paramFits paramsFit allFit paramsBound cornerFits
+unfolding wordAt littleEndian tablesOf typeAt variantAt patAt bindingAt listAt operandAt operandBytes allBelow allIn allTrue member distinct upFrom gather isScalarValue operandValueHolds operandHolds countsWhatFollows versionIsOne tablesFillTheRest listed typesListed isIntegerSize adtMayHave typeShapeHolds typeHolds variantsBy adtsShareNoVariant variantHolds bindingHolds withinLimits ifPresent subpatternsBy pathHolds patternShapeHolds patternHolds subpatternsBelow usedOnce valid shapeBy tyOf variantOf bindingOf operandOf word? operand? trees tree? target nodeBy node treeOf tree leastValue greatestValue inRange integerValue items partsOf intFits kindNumber fieldTypes valueFits referent behind typeIsThePlaces tupleFields variantsOf argumentsFit discriminantsDiffer integerFits literalFits pathFits rowFits eachFits typesFit boundIn bindingsFit hasVariant pathTaken nothingRefused present localsDiffer fits crossed created matchAll matchRow isVariant pathMatches matches scalarOf bytesOf sameValue Rattle.meaning.specs.Typing.variantFields ownLocal plain patternFits paramFits paramsFit allFit paramsBound cornerFits
 fit-as-said = refl

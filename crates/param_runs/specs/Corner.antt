@@ -1,12 +1,13 @@
 -- The start of the corners on parameters, block 0 open and one scope open, with no local yet, and what parameters come to from there.
 -- Assumes nothing: these are definitions.
 use Prim.Native.Nat.{ℕ}
-use mathlib.Core.Bool.{Bool, cond, _&&_}
+use mathlib.Core.Bool.{Bool, not, cond, _&&_}
 use mathlib.Core.List.{List, [], _∷_, map}
 use Rattle.refusals.specs.Refusals.{Refusal, breaksARule, refusalAt}
 use Rattle.row_tables.specs.Rows.{zeros}
 use Rattle.image.specs.Tables.{patternCount, bindingCount}
 use Rattle.image.specs.Lists.{upFrom}
+use Rattle.image.specs.Valid.{valid}
 use Rattle.mir.specs.declared.BasicBlockId.{BasicBlockId}
 use Rattle.views.specs.Views.{Mir, mirOf}
 use Rattle.pattern_matching.specs.Walking.{Ctx, Walk, ok, refused}
@@ -35,10 +36,11 @@ abbrev pub answerOf : Walk ParamsOut → Answer
 answerOf (ok r) = accepted (r .then) (r .bindings) (mirOf (r .ctx .state)) (r .ctx .visits)
 answerOf (refused e p) = refusal (refusalAt e p)
 
--- a list of parameters, lowered from there, or refused where one is self's binding again
+-- a list of parameters of a valid image, lowered from there, or refused where one is self's binding again
 unfoldable pub answer : List ℕ → SelfParam → List Param → Answer
 answer image self params =
-    cond (receiverApart image self params) (answerOf (lowerParamsAndBindings image self params (unbound image) (start image) (record { 0 = 0 }))) (refusal breaksARule)
+    cond (not (valid image && receiverApart image self params)) (refusal breaksARule)
+    (answerOf (lowerParamsAndBindings image self params (unbound image) (start image) (record { 0 = 0 })))
 
 -- a corner: an image, self, the parameters, and the answer that is wanted; values for self and the parameters, and whether these fit
 pub record Row : Type 0 where
