@@ -14,7 +14,7 @@ from pathlib import Path
 
 ROOT = Path(__file__).resolve().parent.parent
 # The page by demands: 2 and 3 with parameters, and demand 1 and acceptance beside them.
-PAGE = (("demands 2 and 3, with parameters", ("Audit", "Parameters")), ("all of the page", ("Audit", "Parameters", "Accepting", "Refusing", "Pinned")))
+PAGE = (("demands 2 and 3, with parameters", ("Audit", "Parameters")), ("all of the page", ("Audit", "Parameters", "Accepting", "Refusing", "Scopes", "Pinned")))
 # The lowering's definition and the steps that it is made of; of `lower` and `state` the rest is read as tables are.
 LOWERING = re.compile(r"crates/(pattern_matching|literals|drop_scopes)/specs/|crates/(lowered_params/specs/Params|lower/specs/(Temps|Merging)|state/specs/Steps|mir/specs/Rvalues)")
 # `placeTy` and the shape of a place stand among the lowering's files, but are read by the counts and the fit.

@@ -13,6 +13,8 @@ from pathlib import Path
 
 HERE = Path(__file__).resolve().parent
 COMPARE = HERE / "target/release/compare"
+# So many scripts, from this seed.
+SCRIPT_COUNT, SCRIPT_SEED = 400, 1851
 # These changes are seen by pattern_match_assignment alone: in Check the pattern was refused.
 ASSIGNED = {"an unresolved path is refused in Check alone",
             "a literal of kind 8 or 10 is refused in Check alone",
@@ -185,6 +187,21 @@ CHANGES = (
 )
 
 
+# Where a live mark records its local: a file and its text.
+UNLESS_HELD = 'builder.py', '        if not self.body.holds(local):\n'
+HOLDS = 'builder.py', 'any(local in scope for scope in self.scopes)'
+
+# Changes that scripts of calls on patterns alone show, with several scopes and full tables.
+CALLS = (
+    ("only the last scope is looked at", *HOLDS, 'local in self.scopes[-1]'),
+    ("only the first scope is looked at", *HOLDS, 'local in self.scopes[0]'),
+    ("the last scope is not looked at", *HOLDS, 'any(local in scope for scope in self.scopes[:-1])'),
+    ("a full table of entries refuses a held local", *UNLESS_HELD,
+     '        if self.body.entries() == MOST_ENTRIES:\n'
+     '            raise Refused(11, p)\n'
+     '        if not self.body.holds(local):\n'),
+)
+
 # Changes of the judge of parameters, and those that its lines alone show.
 PARAMETERS = (
     ("a discriminant's local is missing from its scope", 'builder.py',
@@ -197,6 +214,20 @@ PARAMETERS = (
      'local = self.temp("i128", block, p)\n'
      '        self.body.scopes[-1].insert(0, self.body.scopes[-1].pop())\n'
      '        return local'),
+    ("a held local is recorded again", *UNLESS_HELD, '        if True:\n'),
+    ("no binding's local is recorded", *UNLESS_HELD,
+     '        if not self.body.holds(local) and local not in self.body.binding_locals:\n'),
+    ("the last of two entries of a local stays", *UNLESS_HELD,
+     '        if self.body.holds(local):\n'
+     '            self.body.scopes[-1].remove(local)\n'
+     '        if True:\n'),
+    ("the last entry alone is looked at", *HOLDS, 'self.scopes[-1][-1:] == [local]'),
+    ("no live mark of a held local", 'builder.py',
+     '            self.body.scopes[-1].append(local)\n        self.push(',
+     '            self.body.scopes[-1].append(local)\n            self.push('),
+    ("a temporary is not recorded", 'builder.py',
+     '        self.live(local, block, p)\n        return local\n',
+     '        self.live(local, block, p)\n        self.body.scopes[-1].pop()\n        return local\n'),
     ("a refutable parameter's else is left open", 'params.py',
      '        if other is not None:\n'
      '            self.end(other, "unreachable")\n',
@@ -278,17 +309,28 @@ def changed_copy(folder, file, old, new):
     """A copy of the samples and of the judge in which one text is another."""
     shutil.copytree(HERE.parent / "samples", folder / "samples")
     (folder / "harness").mkdir()
-    shutil.copy(HERE / "judge.py", folder / "harness")
+    for script in ("judge.py", "chance_calls.py"):
+        shutil.copy(HERE / script, folder / "harness")
     path = folder / "samples" / file
     text = path.read_text(encoding="utf-8")
     assert old in text, old
     path.write_text(text.replace(old, new, 1), encoding="utf-8")
 
 
+def of_scripts(folder):
+    """The same of scripts of calls on patterns, whose lines the changed copy makes."""
+    given, printed = folder / "given", folder / "printed"
+    subprocess.run([sys.executable, folder / "harness/chance_calls.py", str(SCRIPT_SEED), "0", str(SCRIPT_COUNT), given, printed], check=True)
+    done = subprocess.run([COMPARE, "calls", given, printed], capture_output=True, text=True, check=False)
+    return done.stdout.rstrip().rsplit("\n", 1)[-1], done.returncode == 1
+
+
 def found(name, file, old, new):
     """What the comparison says last of the changed copy, and whether it differs."""
     with tempfile.TemporaryDirectory() as folder:
         changed_copy(Path(folder), file, old, new)
+        if (name, file, old, new) in CALLS:
+            return of_scripts(Path(folder))
         judge, call, options = f"python3 {folder}/harness/judge.py", "run", []
         if name in ASSIGNED:
             judge, options = f"{judge} assigns", ["--assigns"]
@@ -303,7 +345,7 @@ def found(name, file, old, new):
 def main():
     """Tries all changes."""
     missed = 0
-    changes = [change for change in CHANGES + PARAMETERS if {*change[:2]} & {*sys.argv[1:]} or not sys.argv[1:]]
+    changes = [change for change in CHANGES + CALLS + PARAMETERS if {*change[:2]} & {*sys.argv[1:]} or not sys.argv[1:]]
     for change in changes:
         told, differs = found(*change)
         missed += not differs

@@ -79,6 +79,10 @@ REFUSED_OF_MATCHES = (
     "place/variant_behind_the_last",
 )
 
+# Where it is looked whether a scope holds a local: a file and its text.
+HELD = "lower/src/temps.rt", "    let held = is_held(entries, counts, l);\n"
+LOOKED_AT = "lower/src/temps.rt", "        if entries[i] == l.0 {\n"
+
 MATCHED = "        Lowered::Done(c, then, other) => MatchCall::Matched(c, then, other),\n"
 BACK = ("            put_back(blocks, current, row);\n            clear_above(blocks, statements, locals, scopes, entries, counts);\n"
         "            clear_from(visits, 0);\n            MatchCall::Refused(e, q)\n        }\n    }\n}\n\n// `pattern_match_assignment`")
@@ -104,6 +108,19 @@ OF_MATCHES = (
     ("a part of an array has no last element", "place/src/place_ty.rt",
      "ProjectionElem::IndexFromEnd(_) => PlaceTy::Ty(t),",
      "ProjectionElem::IndexFromEnd(_) => PlaceTy::Inapplicable,"),
+    ("a held local is recorded again", *HELD, "    let held = false;\n"),
+    ("no binding's local is recorded", *HELD, "    let held = true;\n"),
+    ("the last entry alone is looked at", *LOOKED_AT, "        if entries[i] == l.0 && i + 1 == count {\n"),
+    ("the first entry alone is looked at", *LOOKED_AT, "        if entries[i] == l.0 && i == 0 {\n"),
+    ("the last entry is not looked at", *LOOKED_AT, "        if entries[i] == l.0 && i + 1 != count {\n"),
+    ("entries above the count are looked at", "lower/src/temps.rt",
+     "    while i < count && i < entries.len() {\n", "    while i <= count && i < entries.len() {\n"),
+    ("no live mark of a held local", "lower/src/temps.rt",
+     "        Counted::Now(c1) => match push_live(statements, c1, block, l) {\n",
+     "        Counted::Now(c1) => match if held { Counted::Now(c1) } else { push_live(statements, c1, block, l) } {\n"),
+    ("a full table of entries refuses a held local", "lower/src/temps.rt", "    if held {\n", "    if held && counts.entries < 1024 {\n"),
+    ("a temporary is not recorded", "lower/src/temps.rt",
+     "mark_live(statements, entries, c1, l, block, false)", "mark_live(statements, entries, c1, l, block, true)"),
 )
 
 # Where the local of a test of an enum is made: a file and its text.
@@ -140,13 +157,7 @@ CHANGES = (
      "        ) {\n",
      "        BoundLocal::Local(l) => match Stepped::Now(counts) {\n"),
     ("no live mark of a temporary", "lower/src/temps.rt",
-     "        NewLocal::Local(c1, l) => match push_storage_live_for_local(\n"
-     "            statements,\n"
-     "            entries,\n"
-     "            c1,\n"
-     "            l,\n"
-     "            block,\n"
-     "        ) {\n",
+     "        NewLocal::Local(c1, l) => match mark_live(statements, entries, c1, l, block, false) {\n",
      "        NewLocal::Local(c1, l) => match Stepped::Now(c1) {\n"),
     ("fields in another order", "pattern_rows/src/lib.rt",
      "ArgumentRow::Fields => ProjectionElem::Field(i),",

@@ -106,7 +106,7 @@ def nested_or():
 
 
 def or_of_binds():
-    """`(x, 1) | (2, x)`: one binding in both alternatives, twice in its scope."""
+    """`(x, 1) | (2, x)`: one binding in both alternatives, once in its scope."""
     m, u8 = with_u8()
     pair, x = m.add_tuple_type(u8, u8), m.add_binding(u8)
     items = []

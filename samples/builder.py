@@ -45,6 +45,10 @@ class Body:
         """How many locals stand in all scopes together."""
         return sum(len(scope) for scope in self.scopes)
 
+    def holds(self, local):
+        """An open scope holds the local."""
+        return any(local in scope for scope in self.scopes)
+
 
 def type_behind(m, type_, element, variant):
     """The type behind one element and the variant that a Downcast leaves, or None.
@@ -108,12 +112,13 @@ class Builder:
         self.push(block, ("set", local, value), p)
 
     def live(self, local, block, p):
-        """push_storage_live_for_local"""
+        """push_storage_live_for_local, as document 02 has it: no second entry of a local."""
         if not self.body.scopes:
             raise Refused(14, p)
-        if self.body.entries() == MOST_ENTRIES:
-            raise Refused(11, p)
-        self.body.scopes[-1].append(local)
+        if not self.body.holds(local):
+            if self.body.entries() == MOST_ENTRIES:
+                raise Refused(11, p)
+            self.body.scopes[-1].append(local)
         self.push(block, ("live", local), p)
 
     def temp(self, type_, block, p):

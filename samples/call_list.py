@@ -7,9 +7,10 @@ from call_faults import OTHER_IMAGES, body_scripts, call_scripts
 from call_notation import YARD, commands
 from call_scripts import SCRIPTS
 from calls import CALL_RULES, Replay
+from held_corners import HELD, NAME_LIST
 from match_chance import match_scripts
 from match_corners import HARBOUR, match_corners
-from readable import damaged
+from readable import damaged, name_list
 from records import SCRIPT, record
 
 
@@ -24,6 +25,11 @@ def all_scripts():
         yield name, text, other, commands(script), answers
     for name, text, script, answers in match_corners():
         yield name, text, HARBOUR.encode(), commands(script, HARBOUR), answers
+    for name, text, script, answers in HELD:
+        yield name, text, HARBOUR.encode(), commands(script, HARBOUR), answers
+    crew = name_list()
+    for name, text, script, answers in NAME_LIST:
+        yield name, text, crew.encode(), commands(script, crew), answers
     yield ("match_damaged", "An image that ends too soon is 1.", damaged(),
            commands("blocks=1; match 0 0 -; assign 0 0; self 0 0 0"), "refused 1, refused 1, refused 1")
     for name, text, other, script in (*chance_scripts(), *match_scripts()):

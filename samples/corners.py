@@ -112,7 +112,7 @@ def check_others():
     assert statements(lowered(on.deref_1))[1] == "set 1 eq 01 copy 0.deref"
     assert lowered(on.deref_1).locals[0] == 1 and lowered(on.deref_lowest).locals[0] == 2
     assert lowered(on.nested_or).visits == [3, 4, 4, 3, 2, 2]
-    assert lowered(on.or_of_binds).scopes[0].count(1) == 2
+    assert lowered(on.or_of_binds).scopes == [[2, 3, 4, 1, 5]]
     assert len(lowered(on.blocks_512).terminators) == 512
     assert len(lowered(on.locals_512).locals) == 512
     assert len(lowered(on.statements_1024).created) == 1024

@@ -169,7 +169,7 @@ def differences(m, root, place_type, body, supplied=False):
         "statement bound": statements <= 4 * span,
         "locals": [local for local in live if local >= first_new]
         == list(range(first_new, len(body.locals))),
-        "entries": [local for scope in body.scopes for local in scope] == live,
+        "entries": [local for scope in body.scopes for local in scope] == list(dict.fromkeys(live)),
     }
     return [name for name, holds in kept.items() if not holds]
 

@@ -2,8 +2,9 @@
 
 Written from pattern_matching.rs and from the documents alone, so that the project's own
 definitions have something to differ from. The end of a half-open range, the offsets of
-suffix items and a discriminant local for each test are document 02's. `listing` takes the
-bytes of an image, `lower` and `assign` a decoded image and a pattern.
+suffix items, one entry for each local and a discriminant local for each test are document
+02's. `listing` takes the bytes of an image, `lower` and `assign` a decoded image and a
+pattern.
 
 `python3 samples/lowering.py FILE` prints the listing of an image file, or of standard
 input if no file is named.

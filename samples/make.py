@@ -73,9 +73,9 @@ same; with `--check` it writes none and fails if one differs.
 Written from the documents and the Rust alone, not from the definitions:
 
 - `lowering.py`: what the listing program prints; the end of a half-open range, the offsets
-  of suffix items and a local for each discriminant test are document 02's, all else is the
-  Rust's. `python3 samples/lowering.py FILE` prints the listing of an image. `builder.py`
-  holds what lower.rs and mir.rs give it.
+  of suffix items, one entry for each local and a local for each discriminant test are
+  document 02's, all else is the Rust's. `python3 samples/lowering.py FILE` prints the listing
+  of an image. `builder.py` holds what lower.rs and mir.rs give it.
 - `corners.py`: checks document 01's corners and document 02's on these three, which are in
   `accepted.py` and `refusals.py`: images at each limit and one past it are among them.
   `python3 samples/corners.py` prints each with its listing's first line.
@@ -143,6 +143,8 @@ each script the number of its first line in `crates/replay/stdout`, its name, an
 - `match_corners.py`: the same for calls on patterns: an else that is supplied, places with a
   projection of every sort, of 16 and of 17 elements, several scopes, bindings without a local,
   discriminant tests at each limit; and number 2, every rule broken alone.
+- `held_corners.py`: one drop per local: scopes that hold a binding's local before a call, the last
+  one and an outer one, a full table of entries, and two alternatives that bind `name_list.img`'s.
 - `call_faults.py`: numbers 1 and 2 on bodies; every rule is broken alone at least once. Of a
   statement's kinds 12 is the last one and 13 the first that there is not.
 - `call_chance.py`, `match_chance.py`: random scripts, from a fixed seed.

@@ -124,6 +124,8 @@ class MatchChance:
         self.roots = {p: self.local(type_) for p, (type_, _) in self.ways.items()}
         for _ in range(rng.choice((0, 1, 1, 1, 2, 3))):
             self.do(PUSH, 0, 0, 0)
+            if rng.random() < 0.2:
+                self.hold()
         if rng.random() < 0.25:
             self.near_a_limit(rng.choice((BLOCKS, LOCALS, ENTRIES, STATEMENTS)))
 
@@ -137,6 +139,20 @@ class MatchChance:
             if table == STATEMENTS:
                 self.do(UNTIL, 0, 0, 0)
                 self.poke(COUNTS, ENTRIES, self.replay.body.word(SCOPES, counts[SCOPES] - 1))
+
+    def hold(self):
+        """A binding's local, or the first, becomes the last entry of the last scope."""
+        counts = self.replay.body.counts
+        if counts[SCOPES] and counts[LOCALS] and counts[ENTRIES] < LIMITS[ENTRIES]:
+            bound = [local for local in self.bound if local not in (None, ABSENT)]
+            self.poke(ENTRIES, counts[ENTRIES], self.rng.choice(bound or [0]))
+            self.poke(COUNTS, ENTRIES, counts[ENTRIES] + 1)
+
+    def leave(self):
+        """Locals leave, of all scopes from one on, or of the last, which is closed."""
+        rng, scopes = self.rng, self.replay.body.counts[SCOPES]
+        until = UNTIL, rng.randint(0, scopes), self.open_block(), 0
+        self.do(*rng.choice((until, until, (POP, self.open_block(), 0, 0))))
 
     def open_block(self):
         body = self.replay.body
@@ -218,7 +234,7 @@ def match_script(rng):
     made = MatchChance(rng)
     made.start()
     for _ in range(rng.randint(4, 9)):
-        rng.choice(8 * [made.match] + [made.own] + 2 * [made.other])()
+        rng.choice(8 * [made.match] + [made.own] + 2 * [made.other] + [made.hold] + 3 * [made.leave])()
     return made.image, made.commands
 
 

@@ -1,6 +1,6 @@
 """Judges lists of parameters: lowers them as `lower_params_and_bindings` of lower.rs does.
 
-Written from lower.rs, from document 01 and from S-5 and S-13 of document 02 alone. `called` judges a
+Written from lower.rs, from document 01 and from S-4, S-5 and S-13 of document 02 alone. `called` judges a
 call: an image's bytes, the receiver and the words of a list. `PARAM_CORNERS` has the corners
 of document 01 on parameters, and those of S-13: name, image, receiver, parameters and values
 of each. A value is a number, or a list: "tuple" or the number of a variant, and then its

@@ -199,6 +199,22 @@ def binding_sub():
     return m
 
 
+def name_list():
+    """`Entered(names) | Withdrawn(names)` on an enum of two variants: both bind a name list, which is not copy."""
+    m = Image()
+    u8 = m.add_type(INTEGER, 1)
+    names = m.add_adt(STRUCT, m.add_variant([u8, u8]), 1, name="names")
+    entered, withdrawn = m.add_variant([names], 0), m.add_variant([names], 1)
+    crew = m.add_adt(ENUM, entered, 2, name="crew")
+    bound = m.add_binding(names)
+
+    def either(variant):
+        item = m.add_pattern(BIND, names, bound, ABSENT)
+        return m.add_pattern(TUPLE_STRUCT, crew, m.add_words(item), 1, ABSENT, variant)
+    m.add_pattern(OR, crew, m.add_words(either(entered), either(withdrawn)), 2, name="either")
+    return m
+
+
 def damaged():
     """The first 60 bytes of enum_fields.img."""
     return enum_fields().encode()[:60]
@@ -216,7 +232,7 @@ def used_twice():
 
 SAMPLES = (literal7, or_1_2, range_, half_open, first_three, char_range, negative, string,
            constant, tuple_ellipsis, slice_rest, last_two, array, enum_fields, enum_unit,
-           struct_fields, reference, binding_sub, damaged, used_twice)
+           struct_fields, reference, binding_sub, name_list, damaged, used_twice)
 
 
 def sample_files():

@@ -12,7 +12,7 @@ const LOWER: &str = "src--src--mir--lower.rs.txt";
 const PATTERNS: &str = "src--src--mir--lower--pattern_matching.rs.txt";
 
 /// What stands beside the items of lower.rs.
-const FRAMES: [&str; 7] = [
+const FRAMES: [&str; 8] = [
     "as_place.rs",
     "calls.rs",
     "discriminants.rs",
@@ -20,6 +20,7 @@ const FRAMES: [&str; 7] = [
     "parameters.rs",
     "replacements.rs",
     "rows.rs",
+    "struck.rs",
 ];
 
 fn main() {

@@ -35,7 +35,7 @@ use Rattle.audit.specs.Call.{lowering}
 use Rattle.audit.proofs.Proved as proved
 
 -- Demand 1, of every call that is accepted: what it hands out is what the definition of `pattern_match` gives, a transcription of the Rust but for requests
--- S-1 and S-5.
+-- S-1, S-4 and S-5.
 pub what-is-handed-out-is-what-the-definition-gives : (call : Call) (out : HandedOut) → Accepted call out →
     lowering (call .image) (call .bindings) (patternOf call) (startOf call) (call .start) (call .else) (call .place) ≡ ok (resultOf out)
 what-is-handed-out-is-what-the-definition-gives = gives

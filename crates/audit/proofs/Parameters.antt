@@ -20,7 +20,7 @@ use Rattle.called.proofs.Params as calls
 
 -- Every call that is accepted, and what it hands out.
 module _ (call : ParamsHanded) (out : ParamsHandedOut) (accepted : AcceptedParams call out) where
-  -- demand 1: what it hands out is what the definition of `lower_params_and_bindings` gives, a transcription of the Rust but for requests S-1, S-5 and S-13
+  -- demand 1: what it hands out is what the definition of `lower_params_and_bindings` gives, a transcription of the Rust but for requests S-1, S-4, S-5 and S-13
   pub what-the-definition-gives-is-handed-out : loweredOf call ≡ ok (resultOfParams out)
   what-the-definition-gives-is-handed-out = calls.params-give call out accepted
 

@@ -1,4 +1,4 @@
--- The lowering of patterns, as pattern_matching.rs does it: a transcription by recursion over the tree. Refusals come in the order in which it meets them.
+-- The lowering of patterns, as pattern_matching.rs does it but for requests S-1, S-4 and S-5: a transcription by recursion over the tree. Refusals come in the order in which it meets them.
 -- Assumes nothing: these are definitions.
 use Prim.Native.Nat.{ℕ}
 use mathlib.Core.Bool.{Bool, true, false}

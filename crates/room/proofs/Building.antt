@@ -22,7 +22,7 @@ use Rattle.state.specs.Steps.{newBlock, setTerminator, pushStatement, newLocal,
 use Rattle.lower.specs.declared.merging.OptBlock.{OptBlock}
 use Rattle.lower.specs.Temps.{isSlice, isHeld, recordUnless, markLive, pushStorageLiveForLocal, temp}
 use Rattle.lower.specs.Recorded.{recorded}
-use Rattle.pattern_matching.specs.Walking.{Ctx, elseState}
+use Rattle.pattern_matching.specs.Walking.{elseState}
 use Rattle.counting.specs.Counting.{elseMade}
 use Rattle.fitted.proofs.Building.{Kept, kept-on}
 use Rattle.room.proofs.Telling.{Origin, Sure, sure-done, sure-stopped, sure-then}
@@ -77,7 +77,7 @@ pub record Has (A : Type 0) (base : Origin) (T : Goal) (st : State) (need : Tabl
   pub sum : (w : Table) → amount (T .later) w st + need w ≡ T .sums w
   pub room : A → (w : Table) → T .sums w ≤ limit w
 
--- the sum of each table
+-- the same of each table
 by-table : (f g : Table → ℕ) → f block ≡ g block → f statement ≡ g statement → f local ≡ g local → f entry ≡ g entry → (w : Table) → f w ≡ g w
 by-table f g a b c d block = a
 by-table f g a b c d statement = b
@@ -214,7 +214,7 @@ module _ {A : Type 0} {base : Origin} {T : Goal} (st : State) (m : Table → ℕ
             by-table _ _ (omega (arith, n, x)) (h .sum statement) (h .sum local) (h .sum entry);
       }
 
--- a local made live, held or not: it is recorded as it should be, and there is a statement
+-- a local made live, held or not: behind its entry, or none, one statement
 spend-live : {A : Type 0} {base : Origin} {T : Goal} (held : Bool) (st : State) (m : Table → ℕ) (l : LocalId) (b : BasicBlockId) → length (st .scopes) ≡ length (base .ctx .state .scopes) →
     Sure A base (λ st′. Has A base T st′ (λ w. make 0 1 0 0 w + m w)) (recordUnless held st l) → Sure A base (λ st′. Has A base T st′ m) (markLive held st l b)
 unfolding markLive

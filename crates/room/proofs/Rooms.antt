@@ -120,9 +120,14 @@ module _ (image bindings : List ℕ) (root : Pat) (ctx : Ctx) (current : BasicBl
   abbrev inTheEnd : Table → ℕ
   inTheEnd w = amount marks w (ctx .state) + (onceMore (canFail image root ty) els w + (total (spent checks 0 w) rs + (total (spent binds 0 w) rs + 0)))
 
-  -- the entries are those that are needed
-  as-recorded : length (recorded (ctx .state .entries) marks) ≡ length (recorded (ctx .state .entries) (boundLocals bindings rs))
-  as-recorded = ap (λ (l : List ℕ). length (recorded (ctx .state .entries) l)) (marked-locals bindings rs)
+  -- so many entries are needed
+  entries-needed : neededEntries image bindings root ty (ctx .state .entries) ≡ inTheEnd entry
+  unfolding neededEntries newLocals
+  entries-needed =
+      let x : length (recorded (ctx .state .entries) marks) ≡ length (recorded (ctx .state .entries) (boundLocals bindings rs)) =
+      ap (λ (l : List ℕ). length (recorded (ctx .state .entries) l)) (marked-locals bindings rs) in
+      let y = both-passes entry rs in
+      omega (arith, x, y)
 
   -- where both passes lead to
   abbrev end : Goal
@@ -130,11 +135,11 @@ module _ (image bindings : List ℕ) (root : Pat) (ctx : Ctx) (current : BasicBl
 
   -- there is room for that
   room-for-both : (A : Type 0) → (A → Room image bindings root ctx els place) → A → (w : Table) → inTheEnd w ≤ limit w
-  unfolding newBlocks newStatements newLocals neededEntries
+  unfolding newBlocks newStatements newLocals
   room-for-both A room a block = let x = room a .blocks in let y = both-passes block rs in omega (arith, x, y)
   room-for-both A room a statement = let x = room a .statements in let y = both-passes statement rs in omega (arith, x, y)
   room-for-both A room a local = let x = room a .locals in let y = both-passes local rs in omega (arith, x, y)
-  room-for-both A room a entry = let x = room a .entries in let y = both-passes entry rs in let z = as-recorded in omega (arith, x, y, z)
+  room-for-both A room a entry = let x = room a .entries in let y = entries-needed in omega (arith, x, y)
 
   -- no local that is marked live is new
   starts : NoneNew (ctx .state) marks
@@ -154,12 +159,12 @@ module _ (image bindings : List ℕ) (root : Pat) (ctx : Ctx) (current : BasicBl
 
   -- Whether the pattern fits or not, an accepted lowering makes exactly as many locals and entries as are counted, and comes to no longer place.
   pub made : (r : Out) → patternMatch image bindings root ctx current els place ≡ ok r → Made image bindings root ctx place r
-  unfolding newLocals neededEntries longestPlace recorded
+  unfolding newLocals longestPlace recorded
   made r accepted =
       let h = told ⊥ (λ never. absurd never) .at r accepted in
       record {
         locals = let x = h .0 .sum local in let y = both-passes local rs in omega (arith, x, y);
-        entries = let x = h .0 .sum entry in let y = both-passes entry rs in let z = as-recorded in omega (arith, x, y, z);
+        entries = let x = h .0 .sum entry in let y = entries-needed in omega (arith, x, y);
         elements = h .1;
       }
 

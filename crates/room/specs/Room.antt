@@ -1,7 +1,6 @@
 -- Room by document 01's counts, for a pattern that `pattern_match` lowers. Assumes nothing: these are definitions.
 use Prim.Native.Nat.{ℕ, _+_, _*_, _/_, _≤_, _<_}
 use mathlib.Core.Path.{_≡_}
-use mathlib.Core.Logic.{_≢_}
 use mathlib.Core.Option.{Option, none, some}
 use mathlib.Core.List.{List, [], _∷_, _++_}
 use lib.ListN.{length, getD}
@@ -15,6 +14,7 @@ use Rattle.pattern_matching.specs.Walking.{Ctx, Out}
 use Rattle.pattern_matching.specs.Variants.{placeTy}
 use Rattle.counting.specs.Reaching.{Reached}
 use Rattle.counting.specs.Counting.{total, reachedFrom, checkVisits, newBlocks, newStatements}
+use Rattle.named.specs.Named.{WordsBelow}
 use Rattle.room.specs.Elements.{elements}
 
 -- a temporary is marked live and then set, two statements
@@ -68,9 +68,9 @@ pub data Passed (image bindings : List ℕ) (root : Pat) (ctx : Ctx) (els : OptB
 abbrev pub ScopeOpen : Ctx → Type 0
 ScopeOpen ctx = 1 ≤ length (ctx .state .scopes)
 
--- what number 2 says of every call: the words of the bindings' table that are no 65535 are below the count of locals, so none is a new local
+-- what number 2 says of every call: no binding's local is a new one
 abbrev pub LocalsBelow : List ℕ → State → Type 0
-LocalsBelow bindings st = (x : ℕ) → getD bindings x 65535 ≢ 65535 → getD bindings x 65535 < length (st .locals)
+LocalsBelow bindings st = WordsBelow bindings (length (st .locals))
 
 -- what an accepted lowering of a root from ctx on, which gave r, has made: exactly as many locals and entries as are counted, and no place with more than 16 elements
 pub record Made (image bindings : List ℕ) (root : Pat) (ctx : Ctx) (place : Place) (r : Out) : Type 0 where

@@ -9,6 +9,8 @@ use image::{ABSENT, Tables};
 pub struct Group {
     pub name: String,
     pub images: Vec<Tables>,
+    /// The scope that is handed in has so many entries.
+    pub entries: usize,
 }
 
 const SEED: u64 = 1851;
@@ -18,8 +20,9 @@ const TRIES: usize = 400_000;
 const SIZES: [(usize, usize); 7] = [(1, 1), (2, 3), (4, 7), (8, 15), (16, 31), (32, 63), (64, 127)];
 
 pub fn groups() -> Vec<Group> {
-    let mut groups: Vec<Group> =
-        SIZES.iter().map(|&(first, last)| Group { name: sized(first, last), images: Vec::new() }).collect();
+    let empty =
+        |&(first, last): &(usize, usize)| Group { name: sized(first, last), images: Vec::new(), entries: 0 };
+    let mut groups: Vec<Group> = SIZES.iter().map(empty).collect();
     let mut rng = Rng::new(SEED);
     for _ in 0..TRIES {
         let m = fitting::image(&mut rng, 0);
@@ -32,13 +35,20 @@ pub fn groups() -> Vec<Group> {
         }
     }
     let largest = [
-        ("127 literals in one Or, 128 nodes", or_of_literals()),
-        ("a tuple of 255 ranges, 256 nodes", tuple_of(255, range)),
-        ("a tuple of 511 Binds, 512 nodes", tuple_of(511, bind)),
-        ("30 Ors over a tuple of 481 wildcards, 512 nodes", nested_ors()),
-        ("512 Binds in each other, 512 nodes", nested_binds()),
+        ("127 literals in one Or, 128 nodes", or_of_literals(), 0),
+        ("a tuple of 255 ranges, 256 nodes", tuple_of(255, range), 0),
+        ("a tuple of 511 Binds, 512 nodes", tuple_of(511, bind), 0),
+        ("30 Ors over a tuple of 481 wildcards, 512 nodes", nested_ors(), 0),
+        ("512 Binds in each other, 512 nodes", nested_binds(), 0),
+        ("511 Binds of 256 bindings, 512 nodes", tuple_of_bindings(), 0),
+        ("the same with 512 entries handed in", tuple_of_bindings(), 512),
+        ("the same with 768 entries handed in", tuple_of_bindings(), 768),
     ];
-    groups.extend(largest.map(|(name, m)| Group { name: name.to_owned(), images: vec![m] }));
+    groups.extend(largest.map(|(name, m, entries)| Group {
+        name: name.to_owned(),
+        images: vec![m],
+        entries,
+    }));
     groups
 }
 
@@ -92,6 +102,16 @@ fn tuple_of(count: usize, item: impl Fn(&mut Tables) -> u16) -> Tables {
     let whole = m.add_type(TUPLE_TYPE, types, count as u16, 0, 1);
     let list = m.add_words(&items);
     m.add_pattern(TUPLE, whole, 0, [list, count as u16, ABSENT, 0]);
+    m
+}
+
+/// Each of the first 256 Binds records a local; the live marks of the others find theirs held.
+fn tuple_of_bindings() -> Tables {
+    let mut m = tuple_of(511, bind);
+    m.bindings = vec![[0, 1]; 256];
+    for (number, row) in (0..).zip(&mut m.patterns[..511]) {
+        row[3] = number % 256;
+    }
     m
 }
 

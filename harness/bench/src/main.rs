@@ -40,7 +40,9 @@ fn main() {
         ["spend", part, file, rounds] => {
             let images = plan::stored(Path::new(file)).given;
             let tables = images.map(|image| image::read(&image).expect("an image")).collect();
-            let group = Group { name: file.to_owned(), images: tables };
+            let entries = fs::read_to_string(Path::new(file).with_extension("entries")).expect("a file");
+            let entries = entries.parse().expect("a number");
+            let group = Group { name: file.to_owned(), images: tables, entries };
             let mut side = Side::new(part, ready(&group));
             side.spend(rounds.parse().expect("a number"));
             println!("{}", side.images.len());
@@ -49,12 +51,14 @@ fn main() {
     }
 }
 
-/// A file for each group, numbered, and its name in another.
+/// A file for each group, numbered, and its name and the count of its entries in others.
 fn write(folder: &Path) {
     for (number, group) in images::groups().iter().enumerate() {
-        let list: Vec<u8> = group.images.iter().flat_map(|m| records::entry(records::LISTING, &m.encode())).collect();
+        let list: Vec<u8> =
+            group.images.iter().flat_map(|m| records::entry(records::LISTING, &m.encode())).collect();
         fs::write(folder.join(format!("{number:02}.list")), list).expect("written");
         fs::write(folder.join(format!("{number:02}.name")), &group.name).expect("written");
+        fs::write(folder.join(format!("{number:02}.entries")), group.entries.to_string()).expect("written");
     }
 }
 
@@ -64,8 +68,8 @@ fn ready(group: &Group) -> Vec<Ready> {
     let mut all = Vec::new();
     for tables in &group.images {
         let Some(place_type) = tables.root_type(tables.patterns.len() - 1) else { continue };
-        let prepared = Prepared::new(tables, place_type);
-        let given = Given::new(tables, place_type);
+        let prepared = Prepared::new(tables, place_type, group.entries);
+        let given = Given::new(tables, place_type, group.entries);
         let made = prepared.lower_parted();
         assert_eq!(made, lent.lower(&given), "{}", group.name);
         assert_eq!(lent.read(&given), 2);
@@ -86,7 +90,7 @@ struct Side {
 impl Side {
     fn new(part: &str, images: Vec<Ready>) -> Side {
         let part = PARTS.into_iter().find(|&known| known == part).expect("a part");
-        Side { part, images, lone: Given::new(&images::lone(), 0), lent: Lent::new() }
+        Side { part, images, lone: Given::new(&images::lone(), 0, 0), lent: Lent::new() }
     }
 
     /// All images, so often.

@@ -34,15 +34,18 @@ pub struct Given {
     types: Vec<u16>,
     /// The bindings' locals.
     numbers: Vec<u16>,
+    /// How many entries the scope has, all of local 0.
+    entries: u16,
     root: u16,
 }
 
 impl Given {
-    pub fn new(tables: &Tables, place_type: usize) -> Given {
+    pub fn new(tables: &Tables, place_type: usize, entries: usize) -> Given {
         let mut types = vec![place_type as u16];
         types.extend(tables.bindings.iter().map(|row| row[0]));
         let numbers = (1..types.len() as u16).collect();
-        Given { bytes: tables.encode(), types, numbers, root: tables.patterns.len() as u16 - 1 }
+        let root = tables.patterns.len() as u16 - 1;
+        Given { bytes: tables.encode(), types, numbers, entries: entries as u16, root }
     }
 }
 
@@ -89,7 +92,8 @@ impl Lent {
         self.blocks[..12].fill(0);
         self.locals[..given.types.len()].copy_from_slice(&given.types);
         self.scopes[0] = 0;
-        let call = [1, 0, given.types.len() as u16, 1, 0, pattern, 0, ABSENT, 0];
+        self.entries[..usize::from(given.entries)].fill(0);
+        let call = [1, 0, given.types.len() as u16, 1, given.entries, pattern, 0, ABSENT, 0];
         let mut answer = [0; 10];
         // SAFETY: each pointer is a slice's, with its length; the two arrays have the function's lengths.
         unsafe {

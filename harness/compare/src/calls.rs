@@ -21,6 +21,9 @@ const ENTRIES: usize = 4;
 
 const SET_WORD: u16 = 6;
 
+/// What is said of a call that is another without entries struck out.
+const STRUCK_OUT: &str = ", entries struck out";
+
 /// What a call on a pattern is handed besides the body, as op 6 sets it: the bindings' locals, and
 /// words: the place's local and count, from 2 on its elements of two words, and how many of the
 /// bindings' locals are handed in.
@@ -88,6 +91,8 @@ struct Body {
     bindings: Vec<u16>,
     words: Vec<u16>,
     visits: Vec<u16>,
+    /// Of each scope whether entries were struck out of it since words of the scopes were set.
+    struck: Vec<bool>,
     /// The listing of what a call on a pattern makes is asked for.
     listed: bool,
 }
@@ -96,11 +101,15 @@ impl Body {
     fn new(listed: bool) -> Body {
         let tables = std::array::from_fn(|n| vec![0; WIDTHS[n] * LIMITS[n]]);
         let (bindings, words, visits) = (vec![0; BINDINGS], vec![0; WORDS], vec![0; VISITS]);
-        Body { tables, counts: [0; 5], bindings, words, visits, listed }
+        Body { tables, counts: [0; 5], bindings, words, visits, struck: Vec::new(), listed }
     }
 
     fn set_word(&mut self, table: u16, at: u16, word: u16) {
         let at = usize::from(at);
+        let of_scopes = |number: usize| number == SCOPES || number == ENTRIES;
+        if of_scopes(table.into()) || table == 5 && of_scopes(at) {
+            self.struck.clear();
+        }
         let words = match table {
             5 if at < 5 => return self.counts[at] = word.into(),
             0..5 => &mut self.tables[usize::from(table)],
@@ -177,7 +186,21 @@ impl Body {
         entries.iter().enumerate().for_each(|(row, &local)| self.put(ENTRIES, row, &[local as u16]));
         self.counts = counts;
         self.clear_above();
+        self.struck.resize(made.scopes.len(), false);
+        if let Some(last) = self.struck.last_mut() {
+            *last |= made.struck > 0;
+        }
         true
+    }
+
+    /// Entries were struck out of a scope whose locals leave.
+    fn leaves_struck(&self, call: Call) -> bool {
+        let from = match call {
+            Call::PopAndDrop(_) => self.counts[SCOPES].saturating_sub(1),
+            Call::DropUntilScope(index, _) => index,
+            _ => return false,
+        };
+        self.struck.iter().skip(from).any(|&struck| struck)
     }
 }
 
@@ -211,6 +234,8 @@ fn read_call([op, a, b, c]: [u16; 4]) -> Option<Call> {
 struct Line {
     lines: Vec<String>,
     sort: String,
+    /// Without entries struck out it is another.
+    struck: bool,
     listing: Option<String>,
 }
 
@@ -223,6 +248,7 @@ fn line(tables: Option<&Tables>, body: &mut Body, command: Call, answer: &str) -
             "refused {number} (document 01 alone){}",
             if command.on_a_pattern() { " (on a pattern)" } else { "" }
         ),
+        struck: false,
         listing: None,
     };
     let Some(tables) = tables else { return told(1, body) };
@@ -248,10 +274,12 @@ fn line(tables: Option<&Tables>, body: &mut Body, command: Call, answer: &str) -
         CallAnswer::Block(None) => ("block -".to_owned(), "accepted"),
         CallAnswer::Done => ("now".to_owned(), "accepted"),
     };
+    let struck = sort == "accepted" && body.leaves_struck(command);
     if sort == "accepted" {
         *body = after;
     }
-    Line { lines: vec![answer + &body.told(false)], sort: sort.to_owned(), listing: None }
+    let told = if struck { format!("{sort}{STRUCK_OUT}") } else { sort.to_owned() };
+    Line { lines: vec![answer + &body.told(false)], sort: told, struck, listing: None }
 }
 
 /// The same for a call on a pattern: a refusal of the walk leaves the tables, and no visits.
@@ -269,6 +297,7 @@ fn match_line(tables: &Tables, body: &mut Body, command: Call, made: Made, mut a
         after.visits.fill(0);
         after.visits[..visits.len()].copy_from_slice(&visits);
     }
+    let struck = expected.sort == "accepted" && made.struck > 0;
     if expected.sort == "accepted" {
         *body = after;
     }
@@ -280,7 +309,8 @@ fn match_line(tables: &Tables, body: &mut Body, command: Call, made: Made, mut a
     };
     Line {
         lines: expected.answers().into_iter().map(line).collect(),
-        sort: format!("{}{changed} (on a pattern)", expected.sort),
+        sort: format!("{}{changed}{} (on a pattern)", expected.sort, if struck { STRUCK_OUT } else { "" }),
+        struck,
         listing: made.listing,
     }
 }
@@ -303,7 +333,7 @@ pub fn of_one_call(script: &Script, answer: &str) -> (bool, Option<String>) {
 pub fn compare((scripts, before): &(Vec<Script>, usize), printed: &str) -> usize {
     let mut lines = printed.lines().skip(*before);
     let mut tally: BTreeMap<String, usize> = BTreeMap::new();
-    let mut differing = 0;
+    let (mut differing, mut drops, mut entries) = (0, 0, 0);
     for (number, script) in scripts.iter().enumerate() {
         let tables = image::read(&script.image);
         let mut body = Body::new(false);
@@ -316,6 +346,8 @@ pub fn compare((scripts, before): &(Vec<Script>, usize), printed: &str) -> usize
             let answer = lines.next().unwrap_or("nothing");
             let expected = line(tables.as_ref(), &mut body, called, answer);
             *tally.entry(expected.sort).or_default() += 1;
+            drops += usize::from(expected.struck && !called.on_a_pattern());
+            entries += usize::from(expected.struck && called.on_a_pattern());
             if !expected.lines.iter().any(|line| line == answer) {
                 differing += 1;
                 println!("script {} differs at command {place}, {called:?}:", number + 1);
@@ -327,6 +359,10 @@ pub fn compare((scripts, before): &(Vec<Script>, usize), printed: &str) -> usize
         }
     }
     tally.iter().for_each(|(sort, count)| println!("  {sort}: {count}"));
-    println!("{} calls compared, {differing} differ", tally.values().sum::<usize>());
+    let total: usize = tally.values().sum();
+    println!(
+        "{total} calls compared, {differing} differ; with entries struck out {entries} have others, and {drops} \
+         drop others"
+    );
     differing
 }

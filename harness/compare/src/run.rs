@@ -61,10 +61,11 @@ const SHRUNK: usize = 24;
 struct Tally<T> {
     sorts: BTreeMap<String, usize>,
     given: usize,
-    /// Agreed listings that are others without document 02's replacements, and without a local for
-    /// each discriminant test.
+    /// Agreed listings that are others without document 02's replacements, without a local for each
+    /// discriminant test, and without entries struck out.
     replaced: usize,
     parted: usize,
+    struck: usize,
     differences: usize,
     /// The smallest ones that were printed.
     printed: HashSet<T>,
@@ -77,7 +78,8 @@ struct Tally<T> {
 pub fn compare<T: Given>(sources: Vec<Source<T>>, other: &Other, counts: bool) -> usize {
     let shrunk = if counts { SHRUNK } else { 0 };
     let (sorts, printed) = (BTreeMap::new(), HashSet::new());
-    let mut tally = Tally::<T> { sorts, given: 0, replaced: 0, parted: 0, differences: 0, printed, shrunk };
+    let (replaced, parted, struck) = (0, 0, 0);
+    let mut tally = Tally::<T> { sorts, given: 0, replaced, parted, struck, differences: 0, printed, shrunk };
     for source in sources {
         let (started, before) = (Instant::now(), tally.given);
         let differed = tally.differences;
@@ -97,12 +99,13 @@ pub fn compare<T: Given>(sources: Vec<Source<T>>, other: &Other, counts: bool) -
     }
     println!(
         "{} {} compared, {} differ; {} agree only by document 02's replacements, {} only with a local for \
-         each discriminant test",
+         each discriminant test, {} only with entries struck out",
         tally.given,
         T::NAME,
         tally.differences,
         tally.replaced,
-        tally.parted
+        tally.parted,
+        tally.struck
     );
     tally.differences
 }
@@ -130,6 +133,7 @@ fn one_chunk<T: Given>(source: &str, chunk: &[T], other: &Other, tally: &mut Tal
         if expected.agrees(answer) {
             tally.replaced += usize::from(expected.changed.replaced);
             tally.parted += usize::from(expected.changed.parted);
+            tally.struck += usize::from(expected.changed.struck);
         } else {
             tally.differences += 1;
             if tally.printed.len() < PRINTED && tally.shrunk < SHRUNK {

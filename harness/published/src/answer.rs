@@ -34,6 +34,8 @@ pub struct Changed {
     pub replaced: bool,
     /// Each of several discriminant tests has a local of its own.
     pub parted: bool,
+    /// Entries of locals that an open scope already held are struck out.
+    pub struck: bool,
 }
 
 /// A listing of a body that document 02 has changed.
@@ -73,7 +75,7 @@ pub fn lower(tables: &Tables, place_type: usize, how: How) -> Outcome {
     let place_type = Ty::numbered(place_type as u16);
     let made = quietly(|| {
         panic::catch_unwind(AssertUnwindSafe(|| {
-            lower_to_mir_with_store(db, &store, &inference, place_type, pattern, how.assigns)
+            lower_to_mir_with_store(db, &store, &inference, place_type, pattern, how.assigns, 0)
                 .map(|lowered| lowered.listing(db, tables, root as u16, how.contents))
         }))
     });

@@ -45,6 +45,11 @@ impl Call {
         self.visits() || matches!(self, Call::MatchSelfParam(..))
     }
 
+    /// It may mark locals live.
+    pub fn marks_live(self) -> bool {
+        self.on_a_pattern() || matches!(self, Call::Temp(..))
+    }
+
     /// It is handed a table of visits.
     pub fn visits(self) -> bool {
         matches!(self, Call::PatternMatch(..) | Call::PatternMatchAssignment(..))
@@ -71,6 +76,8 @@ pub struct Made {
     pub blocks: usize,
     pub locals: Vec<u16>,
     pub scopes: Vec<Vec<usize>>,
+    /// How many entries were struck out of the last scope.
+    pub struck: usize,
     pub statements: Vec<Vec<u16>>,
     pub terminators: Vec<(usize, Vec<u16>)>,
 }
@@ -81,7 +88,7 @@ pub fn call(tables: &Tables, handed: &Handed, call: Call) -> Made {
     let store = store::store(tables);
     let inference = store::inference(&world);
     trace::start(tables.patterns.len());
-    trace::found(handed.statements, handed.scopes.iter().map(Vec::len).sum());
+    trace::found(handed.statements, &handed.scopes.concat());
     let untyped = call.visits() && !downcasts_apply(tables, handed);
     without_types(untyped);
     let (mut made, matched) = quietly(|| lower_body_to_mir(&world, &store, &inference, handed, call));

@@ -71,6 +71,9 @@ pub fn lower_parameters(tables: &Tables, parameters: &Parameters, setting: Setti
         picked: &picked,
     };
     trace::start(tables.patterns.len());
+    // The parameters' own entries, which are there before the first live mark.
+    let own = parameters.list.len() + usize::from(parameters.self_binding.is_some());
+    trace::found(0, &(setting.locals..setting.locals + own).collect::<Vec<_>>());
     let made = quietly(|| {
         panic::catch_unwind(AssertUnwindSafe(|| {
             let lowered = mir_body_query(db, &store, &inference, handed, setting.after);

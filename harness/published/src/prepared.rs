@@ -20,6 +20,7 @@ pub struct Prepared {
     inference: InferenceResult<'static>,
     place_type: u16,
     root: PatId,
+    entries: usize,
 }
 
 /// What a lowering made: the two blocks, and how many blocks, statements and locals.
@@ -33,13 +34,13 @@ pub struct Made {
 }
 
 impl Prepared {
-    /// Of an image that keeps all rules, against a place of a type.
-    pub fn new(tables: &Tables, place_type: usize) -> Prepared {
+    /// Of an image that keeps all rules, against a place of a type; the scope has so many entries.
+    pub fn new(tables: &Tables, place_type: usize, entries: usize) -> Prepared {
         let world = World::enter(tables.clone());
         let store = store::store(tables);
         let inference = store::inference(&world);
         let root = PatId::from_number(tables.patterns.len() - 1);
-        Prepared { world, store, inference, place_type: place_type as u16, root }
+        Prepared { world, store, inference, place_type: place_type as u16, root, entries }
     }
 
     /// From now on this image is the thread's.
@@ -66,8 +67,9 @@ impl Prepared {
     fn made(&self, added: impl FnOnce(&MirBody<'_>) -> usize) -> Option<Made> {
         let db: &dyn HirDatabase = &*self.world;
         let place_type = Ty::numbered(self.place_type);
+        let (store, inference) = (&self.store, &self.inference);
         let lowered =
-            lower_to_mir_with_store(db, &self.store, &self.inference, place_type, self.root, false).ok()?;
+            lower_to_mir_with_store(db, store, inference, place_type, self.root, false, self.entries).ok()?;
         let added = added(&lowered.body);
         let blocks = lowered.body.basic_blocks.values();
         Some(Made {

@@ -1,10 +1,12 @@
 //! What a lowering did besides the body it made: visits, the pattern that was entered last, the
 //! Bind whose local was asked for last, and the first limit of document 01 that was passed. The
-//! Rust has no limits, and goes on. Each test of a discriminant behind the first counts a local, an
-//! entry and a statement more than the Rust makes, as document 02 has it.
+//! Rust has no limits, and goes on. As document 02 has it, each test of a discriminant behind the
+//! first counts a local, an entry and a statement more than the Rust makes, and a live mark of a local
+//! that a scope holds counts no entry.
 
 use std::any::Any;
 use std::cell::RefCell;
+use std::collections::BTreeSet;
 
 use crate::mir::{BasicBlock, Local, Rvalue, StatementKind};
 
@@ -28,8 +30,9 @@ pub struct Trace {
     pub base: Option<usize>,
     /// The tests of discriminants.
     pub tests: usize,
-    /// The locals in all scopes: one for each that is marked live.
+    /// How many entries the scopes have, and the locals that they hold.
     pub entries: usize,
+    held: BTreeSet<usize>,
     /// The block of each statement, in the order in which they were made.
     pub order: Vec<usize>,
     touched: Touched,
@@ -53,9 +56,12 @@ pub fn start(patterns: usize) {
     TRACE.set(Trace { visits: vec![0; patterns], ..Trace::default() });
 }
 
-/// So many statements and entries were there before.
-pub fn found(statements: usize, entries: usize) {
-    TRACE.with_borrow_mut(|trace| (trace.statements, trace.entries) = (statements, entries));
+/// So many statements were there before, and entries of these locals.
+pub fn found(statements: usize, entries: &[usize]) {
+    TRACE.with_borrow_mut(|trace| {
+        (trace.statements, trace.entries) = (statements, entries.len());
+        trace.held = entries.iter().copied().collect();
+    });
 }
 
 /// What was heard since the start.
@@ -156,7 +162,7 @@ impl Trace {
             self.order.push(number);
             self.statements += 1;
             match statement.kind {
-                StatementKind::StorageLive(_) => self.entries += 1,
+                StatementKind::StorageLive(local) if self.held.insert(local.number()) => self.entries += 1,
                 StatementKind::Assign(_, Rvalue::Discriminant(_)) => self.test(),
                 _ => {}
             }

@@ -82,6 +82,6 @@ fn the_last_of_two_parameters_that_bind_one_binding_wins() {
     let second = m.add_pattern(BIND, 0, 0, [x, ABSENT, BY_VALUE, 0]);
     let parameters = Parameters { scopes: 1, list: vec![(first, 0), (second, 0)], ..Parameters::default() };
     let expected = "then 0 else -\nlocal 0 t0\nlocal 1 t0\nbb 0\nlive 1\nset 1 copy 0\nopen\n\
-                    params 0 1\nbindings 1\nentries 0 1 1\n";
+                    params 0 1\nbindings 1\nentries 0 1\n";
     assert_eq!(listing(&m, parameters), Answer::Listing(expected.into()));
 }

@@ -7,6 +7,7 @@ use std::thread;
 use super::discriminants::part;
 use super::replacements::replace;
 use super::rows::{self, Element, Rows};
+use super::struck::strike_out;
 use super::{
     Arena, BasicBlock, BasicBlockId, BindingId, DropScope, DropScopeToken, ExpressionStore, HirDatabase,
     InferBodyId, InferenceResult, Local, LocalId, MirLowerCtx, MirSpan, PatId, Place, PlaceElem,
@@ -42,17 +43,20 @@ pub fn lower_body_to_mir<'db>(
         locals: locals.iter().map(|&local| LocalId::from_number(local)).collect(),
     };
     ctx.drop_scopes = handed.scopes.iter().map(scope).collect();
+    let found = handed.scopes.last().map_or(0, Vec::len);
     if !call.on_a_pattern() {
         let answer = panic::catch_unwind(AssertUnwindSafe(|| answer(&mut ctx, call)));
         trace::finish(ctx.result.basic_blocks.values());
-        return (made(&ctx, world, answer.unwrap_or(CallAnswer::Panicked)), None);
+        let struck = if call.marks_live() { strike_out(&mut ctx.drop_scopes, found) } else { 0 };
+        return (Made { struck, ..made(&ctx, world, answer.unwrap_or(CallAnswer::Panicked)) }, None);
     }
     bind(&mut ctx, handed);
     let mut listing = None;
     let matched =
         panic::catch_unwind(AssertUnwindSafe(|| matched(&mut ctx, world, handed, call, &mut listing)));
     trace::finish(ctx.result.basic_blocks.values());
-    (Made { listing, ..made(&ctx, world, CallAnswer::Done) }, Some(matched))
+    let struck = strike_out(&mut ctx.drop_scopes, found);
+    (Made { listing, struck, ..made(&ctx, world, CallAnswer::Done) }, Some(matched))
 }
 
 /// Hands in the bindings' locals.
@@ -111,7 +115,7 @@ fn matched<'db>(
     let parted = part(&mut ctx.result, &mut ctx.drop_scopes);
     let replaced = replace(&mut ctx.result, &world.tables, &[pattern as u16], handed.elements.len());
     *listing = handed.listed.then(|| pretty::listing(&ctx.result, blocks.0, blocks.1, world, true));
-    Ok(Listed { text: words(blocks), changed: Changed { replaced, parted } })
+    Ok(Listed { text: words(blocks), changed: Changed { replaced, parted, ..Changed::default() } })
 }
 
 fn answer(ctx: &mut MirLowerCtx<'_, '_>, call: Call) -> CallAnswer {
@@ -162,6 +166,7 @@ fn made(ctx: &MirLowerCtx<'_, '_>, world: &World, answer: CallAnswer) -> Made {
         blocks: blocks.len(),
         locals: ctx.result.locals.iter().map(|(_, local)| local.ty.number()).collect(),
         scopes: ctx.drop_scopes.iter().map(locals_of).collect(),
+        struck: 0,
         statements,
         terminators: blocks.iter().enumerate().filter_map(ended).collect(),
     }

@@ -42,12 +42,13 @@ impl LoweredPattern<'_> {
     ) -> Listed {
         let replaced = replace(&mut self.body, tables, roots, 0);
         let text = pretty::listing(&self.body, self.then, self.other, db, contents);
-        Listed { text, changed: Changed { replaced, parted } }
+        Listed { text, changed: Changed { replaced, parted, ..Changed::default() } }
     }
 }
 
 /// Lowers a pattern from block 0, no else, against local 0 of a type; the bindings' locals follow
-/// it in order, and one scope is open. With `assigns` it is `pattern_match_assignment` that does.
+/// it in order, and one scope is open, with so many entries of local 0. With `assigns` it is
+/// `pattern_match_assignment` that does.
 pub fn lower_to_mir_with_store<'db>(
     db: &'db dyn HirDatabase,
     store: &ExpressionStore,
@@ -55,6 +56,7 @@ pub fn lower_to_mir_with_store<'db>(
     place_type: Ty<'db>,
     pattern: PatId,
     assigns: bool,
+    entries: usize,
 ) -> Result<'db, LoweredPattern<'db>> {
     let mut ctx = MirLowerCtx::new(db, InferBodyId::default(), store, infer);
     let place: LocalId = ctx.result.locals.alloc(Local { ty: place_type.store() });
@@ -63,6 +65,7 @@ pub fn lower_to_mir_with_store<'db>(
         let local = ctx.result.locals.alloc(Local { ty: infer.binding_ty(binding).store() });
         ctx.result.binding_locals.insert(binding, local);
     }
+    ctx.drop_scopes.last_mut().expect("one is open").locals.resize(entries, place);
     let start = ctx.result.start_block;
     let matched = panic::catch_unwind(AssertUnwindSafe(|| match assigns {
         false => ctx.pattern_match(start, None, place.into(), pattern),

@@ -43,6 +43,7 @@ mod parameters;
 mod pattern_matching;
 mod replacements;
 mod rows;
+mod struck;
 
 pub use calls::lower_body_to_mir;
 pub use entry::{lower_to_mir_with_store, mir_body_for_closure_query};

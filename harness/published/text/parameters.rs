@@ -6,6 +6,7 @@ use image::Tables;
 
 use super::discriminants::part;
 use super::entry::LoweredPattern;
+use super::struck::strike_out;
 use super::{
     BasicBlockId, BindingId, DropScope, DropScopeToken, ExpressionStore, HirDatabase, InferBodyId,
     InferenceResult, Local, MirBody, MirLowerCtx, MirSpan, Result, Ty,
@@ -14,13 +15,14 @@ use crate::answer::Listed;
 use crate::parameters::{After, HandedParameters};
 use crate::trace;
 
-/// The body that is made, the block that is returned or the error, what stands in the scopes, and
-/// whether several discriminant tests have got their locals.
+/// The body that is made, the block that is returned or the error, what stands in the scopes,
+/// whether several discriminant tests have got their locals, and whether entries were struck out.
 pub struct LoweredParameters<'db> {
     body: MirBody<'db>,
     then: Result<'db, BasicBlockId>,
     entries: Vec<usize>,
     parted: bool,
+    struck: bool,
 }
 
 impl<'db> LoweredParameters<'db> {
@@ -46,13 +48,14 @@ impl<'db> LoweredParameters<'db> {
         let entries = self.entries.iter().map(usize::to_string).collect();
         let lowered = LoweredPattern { body: self.body, then: self.then?, other: None };
         let mut listed = lowered.replaced(db, tables, roots, false, self.parted);
+        listed.changed.struck = self.struck;
         listed.text += &(line("params", params) + &line("bindings", bound) + &line("entries", entries));
         Ok(listed)
     }
 }
 
 /// Lowers parameters into a new body, and does what comes after it, on the body whose discriminant
-/// tests have their locals.
+/// tests have their locals and whose scopes hold no local twice.
 pub fn mir_body_query<'db>(
     db: &'db dyn HirDatabase,
     store: &ExpressionStore,
@@ -65,13 +68,14 @@ pub fn mir_body_query<'db>(
         ctx.result.locals.alloc(Local { ty: Ty::numbered(0).store() });
     }
     ctx.drop_scopes = (0..handed.scopes).map(|_| DropScope::default()).collect();
-    let mut parted = false;
+    let (mut parted, mut struck) = (false, false);
     let lowered = panic::catch_unwind(AssertUnwindSafe(|| {
         let picks = |binding: BindingId| handed.picked[binding.number()];
         let list = handed.list.iter().copied();
         let then = ctx.lower_params_and_bindings(list, handed.self_binding, picks)?;
         trace::left(ctx.result.basic_blocks.values());
         parted = part(&mut ctx.result, &mut ctx.drop_scopes);
+        struck = strike_out(&mut ctx.drop_scopes, 0) > 0;
         Ok(match after {
             After::Nothing => then,
             After::DropUntilScope => ctx.drop_until_scope(0, then, MirSpan::Unknown),
@@ -82,5 +86,5 @@ pub fn mir_body_query<'db>(
     let then = lowered.unwrap_or_else(|panic| panic::resume_unwind(panic));
     let scopes = ctx.drop_scopes.iter();
     let entries = scopes.flat_map(|scope| scope.locals.iter().map(|local| local.number())).collect();
-    LoweredParameters { body: ctx.result, then, entries, parted }
+    LoweredParameters { body: ctx.result, then, entries, parted, struck }
 }
