@@ -1,15 +1,17 @@
 -- The auditor's page on scopes, request S-4: "One drop per local". Each theorem is proved by one citation. It speaks of any answer and tables that the contract of a call
 -- allows, whether it is accepted or refused. Assumes nothing.
-use Prim.Native.Nat.{ℕ}
+use Prim.Native.Nat.{ℕ, _+_}
 use mathlib.Core.Path.{_≡_}
 use mathlib.Core.Bool.{cond}
-use mathlib.Core.List.{List, map}
+use mathlib.Core.List.{List, [], _∷_, _++_, map}
 use Rattle.refusals.specs.declared.MirLowerError.{MirLowerError}
 use Rattle.refusals.specs.Refusals.{refused, andThen}
+use Rattle.image.specs.Lists.{member}
 use Rattle.mir.specs.declared.BasicBlockId.{BasicBlockId}
 use Rattle.state.specs.State.{Body, State}
 use Rattle.state.specs.Steps.{nextLocal, tryLocal}
 use Rattle.lower.specs.declared.merging.OptBlock.{OptBlock}
+use Rattle.lower.specs.Recorded.{recorded, occurs}
 use Rattle.lower.specs.Temps.{isSlice, pushStorageLiveForLocal, temp}
 use Rattle.lower_calls.specs.declared.TempCall.{TempCall}
 use Rattle.lower_calls.specs.declared.MergeCall.{MergeCall}
@@ -19,6 +21,7 @@ use Rattle.match_calls.specs.declared.MatchCall.{MatchCall}
 use Rattle.lowered_params.specs.declared.ParamsCall.{ParamsCall}
 use Rattle.named.specs.Named.{NamedBelow}
 use Rattle.named.specs.Marked.{MarksRecorded}
+use Rattle.named.proofs.Recording as recording
 use Rattle.named.proofs.Keeping.{temp-looked-for}
 use Rattle.called.specs.Call.{Call, HandedOut, Promised, Accepted, before, after}
 use Rattle.called.specs.Contracts.{PromisedAssignment, SelfHanded, PromisedSelf, OnBody, PromisedTemp, PromisedMerge, PromisedPush, PromisedPopAssumeDropped, PromisedPopAndDrop, PromisedDropUntil}
@@ -94,3 +97,15 @@ module _ (call : OnBody) (body : Body) where
 -- Entries computed from the images' bytes, those of a pattern whose two alternatives bind one name among them: it is recorded once.
 pub two-alternatives-record-their-name-once : map (entriesBy lowering) entries.rows ≡ map (λ (row : EntriesRow). row .wanted) entries.rows
 two-alternatives-record-their-name-once = entries.as-wanted
+
+-- What these words mean. How often a local stands in entries: once in itself, in another never, and in two lists as often as in both together.
+pub how-often-a-local-stands : (l : ℕ) → (occurs l (l ∷ []) ≡ 1) × ((x : ℕ) → (l ≡ x → ⊥) → occurs l (x ∷ []) ≡ 0) × ((xs ys : List ℕ) → occurs l (xs ++ ys) ≡ occurs l xs + occurs l ys)
+how-often-a-local-stands l = (recording.occurs-one l, recording.occurs-other l, recording.occurs-append l)
+
+-- What live marks record: a local that is held stands in the entries as often as before, another that is marked stands there once, and one that is not marked never ..
+pub what-live-marks-record : (l : ℕ) (es ls : List ℕ) → occurs l (recorded es ls) ≡ cond (member l es) (occurs l es) (cond (member l ls) 1 0)
+what-live-marks-record = recording.occurs-recorded
+
+-- .. and the entries before stand in front.
+pub the-entries-before-stand-in-front : (es ls : List ℕ) → (added : List ℕ) × (recorded es ls ≡ es ++ added)
+the-entries-before-stand-in-front = recording.recorded-behind

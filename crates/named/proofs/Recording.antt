@@ -1,10 +1,10 @@
 -- Laws of what live marks record: marks one after the other, and that a local stands in the entries at most once if it did before. Assumes nothing.
 use Prim.Native.Nat.{ℕ, zero, suc, _+_, _≤_, _<_}
 use native.Mathlib.Omega.{arith}
-use mathlib.Core.Path.{_≡_, refl, sym, ap, subst, _∙_}
+use mathlib.Core.Path.{_≡_, refl, sym, ap, ap₂, subst, _∙_}
 use mathlib.Core.Bool.{Bool, true, false, cond, _||_, false≢true}
 use mathlib.Core.List.{List, [], _∷_, _++_, map, map-append, append-assoc, append-nil}
-use borrow.Author.Tests.{eqb-true, ne-eqb}
+use borrow.Author.Tests.{eqb-true, eq-eqb, ne-eqb}
 use lib.Dec.{eqb}
 use lib.ListN.{length, take, drop}
 use Rattle.image.specs.Lists.{member}
@@ -80,7 +80,7 @@ none-above n [] h = refl
 none-above n (x ∷ xs) h = let below = h .0 in ap (λ (t : Bool). t || member n xs) (ne-eqb n x (λ e. omega (arith, below, e))) ∙ none-above n xs (h .1)
 
 -- how often a local stands in two lists
-occurs-append : (l : ℕ) (xs ys : List ℕ) → occurs l (xs ++ ys) ≡ occurs l xs + occurs l ys
+pub occurs-append : (l : ℕ) (xs ys : List ℕ) → occurs l (xs ++ ys) ≡ occurs l xs + occurs l ys
 unfolding occurs
 occurs-append l [] ys = omega arith
 occurs-append l (x ∷ xs) ys = let e = occurs-append l xs ys in omega (arith, e)
@@ -124,3 +124,68 @@ once-recorded es (x ∷ ls) l h = once-recorded (cond (member x es) es (es ++ (x
 -- "Where a local stands at most once in all the scopes handed in, it still does afterwards"
 pub once-made : {s st : State} → Made s st → OncePerLocal s st
 once-made {s} m l h = subst (λ (es : List ℕ). occurs l es ≤ 1) (sym (m .entries)) (once-recorded (s .entries) (markedLive (m .made)) l h)
+
+-- one local stands once in itself, and in another never
+pub occurs-one : (l : ℕ) → occurs l (l ∷ []) ≡ 1
+unfolding occurs
+occurs-one l = ap (λ (b : Bool). cond b 1 0 + 0) (eq-eqb l l refl)
+
+pub occurs-other : (l x : ℕ) → (l ≡ x → ⊥) → occurs l (x ∷ []) ≡ 0
+unfolding occurs
+occurs-other l x h = ap (λ (b : Bool). cond b 1 0 + 0) (ne-eqb l x h)
+
+-- a member of two lists
+member-append : (l : ℕ) (xs ys : List ℕ) → member l (xs ++ ys) ≡ member l xs || member l ys
+unfolding member
+member-append l [] ys = refl
+member-append l (x ∷ xs) ys = by (eqb l x) (member-append l xs ys)
+  where
+    by : (b : Bool) → member l (xs ++ ys) ≡ member l xs || member l ys → b || member l (xs ++ ys) ≡ (b || member l xs) || member l ys
+    by true e = refl
+    by false e = e
+
+-- how often a local stands in the entries, one mark earlier or later
+occurs-mark : (es ls : List ℕ) (x l : ℕ) →
+    cond (member l (cond (member x es) es (es ++ (x ∷ [])))) (occurs l (cond (member x es) es (es ++ (x ∷ [])))) (cond (member l ls) 1 0)
+    ≡ cond (member l es) (occurs l es) (cond (eqb l x || member l ls) 1 0)
+unfolding member occurs
+occurs-mark es ls x l = by (member x es) refl
+  where
+    held : (b : Bool) → eqb l x ≡ b → member x es ≡ true → cond (member l es) (occurs l es) (cond (member l ls) 1 0) ≡ cond (member l es) (occurs l es) (cond (b || member l ls) 1 0)
+    held true is e =
+        let there : member l es ≡ true = ap (λ (k : ℕ). member k es) (eqb-true l x is) ∙ e in
+        ap (λ (m : Bool). cond m (occurs l es) (cond (member l ls) 1 0)) there ∙ ap (λ (m : Bool). cond m (occurs l es) 1) (sym there)
+    held false is e = refl
+
+    new : (b m : Bool) → eqb l x ≡ b → member l es ≡ m → member x es ≡ false →
+        cond (m || (b || false)) (occurs l es + (cond b 1 0 + 0)) (cond (member l ls) 1 0) ≡ cond m (occurs l es) (cond (b || member l ls) 1 0)
+    new true true is there e = absurd (false≢true (sym e ∙ ap (λ (k : ℕ). member k es) (sym (eqb-true l x is)) ∙ there))
+    new true false is there e = let none = occurs-none l es there in omega (arith, none)
+    new false true is there e = omega arith
+    new false false is there e = refl
+
+    by : (b : Bool) → member x es ≡ b →
+        cond (member l (cond b es (es ++ (x ∷ [])))) (occurs l (cond b es (es ++ (x ∷ [])))) (cond (member l ls) 1 0) ≡ cond (member l es) (occurs l es) (cond (eqb l x || member l ls) 1 0)
+    by true e = held (eqb l x) refl e
+    by false e =
+        ap₂ (λ (m : Bool) (n : ℕ). cond m n (cond (member l ls) 1 0)) (member-append l es (x ∷ [])) (occurs-append l es (x ∷ [])) ∙ new (eqb l x) (member l es) refl refl e
+
+-- a local that is held stands in the entries as often as before; another that is marked stands there once, and one that is not marked never
+pub occurs-recorded : (l : ℕ) (es ls : List ℕ) → occurs l (recorded es ls) ≡ cond (member l es) (occurs l es) (cond (member l ls) 1 0)
+unfolding recorded member
+occurs-recorded l es [] = by (member l es) refl
+  where
+    by : (b : Bool) → member l es ≡ b → occurs l es ≡ cond b (occurs l es) 0
+    by true e = refl
+    by false e = occurs-none l es e
+occurs-recorded l es (x ∷ ls) = occurs-recorded l (cond (member x es) es (es ++ (x ∷ []))) ls ∙ occurs-mark es ls x l
+
+-- the entries before stand in front
+pub recorded-behind : (es ls : List ℕ) → (added : List ℕ) × (recorded es ls ≡ es ++ added)
+unfolding recorded
+recorded-behind es [] = ([], sym (append-nil es))
+recorded-behind es (x ∷ ls) = by (member x es) (λ ds. recorded-behind ds ls)
+  where
+    by : (b : Bool) → ((ds : List ℕ) → (added : List ℕ) × (recorded ds ls ≡ ds ++ added)) → (added : List ℕ) × (recorded (cond b es (es ++ (x ∷ []))) ls ≡ es ++ added)
+    by true rest = rest es
+    by false rest = let (added, e) = rest (es ++ (x ∷ [])) in (x ∷ added, e ∙ append-assoc es (x ∷ []) added)
