@@ -7,6 +7,7 @@ is then false: a law of the page, its rows, a theorem on runs or counts, or a fu
 RUNS = "demand 2 on runs"
 SAME = "the-same-exactly-when-equal"
 ROWS = "the-rows-are-as-judged"
+RECORDED = "a-live-mark-records-its-local-unless-an-open-scope-holds-it"
 
 
 CHANGES = (
@@ -124,6 +125,22 @@ CHANGES = (
     ("the local of a test is local 0", "pattern_matching", "Variants",
      "    step p (tryStatement st₁ (placeRvalueRow current (nextLocal (ctx .state)) PlaceRvalue.Discr place)) (λ st₂.",
      "    step p (tryStatement st₁ (placeRvalueRow current (record { 0 = 0 }) PlaceRvalue.Discr place)) (λ st₂.", RUNS),
+    # What a live mark records.
+    ("only the last scope is looked at", "lower", "Temps", "isHeld st l = member (l .0) (st .entries)",
+     "isHeld st l = member (l .0) (lib.ListN.drop (getD (st .scopes) (Prim.Native.Nat._-_ (length (st .scopes)) 1) 0) (st .entries))", RECORDED),
+    ("the last entry alone is looked at", "lower", "Temps", "isHeld st l = member (l .0) (st .entries)",
+     "isHeld st l = member (l .0) (lib.ListN.drop (Prim.Native.Nat._-_ (length (st .entries)) 1) (st .entries))", RECORDED),
+    ("a held local is recorded again", "lower", "Temps", "recordUnless held st l = cond held (ok st) (tryEntry st l)", "recordUnless held st l = tryEntry st l", RECORDED),
+    ("no local is recorded", "lower", "Temps", "recordUnless held st l = cond held (ok st) (tryEntry st l)", "recordUnless held st l = ok st", RECORDED),
+    ("a full table of entries refuses a held local", "lower", "Temps",
+     "recordUnless held st l = cond held (ok st) (tryEntry st l)",
+     "recordUnless held st l = cond (held && ltb (length (st .entries)) 1024) (ok st) (tryEntry st l)", RECORDED),
+    ("no live mark of a held local", "lower", "Temps",
+     "(andThen (recordUnless held st l) (λ st₁. tryStatement st₁ (liveRow block l)))",
+     "(andThen (recordUnless held st l) (λ st₁. cond held (ok st₁) (tryStatement st₁ (liveRow block l))))", "counted-as-document-01-counts"),
+    ("a temporary is not recorded", "lower", "Temps",
+     "(andThen (tryLocal st word) (λ st₁. markLive false st₁ (nextLocal st) block))",
+     "(andThen (tryLocal st word) (λ st₁. markLive true st₁ (nextLocal st) block))", "a-temporary's-local-is-held-by-no-scope"),
     # What is counted.
     ("one visit in Check, whatever the Ors above", "counting", "Counting", "checkVisits r = r .ors + 1", "checkVisits r = 1", "every-reached-pattern-was-visited-k-plus-2-times"),
     ("a new else is not counted", "counting", "Counting", "elseMade fails OptBlock.None = one fails", "elseMade fails OptBlock.None = 0", "counted-as-document-01-counts"),
