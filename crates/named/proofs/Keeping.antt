@@ -136,12 +136,7 @@ module _ {s₀ : State} {n : ℕ} (st : State) (k : Kept s₀ n st) where
   keeps-else OptBlock.None = keeps-block
   keeps-else (OptBlock.Some b) = gives (Kept s₀ n) st k
 
--- no scope holds a local that is not made yet
-pub unheld : (st : State) → NamedBelow st → isHeld st (nextLocal st) ≡ false
-unfolding isHeld
-unheld st h = none-above (length (st .locals)) (st .entries) (h .entries)
-
--- one that was just made is not held either
+-- no scope holds a local that is just made
 pub unheld-new : (st : State) (word : ℕ) → NamedBelow st → isHeld (newLocal st word) (nextLocal st) ≡ false
 unfolding isHeld newLocal
 unheld-new st word h = none-above (length (st .locals)) (st .entries) (h .entries)
