@@ -47,22 +47,21 @@ fit-accepted {call} fit T room scope r body visits P =
 pub refused-limit : (call : Call) (p : PatId) → Refused call MirLowerError.Limit p → LimitPassed call
 refused-limit call p refusal =
     let (T, W) = taken call (MatchCall.Refused MirLowerError.Limit p) (refusal .body) (refusal .visits) tt (refusal .promised) in
-    rooms.refused-limit (call .image) (call .bindings) (patternOf call) (startOf call) (call .start) (call .else) (call .place) (given call T .root) (call .elements) (given call T .within) (given call T .bound) (p .0)
-    (stopping (walkOf call) MirLowerError.Limit p W)
+    rooms.refused-limit (call .image) (call .bindings) (patternOf call) (startOf call) (call .start) (call .else) (call .place) (given call T .root) (call .elements) (given call T .within)
+    (given call T .bound) (p .0) (stopping (walkOf call) MirLowerError.Limit p W)
 
 -- and one by 14 finds no scope open
 pub refused-scope : (call : Call) (p : PatId) → Refused call MirLowerError.NoScope p → length (before call .scopes) ≡ 0
 refused-scope call p refusal =
     let (T, W) = taken call (MatchCall.Refused MirLowerError.NoScope p) (refusal .body) (refusal .visits) tt (refusal .promised) in
-    rooms.refused-scope (call .image) (call .bindings) (patternOf call) (startOf call) (call .start) (call .else) (call .place) (given call T .root) (call .elements) (given call T .within) (given call T .bound) (p .0)
-    (stopping (walkOf call) MirLowerError.NoScope p W)
+    rooms.refused-scope (call .image) (call .bindings) (patternOf call) (startOf call) (call .start) (call .else) (call .place) (given call T .root) (call .elements) (given call T .within)
+    (given call T .bound) (p .0) (stopping (walkOf call) MirLowerError.NoScope p W)
 
 -- an acceptance has made exactly as many locals and entries as are counted
 pub made : (call : Call) (out : HandedOut) → Accepted call out → Made (call .image) (call .bindings) (patternOf call) (startOf call) (call .place) (resultOf out)
 made call out accepted =
-    rooms.made (call .image) (call .bindings) (patternOf call) (startOf call) (call .start) (call .else) (call .place) (handed call out accepted .root) (call .elements) (handed call out accepted .within) (handed call out accepted .bound)
-    (resultOf out)
-    (gives call out accepted)
+    rooms.made (call .image) (call .bindings) (patternOf call) (startOf call) (call .start) (call .else) (call .place) (handed call out accepted .root) (call .elements)
+    (handed call out accepted .within) (handed call out accepted .bound) (resultOf out) (gives call out accepted)
 
 -- so there was room for it
 pub had-room : (call : Call) (out : HandedOut) → Accepted call out → HasRoom call

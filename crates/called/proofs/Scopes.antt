@@ -220,7 +220,8 @@ match-still-once call r body visits P =
     on-pattern (call .image) (call .body) (call .counts) body _ (valid (call .image)) (bodyTaken (call .image) (call .body) (call .counts)) _ (walkOf call) refl r
     (λ T v n o e.
     let G = given call (record { image-valid = v; body = T; names = n }) in
-    match-once (call .image) (call .bindings) (patternOf call) (startOf call) (call .start) (call .else) (call .place) o (taken-named (call .image) (call .body) (call .counts) T) (G .bound) (G .root) e)
+    match-once (call .image) (call .bindings) (patternOf call) (startOf call) (call .start) (call .else) (call .place) o
+    (taken-named (call .image) (call .body) (call .counts) T) (G .bound) (G .root) e)
     (P .gives .tables) (P .gives .reply) refl
 
 -- a call without an else
@@ -247,15 +248,16 @@ assignment-still-once call r body visits P =
     on-pattern (call .image) (call .body) (call .counts) body _ (valid (call .image)) (bodyTaken (call .image) (call .body) (call .counts)) _ _ refl r
     (λ T v n o e.
     let G = given (withoutElse call) (record { image-valid = v; body = T; names = n }) in
-    inner-once (call .image) (call .bindings) (patternOf call) (startOf call) (call .start) OptBlock.None (call .place) o (taken-named (call .image) (call .body) (call .counts) T) (G .bound) (G .root)
-    MatchingMode.Assign e)
+    inner-once (call .image) (call .bindings) (patternOf call) (startOf call) (call .start) OptBlock.None (call .place) o
+    (taken-named (call .image) (call .body) (call .counts) T) (G .bound) (G .root) MatchingMode.Assign e)
     (P .gives .tables) (P .gives .reply) refl
 
 -- `match_self_param`
 pub self-still-once : (call : SelfHanded) (r : MatchCall) (body : Body) → PromisedSelf call r body → StillOnce (call .body) (call .counts) body (countsAfterMatch (call .counts) r)
 unfolding matchSelfParamCall calling selfHolds
 self-still-once call r body P =
-    on-pattern (call .image) b c body _ (valid (call .image)) (bodyTaken (call .image) b c) (selfHolds (namedIn (call .image)) (call .bindings) (b .blocks) c (call .binding) (call .start) (call .local .0)) _ refl r
+    on-pattern (call .image) b c body _ (valid (call .image)) (bodyTaken (call .image) b c)
+    (selfHolds (namedIn (call .image)) (call .bindings) (b .blocks) c (call .binding) (call .start) (call .local .0)) _ refl r
     (λ T v n o e.
     let there : call .local .0 < c .locals = ltb-true _ _ (all-true-at tests 3 n) in
     let count = taken-locals (call .image) b c T in
@@ -270,7 +272,12 @@ self-still-once call r body P =
     c = call .counts
 
     tests : List Bool
-    tests = bindingsHold (bindingCount (call .image)) (call .counts) (call .bindings) ∷ ltb (call .binding) (bindingCount (call .image)) ∷ startHolds (call .body .blocks) (call .counts) (call .start) ∷ isLocal (call .counts) (call .local .0) ∷ []
+    tests =
+        bindingsHold (bindingCount (call .image)) (call .counts) (call .bindings)
+        ∷ ltb (call .binding) (bindingCount (call .image))
+        ∷ startHolds (call .body .blocks) (call .counts) (call .start)
+        ∷ isLocal (call .counts) (call .local .0)
+        ∷ []
 
 -- `lower_params_and_bindings`
 pub params-still-once : (call : ParamsHanded) (r : ParamsCall) (left : ParamsLeft) → PromisedParams call r left →

@@ -187,7 +187,8 @@ module _ {s₀ : State} {n : ℕ} (st : State) (l : LocalId) (below : l .0 < n) 
           terminators = r .named .terminators;
           entries = r .named .entries;
         };
-        made = made-line (pushStatement st₁ row) row (k .made) (ap (λ (x : List (List ℕ)). x ++ (row ∷ [])) (r .statements)) (r .scopes) (r .entries ∙ ap (recorded (st .entries)) (sym (live-marks block l)));
+        made = made-line (pushStatement st₁ row) row (k .made) (ap (λ (x : List (List ℕ)). x ++ (row ∷ [])) (r .statements)) (r .scopes)
+            (r .entries ∙ ap (recorded (st .entries)) (sym (live-marks block l)));
       }
 
   -- a mark that a local is live, which a scope holds or not
