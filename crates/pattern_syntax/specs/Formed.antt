@@ -93,9 +93,53 @@ mayStand (fieldNode n) inRange = false
 mayStand (fieldNode n) inRecord = true
 mayStand orNode s = inPatternOnly s
 
+-- which part of a slice is its rest
+unfoldable pub restPlace : Node → Option ℕ
+restPlace wildcardNode = none
+restPlace restNode = none
+restPlace (literalNode v) = none
+restPlace (boundNode v) = none
+restPlace (boundPathNode n) = none
+restPlace (rangeNode lower upper dots) = none
+restPlace (pathNode n) = none
+restPlace (identNode r m n) = none
+restPlace (referenceNode m) = none
+restPlace (tupleNode before) = none
+restPlace (tupleStructNode n before) = none
+restPlace (sliceNode before) = before
+restPlace (recordNode n) = none
+restPlace (fieldNode n) = none
+restPlace orNode = none
+
+-- `..`, or a name that may be bound to it
+unfoldable pub mayBeRest : Node → Bool
+mayBeRest wildcardNode = false
+mayBeRest restNode = true
+mayBeRest (literalNode v) = false
+mayBeRest (boundNode v) = false
+mayBeRest (boundPathNode n) = false
+mayBeRest (rangeNode lower upper dots) = false
+mayBeRest (pathNode n) = false
+mayBeRest (identNode r m n) = true
+mayBeRest (referenceNode m) = false
+mayBeRest (tupleNode before) = false
+mayBeRest (tupleStructNode n before) = false
+mayBeRest (sliceNode before) = false
+mayBeRest (recordNode n) = false
+mayBeRest (fieldNode n) = false
+mayBeRest orNode = false
+
+unfoldable pub nodeIn : Written → Node
+nodeIn (written at n ps) = n
+
+unfoldable pub restPartFormed : Option ℕ → Parts → Bool
+restPartFormed none ps = true
+restPartFormed (some before) noParts = true
+restPartFormed (some before) (more ps w) = cond (eqb before (partCount ps)) (mayBeRest (nodeIn w)) (restPartFormed (some before) ps)
+
 unfoldable mutual
   pub formed : Written → Stand → Bool
-  formed (written at n ps) s = mayStand n s && nodeFormed n (partCount ps) && partsFormed ps (standsIn n)
+  formed (written at n ps) s = mayStand n s && nodeFormed n (partCount ps) && restPartFormed (restPlace n) ps && partsFormed ps (standsIn n)
 
   pub partsFormed : Parts → Stand → Bool
   partsFormed noParts s = true
