@@ -10,6 +10,7 @@ from pathlib import Path
 
 sys.dont_write_bytecode = True
 
+from images import decode
 from reading import read
 from reading_corners import HERE, class_tables
 from reading_list import calls
@@ -33,7 +34,8 @@ OPENED = {
 }
 # Printers of trees, and what two files call alike: these are not computed, or are opened by their whole name.
 LEFT_OUT = re.compile(r'\w*T$')
-LONGEST, A_FILE = 300, 50
+CLASSES = ('text', 'laser', 'mixed')
+LONGEST, LARGEST, A_FILE = 300, 1200, 60
 MODULUS, FACTOR = 2 ** 61 - 1, 1_000_003
 
 
@@ -85,44 +87,70 @@ use Rattle.text_chars.specs.Bytes.{ascii}
 '''
 
 
-def tables():
-    """the file of the classes' tables and of what a row is"""
-    lines = ['-- The sheets and name tables of the sample classes, and what a row asks for. Assumes nothing.', HEAD.rstrip()]
-    lines += ['use lib.ListN.{length}', 'use Rattle.pattern_reading.specs.Reads.{Answer, imageOf, refusedWith, readPattern}', '']
-    for name in ('text', 'laser', 'mixed'):
-        sheet, names = class_tables(name)
-        for what, data in ((f'{name}Sheet', sheet), (f'{name}Names', names)):
-            lines += [f'abbrev pub {what} : List ℕ', f'{what} = {numbers(data)}', '']
+def tables(named):
+    """the file of the sheets and name tables, and of what a row is"""
+    lines = ['-- The sheets and name tables of the rows, and what a row asks for. Assumes nothing.', HEAD.rstrip()]
+    lines += ['use lib.ListN.{length}', 'use Rattle.pattern_grammar.specs.Parsed.{parsed}',
+              'use Rattle.pattern_syntax.specs.Reduced.{reduced}',
+              'use Rattle.pattern_reading.specs.Reads.{Answer, imageOf, refusedWith, Outcome, treeIs, failsAt, outcome, readTyped, readPattern}', '']
+    for data, name in named.items():
+        lines += [f'abbrev pub {name} : List ℕ', f'{name} = {numbers(data)}', '']
     lines += ['-- a sum over bytes in which each place counts', 'unfoldable pub total : ℕ → List ℕ → ℕ', 'total h [] = h',
               f'total h (b ∷ bs) = total ((h * {FACTOR} + b + 1) % {MODULUS}) bs', '']
     lines += ['-- an answer in numbers: a refusal by its number and position, an image by its length and sum', 'unfoldable pub told : Answer → List ℕ',
               'told (imageOf bytes) = 1 ∷ length bytes ∷ total 0 bytes ∷ []', 'told (refusedWith number at) = 0 ∷ number ∷ at ∷ []', '']
-    lines += ['pub record Row : Type 0 where', '  pub text : List ℕ', '  pub expected : ℕ', '  pub wanted : List ℕ', '',
-              'abbrev pub row : List ℕ → ℕ → List ℕ → Row', 'row t e w = record { text = t; expected = e; wanted = w }', '',
-              'abbrev pub given : List ℕ → List ℕ → Row → List ℕ', 'given sheet names r = told (readPattern (r .text) sheet names (r .expected))', '',
+    lines += ['pub record Row : Type 0 where', '  pub text : List ℕ', '  pub sheet : List ℕ', '  pub names : List ℕ', '  pub expected : ℕ', '  pub wanted : List ℕ', '',
+              'abbrev pub row : List ℕ → List ℕ → List ℕ → ℕ → List ℕ → Row',
+              'row t s n e w = record { text = t; sheet = s; names = n; expected = e; wanted = w }', '',
+              '-- reading over a sheet, a name table and a type that are known to hold', 'unfoldable pub answered : Row → Outcome → Answer',
+              'answered r (failsAt at) = refusedWith 19 at', 'answered r (treeIs p) = readTyped (r .sheet) (r .names) (r .expected) (reduced (r .text) p)', '',
+              'abbrev pub given : Row → List ℕ', 'given r = told (answered r (outcome (parsed (r .text))))', '',
+              '-- reading as a whole', 'abbrev pub givenWhole : Row → List ℕ',
+              'givenWhole r = told (readPattern (r .text) (r .sheet) (r .names) (r .expected))', '',
               'abbrev pub wants : Row → List ℕ', 'wants r = r .wanted', '']
+    return '\n'.join(lines)
+
+
+def held(named):
+    """the file that says that the classes' tables hold"""
+    lines = ["-- The classes' sheets and name tables hold their rules. Assumes nothing.", HEAD.rstrip(), 'use mathlib.Core.Bool.{true}',
+             'use Rattle.type_sheets.specs.Sheets.{sheetHolds}', 'use Rattle.name_tables.specs.Names.{namesHold}',
+             f'use Rattle.reading_samples.proofs.Tables.{{{", ".join(named[data] for name in CLASSES for data in class_tables(name))}}}', '']
+    for name in CLASSES:
+        lines += [f'pub {name}-holds : sheetHolds {name}Sheet ≡ true', f'unfolding {opened()}', f'{name}-holds = refl', '',
+                  f'pub {name}-names-hold : namesHold {name}Sheet {name}Names ≡ true', f'unfolding {opened()}', f'{name}-names-hold = refl', '']
+    return '\n'.join(lines)
+
+
+def file_of(called, given, rows, tables_of):
+    """the file of some rows"""
+    lines = ['-- Texts read over sheets and name tables: the definitions, computed. Assumes nothing.', HEAD.rstrip(),
+             f'use Rattle.reading_samples.proofs.Tables.{{Row, row, {given}, wants, total, told, answered, {", ".join(sorted(tables_of))}}}', '',
+             f'unfoldable pub rows{called} : List Row', f'rows{called} =', '    ' + '\n    ∷ '.join(rows) + '\n    ∷ []', '',
+             f'pub as-judged-{called} : map {given} rows{called} ≡ map wants rows{called}', f'unfolding rows{called} total told answered {opened()}',
+             f'as-judged-{called} = refl', '']
     return '\n'.join(lines)
 
 
 def files():
     """each file's text by its name"""
-    by_class = {class_tables(name): name for name in ('text', 'laser', 'mixed')}
-    made = {'Tables': tables()}
-    rows = {name: [] for name in by_class.values()}
+    named, made, rows = {}, {}, {'given': [], 'givenWhole': []}
+    classes = {class_tables(name) for name in CLASSES}
+    for name in CLASSES:
+        for what, data in zip(('Sheet', 'Names'), class_tables(name)):
+            named[data] = name + what
     for name, text, sheet, names, expected in calls():
-        if len(text) <= LONGEST and (sheet, names) in by_class:
-            rows[by_class[sheet, names]].append(f'row {quoted(text)} {expected} ({wanted(read(text, sheet, names, expected))})')
-    for name, own in rows.items():
-        for number in range(0, len(own), A_FILE):
-            called = f'{name.capitalize()}{number // A_FILE + 1}'
-            part = own[number:number + A_FILE]
-            lines = [f'-- Texts over the class {name}: the definitions, computed. Assumes nothing.', HEAD.rstrip(),
-                     f'use Rattle.reading_samples.proofs.Tables.{{Row, row, given, wants, total, told, {name}Sheet, {name}Names}}', '',
-                     'unfoldable pub rows : List Row', 'rows =', '    ' + '\n    ∷ '.join(part) + '\n    ∷ []', '',
-                     f'pub as-judged : map (given {name}Sheet {name}Names) rows ≡ map wants rows', f'unfolding rows total told {opened()}',
-                     'as-judged = refl', '']
-            made[called] = '\n'.join(lines)
-    made['Lib'] = ''.join(f'pub mod {name}\n' for name in made)
+        if len(text) > LONGEST or max(len(sheet), len(names)) > LARGEST:
+            continue
+        own = [named.setdefault(data, f'{what}{len(named)}') for what, data in (('sheet', sheet), ('names', names))]
+        given = 'given' if (sheet, names) in classes and expected < len(decode(sheet).types) else 'givenWhole'
+        rows[given].append((own, f"row {quoted(text)} {' '.join(own)} {expected} ({wanted(read(text, sheet, names, expected))})"))
+    for given, own_rows in rows.items():
+        for first in range(0, len(own_rows), A_FILE):
+            part, called = own_rows[first:first + A_FILE], f"{'Whole' if given == 'givenWhole' else 'Typed'}{first // A_FILE + 1}"
+            made[called] = file_of(called, given, [text for _, text in part], {table for own, _ in part for table in own})
+    made['Tables'], made['Held'] = tables(named), held(named)
+    made['Lib'] = ''.join(f'pub mod {name}\n' for name in sorted(made))
     return {f'{name}.antt': text for name, text in made.items()}
 
 

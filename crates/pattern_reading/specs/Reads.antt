@@ -69,12 +69,15 @@ unfoldable pub unlessRefused : Option ℕ → Answer → Answer
 unlessRefused none go = go
 unlessRefused (some at) go = refusedWith 20 at
 
+unfoldable pub readTyped : List ℕ → List ℕ → ℕ → Written → Answer
+readTyped sheet names expected w =
+    unlessRefused (refusedIn sheet names w (typed expected byValue)) (imaged sheet (draftOf sheet names expected w))
+
+-- 1 for the sheet, 2 for the expected type and the name table
 unfoldable pub readTree : List ℕ → List ℕ → ℕ → Written → Answer
 readTree sheet names expected w =
     cond (sheetHolds sheet)
-    (cond (ltb expected (typeCount sheet) && namesHold sheet names)
-    (unlessRefused (refusedIn sheet names w (typed expected byValue)) (imaged sheet (draftOf sheet names expected w)))
-    (refusedWith 2 absent))
+    (cond (ltb expected (typeCount sheet) && namesHold sheet names) (readTyped sheet names expected w) (refusedWith 2 absent))
     (refusedWith 1 absent)
 
 -- 19 first, by the text alone; then 1 for the sheet, 2 for the type and the name table, 20, and 1 for a limit
