@@ -2,9 +2,6 @@ pub mod Held
 pub mod Tables
 pub mod Typed1
 pub mod Typed2
-pub mod Typed3
-pub mod Typed4
-pub mod Typed5
 pub mod Whole1
 pub mod Whole2
 pub mod Whole3
