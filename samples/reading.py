@@ -28,6 +28,11 @@ LIMITS = (('types', 256), ('patterns', 512), ('bindings', 256), ('list', 2048), 
 WORD = re.compile(rb'[A-Za-z_][A-Za-z0-9_]*')
 
 
+def is_set(flag):
+    """a flag is set by 1, and not set by any other word"""
+    return flag == 1
+
+
 def start(t):
     """the first byte of a pattern, a leading `|`, parentheses and `ref` counted"""
     if t[0] == 'pattern':
@@ -96,14 +101,14 @@ class Reader:
         """the type behind all references, how many were crossed, and the default mode then"""
         derefs = 0
         while self.m.types[type_][0] == REFERENCE and derefs <= len(self.m.types):
-            mode = BY_REF if self.m.types[type_][4] or mode == BY_REF else BY_REF_MUT
+            mode = BY_REF if is_set(self.m.types[type_][4]) or mode == BY_REF else BY_REF_MUT
             type_, derefs = self.m.types[type_][1], derefs + 1
         return type_, max(derefs, MOST_DEREFS + 1) if self.m.types[type_][0] == REFERENCE else derefs, mode
 
     def alike(self, kind, a, b, flag):
         """the first type alike, which is added if there is none"""
         for number, row in enumerate(self.m.types):
-            if row[:2] == [kind, a] and (kind == REFERENCE or row[2] == b) and bool(row[4]) == bool(flag):
+            if row[:2] == [kind, a] and (kind == REFERENCE or row[2] == b) and is_set(row[4]) == is_set(flag):
                 return number
         return self.m.add_type(kind, a, b, 0, flag)
 
@@ -210,7 +215,7 @@ class Reader:
 
     def target(self, type_, mutable):
         kind, target, _, _, flag = self.m.types[type_]
-        return target if kind == REFERENCE and bool(flag) != mutable else None
+        return target if kind == REFERENCE and is_set(flag) != mutable else None
 
     def arguments(self, items, fields, mode):
         """the patterns of the items, and how many stand before a rest; behind it fields count from the end"""
@@ -285,7 +290,7 @@ class Reader:
         below = self.add(REST, type_, 0)
 
         def left():
-            return self.alike(ARRAY, element, length - others, self.m.types[element][4]) if kind == ARRAY else type_
+            return self.alike(ARRAY, element, length - others, int(is_set(self.m.types[element][4]))) if kind == ARRAY else type_
         return self.bind(t[1], t[2], type_, left, mode, below)
 
 

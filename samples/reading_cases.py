@@ -192,7 +192,8 @@ def type_cases():
     yield 'array-of-an-odd-flag', b'[x @ .., _]', m.encode(), NAMES, THREE
     yield 'crossed-by-ref', b'(x, y)', m.encode(), NAMES, odd_ref
     yield 'crossed-by-ref-mut', b'(x, mut y)', m.encode(), NAMES, pair_mut
-    yield 'odd-flag-is-set', b'&(x, y)', m.encode(), NAMES, odd_ref
+    yield 'odd-flag-is-not-set', b'&(x, y)', m.encode(), NAMES, odd_ref
+    yield 'odd-flag-is-mut', b'&mut (x, y)', m.encode(), NAMES, odd_ref
     both = m.add_type(REFERENCE, odd_ref, copy=0)
     under = m.add_type(REFERENCE, both)
     pair_ref = m.add_type(REFERENCE, pair_mut)

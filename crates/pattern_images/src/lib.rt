@@ -1,0 +1,1 @@
+// The image of a pattern's nodes: see specs/ and proofs/.

@@ -1,0 +1,1 @@
+// A pattern's text read into an image.

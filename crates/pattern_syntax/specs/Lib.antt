@@ -1,0 +1,4 @@
+pub mod Written
+pub mod Reduced
+pub mod Closing
+pub mod Formed

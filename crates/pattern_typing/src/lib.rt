@@ -1,0 +1,1 @@
+// The types, binding modes and names of a pattern's nodes.

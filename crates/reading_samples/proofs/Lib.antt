@@ -1,0 +1,9 @@
+pub mod Held
+pub mod Tables
+pub mod Typed1
+pub mod Typed2
+pub mod Whole1
+pub mod Whole2
+pub mod Whole3
+pub mod Whole4
+pub mod Whole5

@@ -1,0 +1,1 @@
+// Texts whose images are computed by the definitions: see proofs/.
