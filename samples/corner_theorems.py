@@ -69,11 +69,11 @@ PARAM_MODULES = [
 
 FIT_MODULES = [
     ("image", "Integers", "leastValue greatestValue inRange integerValue"),
-    ("meaning", "Values", "items partsOf intFits kindNumber fieldTypes valueFits"),
-    ("meaning", "Typing", "referent behind typeIsThePlaces tupleFields variantsOf argumentsFit discriminantsDiffer integerFits"),
-    ("meaning", "Fitting", "literalFits pathFits rowFits eachFits typesFit"),
-    ("meaning", "Fit", "boundIn bindingsFit"),
-    ("meaning", "Fits", "hasVariant pathTaken nothingRefused present localsDiffer fits"),
+    ("counting", "Cases", "kindNumber tupleFields referent"),
+    ("meaning", "Values", "items partsOf intFits hasVariant valueFits"),
+    ("meaning", "Typing", "variantsOf"),
+    ("meaning", "Fit", "behind typeIsThePlaces argumentsFit discriminantsDiffer integerFits literalFits pathFits rowFits eachFits typesFit boundIn bindingsFit pathTaken "
+     "nothingRefused present localsDiffer fits"),
     ("meaning", "Matching", "crossed created matchAll matchRow isVariant pathMatches matches"),
     ("meaning", "Running", "scalarOf bytesOf sameValue"),
 ]
@@ -81,19 +81,19 @@ FIT_MODULES = [
 # What the rows on fit, meaning and run unfold besides, by the whole of its name.
 MEANING = {
     "image.specs.Integers": "leastValue greatestValue inRange integerValue",
+    "counting.specs.Cases": "kindNumber tupleFields referent",
     "counting.specs.Reaching": "isEnum isSliceShape behindDerefs fieldCount pathTests zip inARow byFields downcast ofVariant items someArgument allAlternatives canFail",
-    "meaning.specs.Values": "items values derefed partsOf middle subslice partAt placeIn intFits kindNumber fieldTypes arrayLength valueFits",
-    "meaning.specs.Running": "update valueOf dataBytes signedNumber constantBy constantValue scalarOf bytesOf sameBytes sameValue compared discriminantOf elemKind "
-    "elemFirst elemSecond sameElem behindRoot partBehind read ofPlaceValue leftValue rvalueValue execute switched",
+    "meaning.specs.Values": "items values derefed partsOf middle subslice partAt placeIn intFits hasVariant valueFits",
+    "meaning.specs.Running": "update valueOf dataBytes signedNumber constantBy constantValue scalarOf bytesOf sameNumbers sameValue compared discriminantOf elemNumbers "
+    "sameElem behindRoot partBehind read ofPlaceValue leftValue rvalueValue execute switched",
     "meaning.specs.Executing": "runs",
     "meaning.specs.Matching": "onto crossed crossedPath evaluated created fromStart toEnd matchAll matchRow matchFields isVariant pathMatches matches boundAs bindAll "
     "rowFields recordFields lastItems variantPath",
     "meaning.specs.Binding": "restBinds restBinds? binds",
-    "meaning.specs.Typing": "referent behind typeIsThePlaces tupleFields variantsOf variantFields argumentsFit fieldNumbers discriminantsDiffer itemsFit elementType "
-    "restFits integerFits refersToStr",
-    "meaning.specs.Fitting": "constantFits literalFits endFits pathFits eachFits rowFits fieldType byFieldsFit itemsAllFit typesFit",
-    "meaning.specs.Fit": "standsIn within restTy restBound restBound? patCount boundIn bindingsFit",
-    "meaning.specs.Fits": "hasVariant fieldsThere pathTaken restTaken nothingRefused present localsDiffer fits",
+    "meaning.specs.Typing": "variantsOf variantFields fieldType elementType",
+    "meaning.specs.Fit": "behind typeIsThePlaces argumentsFit fieldNumbers discriminantsDiffer itemsFit restFits integerFits refersToStr constantFits literalFits endFits "
+    "pathFits eachFits rowFits byFieldsFit itemsAllFit typesFit standsIn within restTy restBound restBound? patCount boundIn bindingsFit fieldsThere pathTaken restTaken "
+    "nothingRefused present localsDiffer fits",
 }
 
 FILES = {"proved": "audit/proofs/Proved", "further": "audit/proofs/Further", "params": "param_runs/proofs/Corners", "judged": "audit/proofs/Judged",

@@ -14,7 +14,7 @@ use Rattle.meaning.specs.Running.{Held, value}
 use Rattle.meaning.specs.Executing.{Ending, atThen, atElse, stuck, unfinished, runs}
 use Rattle.meaning.specs.Matching.{Bound, matches}
 use Rattle.meaning.specs.Binding.{binds}
-use Rattle.meaning.specs.Fits.{fits}
+use Rattle.meaning.specs.Fit.{fits}
 use Rattle.audit.specs.Started.{start}
 use Rattle.audit.specs.Call.{lowering}
 

@@ -17,7 +17,7 @@ use Rattle.meaning.specs.Running.{Env}
 use Rattle.meaning.specs.Executing.{Position, Ending, atThen, atElse}
 use Rattle.meaning.specs.Matching.{Bound, matches}
 use Rattle.meaning.specs.Binding.{binds}
-use Rattle.meaning.specs.Fits.{fits}
+use Rattle.meaning.specs.Fit.{fits}
 use Rattle.correctness.specs.Demand2.{pathOf, Fitting, Stops, Comes, Ends}
 use Rattle.called.specs.Call.{Call, HandedOut, Accepted, before, after, patternOf, startOf}
 

@@ -21,11 +21,12 @@ use Rattle.pattern_matching.specs.Tests.{literal, litBy}
 use Rattle.pattern_matching.specs.Variants.{placeTy, shapeOf, needed, patternMatchTupleLike, ellipsisAt, tupleOn, tuplePattern, refOn, refPattern}
 use Rattle.pattern_matching.specs.Patterns.{rangePattern, bindPattern}
 use Rattle.growth.proofs.Walks.{not-ok, ok-is, walked}
+use Rattle.counting.specs.Cases.{tupleFields}
 use Rattle.meaning.specs.Values.{Value, partsOf, partAt, valueFits}
 use Rattle.meaning.specs.Running.{Scene}
 use Rattle.meaning.specs.Matching.{onto, crossed, crossedPath, boundAs, bindAll, matchRow, rowFields}
-use Rattle.meaning.specs.Typing.{TypeNumber, behind, tupleFields}
-use Rattle.meaning.specs.Fitting.{rowFits}
+use Rattle.meaning.specs.Typing.{TypeNumber}
+use Rattle.meaning.specs.Fit.{behind, rowFits}
 use Rattle.meaning.proofs.Parts.{fields-length, fits-tuple}
 use Rattle.meaning.proofs.Crossing.{behind-first}
 use Rattle.meaning.proofs.Typed.{deref-type}

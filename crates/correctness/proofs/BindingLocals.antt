@@ -14,10 +14,10 @@ use Rattle.image.specs.Tree.{Pat, Pats, nil, cons, PatOpt, no, sub}
 use Rattle.image.proofs.Bools.{and-left, and-right}
 use Rattle.place.specs.declared.place_ty.PlaceTy.{PlaceTy}
 use Rattle.counting.specs.Reaching.{canFail}
-use Rattle.meaning.specs.Values.{kindNumber}
+use Rattle.counting.specs.Cases.{kindNumber}
+use Rattle.meaning.specs.Values.{hasVariant}
 use Rattle.meaning.specs.Typing.{variantFields}
-use Rattle.meaning.specs.Fit.{BoundAt, restTy, restBound, restBound?, patCount, boundIn, boundInAll, boundInFirst, boundIn?}
-use Rattle.meaning.specs.Fits.{hasVariant, fieldsThere, ellipsisWithin, hasLocal, restTaken, restTaken?, nothingRefused, noneRefused, noneReachedRefused, nothingRefused?}
+use Rattle.meaning.specs.Fit.{BoundAt, restTy, restBound, restBound?, patCount, boundIn, boundInAll, boundInFirst, boundIn?, fieldsThere, ellipsisWithin, hasLocal, restTaken, restTaken?, nothingRefused, noneRefused, noneReachedRefused, nothingRefused?}
 use Rattle.correctness.proofs.BindingNames.{names, AllLocal, member-case, rest-binding}
 
 -- a test of numbers that fails

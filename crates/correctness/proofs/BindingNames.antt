@@ -17,8 +17,7 @@ use Rattle.views.specs.Views.{Path}
 use Rattle.meaning.specs.Values.{Value, partAt, partsOf}
 use Rattle.meaning.specs.Matching.{onto, crossed, crossedPath, Bound, boundAs, bindAll, matches, rowFields, recordFields, lastItems, variantPath}
 use Rattle.meaning.specs.Binding.{restBinds, restBinds?, binds, binders, bindFirst, binds?}
-use Rattle.meaning.specs.Fit.{BoundAt, sameCount, standsIn, within, restTy, restBound, restBound?, patCount, boundIn, boundInAll, boundInFirst, boundIn?, bindingsFit, allBindingsFit, bindingsFit?, alternativesFit, allBind, bindOnce, sameBindings}
-use Rattle.meaning.specs.Fits.{present, localsDiffer}
+use Rattle.meaning.specs.Fit.{BoundAt, sameCount, standsIn, within, restTy, restBound, restBound?, patCount, boundIn, boundInAll, boundInFirst, boundIn?, bindingsFit, allBindingsFit, bindingsFit?, alternativesFit, allBind, bindOnce, sameBindings, present, localsDiffer}
 use Rattle.correctness.proofs.Permuting.{Each, each-append, each-map, EachBinder, each-binder-map, each-bound, HasLocal, LocalsApart, Separate}
 
 -- the bindings, by their numbers

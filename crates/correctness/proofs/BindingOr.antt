@@ -22,7 +22,7 @@ use Rattle.meaning.specs.Values.{Value, valueFits}
 use Rattle.meaning.specs.Running.{Env, Scene}
 use Rattle.meaning.specs.Matching.{Bound}
 use Rattle.meaning.specs.Typing.{TypeNumber}
-use Rattle.meaning.specs.Fitting.{itemsAllFit}
+use Rattle.meaning.specs.Fit.{itemsAllFit}
 use Rattle.image.proofs.Bools.{and-left, and-right}
 use Rattle.correctness.specs.Demand2.{pathOf}
 use Rattle.correctness.proofs.Walking.{rest, worked-locals, Walked, Lands, on, off, walked-seq, walked-later}

@@ -29,9 +29,8 @@ use Rattle.growth.proofs.Walks.{not-ok, walked}
 use Rattle.meaning.specs.Values.{Value, nothing, partsOf, partAt}
 use Rattle.meaning.specs.Running.{Scene}
 use Rattle.meaning.specs.Matching.{onto, Bound, bindAll, matchAll, matchRow, matchFields, rowFields, recordFields}
-use Rattle.meaning.specs.Typing.{TypeNumber, argumentsFit}
-use Rattle.meaning.specs.Fitting.{eachFits, rowFits, fieldType, byFieldsFit, itemsAllFit}
-use Rattle.meaning.specs.Fits.{fieldsThere}
+use Rattle.meaning.specs.Typing.{TypeNumber, fieldType}
+use Rattle.meaning.specs.Fit.{argumentsFit, rowFits, byFieldsFit, itemsAllFit, fieldsThere, eachFits}
 use Rattle.meaning.proofs.Children.{Valued, from-append, length-from}
 use Rattle.correctness.specs.Demand2.{pathOf}
 use Rattle.correctness.proofs.Standing.{Rooted, rooted-more, Stands}

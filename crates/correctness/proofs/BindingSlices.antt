@@ -27,7 +27,7 @@ use Rattle.meaning.specs.Running.{Scene}
 use Rattle.meaning.specs.Matching.{bindAll, matchAll, lastItems, boundAs}
 use Rattle.meaning.specs.Binding.{restBinds, restBinds?}
 use Rattle.meaning.specs.Typing.{TypeNumber, elementType}
-use Rattle.meaning.specs.Fitting.{itemsAllFit}
+use Rattle.meaning.specs.Fit.{itemsAllFit}
 use Rattle.meaning.proofs.Children.{index-valued, end-valued}
 use Rattle.correctness.proofs.Standing.{rooted-more, stands-onward, stepped}
 use Rattle.correctness.proofs.Rows.{zipMatch, zip-numbered, last-items, zip-end}

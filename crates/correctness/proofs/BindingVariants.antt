@@ -30,9 +30,8 @@ use Rattle.growth.proofs.Walks.{not-ok, ok-is}
 use Rattle.meaning.specs.Values.{Value, Variant, Values, fieldsFit, partsOf, partAt, valueFits}
 use Rattle.meaning.specs.Running.{Scene}
 use Rattle.meaning.specs.Matching.{bindAll, isVariant, pathMatches, matchRow, matchFields, rowFields, recordFields, variantPath}
-use Rattle.meaning.specs.Typing.{TypeNumber}
-use Rattle.meaning.specs.Typing.{variantFields as fieldsOf}
-use Rattle.meaning.specs.Fitting.{rowFits, byFieldsFit}
+use Rattle.meaning.specs.Typing.{TypeNumber, variantFields as fieldsOf}
+use Rattle.meaning.specs.Fit.{rowFits, byFieldsFit}
 use Rattle.meaning.proofs.Parts.{fields-length, fits-adt}
 use Rattle.meaning.proofs.Typed.{enum-choice, variant-fields, struct-one}
 use Rattle.meaning.proofs.Children.{Valued, struct-valued, enum-valued}

@@ -20,13 +20,12 @@ use Rattle.pattern_matching.specs.Variants.{AdtPatternShape, tuplePattern, refP
 use Rattle.pattern_matching.specs.Slices.{sliceOn}
 use Rattle.pattern_matching.specs.Patterns.{passing, orPattern, rangePattern, pathPattern, bindPattern, restOf, patternMatchInner, lowerings, lowering?}
 use Rattle.growth.proofs.Walks.{ok-is}
+use Rattle.counting.specs.Cases.{referent}
 use Rattle.meaning.specs.Values.{Value, partsOf, partAt}
 use Rattle.meaning.specs.Running.{Scene}
 use Rattle.meaning.specs.Matching.{onto, crossed, crossedPath, Bound, boundAs, bindAll, matchAll, matchRow, matchFields, longEnough, isVariant, rowFields, recordFields, lastItems, variantPath, matches, matchers, matches?}
 use Rattle.meaning.specs.Binding.{restBinds?, binds, binders, bindFirst, binds?}
-use Rattle.meaning.specs.Typing.{referent}
-use Rattle.meaning.specs.Fitting.{typesFit, fitting, typesFit?}
-use Rattle.meaning.specs.Fit.{BoundAt, within, patCount, restBound?, boundIn, boundInAll, boundIn?, bindOnce, bindingsFit, allBindingsFit, bindingsFit?, alternativesFit, allBind, sameBindings}
+use Rattle.meaning.specs.Fit.{typesFit, fitting, typesFit?, BoundAt, within, patCount, restBound?, boundIn, boundInAll, boundIn?, bindOnce, bindingsFit, allBindingsFit, bindingsFit?, alternativesFit, allBind, sameBindings}
 use Rattle.meaning.proofs.Cutting.{Bytes}
 use Rattle.meaning.proofs.Typed.{headOf, tuple-fits, or-fits, record-fits, slice-fits, bind-fits, tuple-struct-fits, ref-fits, type-behind, value-here}
 use Rattle.meaning.proofs.Children.{lowerings-count, deref-valued}

@@ -20,9 +20,7 @@ use Rattle.pattern_matching.specs.Patterns.{patternMatchInner}
 use Rattle.meaning.specs.Values.{Value}
 use Rattle.meaning.specs.Running.{Env, Scene}
 use Rattle.meaning.specs.Matching.{matches, Bound}
-use Rattle.meaning.specs.Fitting.{typesFit}
-use Rattle.meaning.specs.Fit.{bindingsFit}
-use Rattle.meaning.specs.Fits.{fits, nothingRefused, localsDiffer}
+use Rattle.meaning.specs.Fit.{typesFit, bindingsFit, fits, nothingRefused, localsDiffer}
 use Rattle.correctness.specs.Demand2.{pathOf, Handed, Fitting, Comes}
 use Rattle.correctness.proofs.Trails.{distinct-of}
 use Rattle.correctness.proofs.Walking.{rest, Walked, Lands}

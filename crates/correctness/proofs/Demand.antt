@@ -26,9 +26,7 @@ use Rattle.meaning.specs.Values.{Value}
 use Rattle.meaning.specs.Running.{Env}
 use Rattle.meaning.specs.Matching.{matches}
 use Rattle.meaning.specs.Binding.{binds}
-use Rattle.meaning.specs.Fitting.{typesFit}
-use Rattle.meaning.specs.Fit.{bindingsFit}
-use Rattle.meaning.specs.Fits.{fits, nothingRefused, localsDiffer}
+use Rattle.meaning.specs.Fit.{typesFit, bindingsFit, fits, nothingRefused, localsDiffer}
 use Rattle.correctness.specs.Demand2.{pathOf, Handed, Fitting, Stops, Comes}
 use Rattle.correctness.proofs.Walking.{rest, Lands}
 use Rattle.correctness.proofs.Landing.{led-on, led-off, lands-bound}

@@ -18,8 +18,7 @@ use Rattle.place.specs.declared.elems.ProjectionElem.{ProjectionElem}
 use Rattle.pattern_matching.specs.Variants.{fieldsUpTo, resolved}
 use Rattle.meaning.specs.Values.{Value, nothing, partsOf, partAt}
 use Rattle.meaning.specs.Matching.{matchAll, matchRow, matchFields, recordFields, lastItems}
-use Rattle.meaning.specs.Typing.{argumentsFit}
-use Rattle.meaning.specs.Fits.{fieldsThere}
+use Rattle.meaning.specs.Fit.{argumentsFit, fieldsThere}
 use Rattle.meaning.proofs.Children.{ellipsisPlace, from-append, length-from, fields-resolved}
 
 -- nothing is not something

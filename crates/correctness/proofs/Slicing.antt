@@ -31,8 +31,8 @@ use Rattle.growth.proofs.Fields.{grows-adt, grows-items}
 use Rattle.meaning.specs.Values.{Value, Values, Array, Slice, items, nothing, partsOf, partAt, valueFits}
 use Rattle.meaning.specs.Running.{Env, Scene}
 use Rattle.meaning.specs.Matching.{matchAll, longEnough}
-use Rattle.meaning.specs.Typing.{TypeNumber, itemsFit, elementType}
-use Rattle.meaning.specs.Fitting.{itemsAllFit}
+use Rattle.meaning.specs.Typing.{TypeNumber, elementType}
+use Rattle.meaning.specs.Fit.{itemsFit, itemsAllFit}
 use Rattle.meaning.proofs.Parts.{fits-array}
 use Rattle.meaning.proofs.Children.{items-placed, index-valued, end-valued}
 use Rattle.correctness.proofs.Walking.{Lands}

@@ -31,7 +31,7 @@ use Rattle.growth.proofs.Walks.{not-ok}
 use Rattle.meaning.specs.Values.{Value, partAt, placeIn}
 use Rattle.meaning.specs.Running.{Env, Scene, read}
 use Rattle.meaning.specs.Matching.{crossed}
-use Rattle.meaning.specs.Typing.{behind}
+use Rattle.meaning.specs.Fit.{behind}
 use Rattle.meaning.proofs.Crossing.{below, read-below, place-append, behind-first}
 use Rattle.correctness.specs.Demand2.{pathOf}
 

@@ -29,7 +29,7 @@ use Rattle.growth.proofs.Fields.{ShapeGrows, grows-fields}
 use Rattle.meaning.specs.Values.{Value, Values, Variant, items, partsOf, partAt, valueFits, fieldsFit}
 use Rattle.meaning.specs.Running.{Env, Scene, discriminantOf}
 use Rattle.meaning.specs.Matching.{isVariant}
-use Rattle.meaning.specs.Typing.{discriminantsDiffer}
+use Rattle.meaning.specs.Fit.{discriminantsDiffer}
 use Rattle.meaning.proofs.Parts.{fields-length, fits-adt}
 use Rattle.meaning.proofs.Typed.{enum-choice, struct-one}
 use Rattle.meaning.proofs.Children.{struct-valued, enum-valued}

@@ -22,7 +22,7 @@ use Rattle.meaning.specs.Values.{Value, valueFits}
 use Rattle.meaning.specs.Running.{Held, Env, Run}
 use Rattle.meaning.specs.Executing.{Position, Ending, runs}
 use Rattle.meaning.specs.Matching.{Bound}
-use Rattle.meaning.specs.Fits.{fits}
+use Rattle.meaning.specs.Fit.{fits}
 
 -- a place of the lowering, as MIR has it
 abbrev pub pathOf : Place → Path

@@ -24,6 +24,7 @@ use Rattle.counting.proofs.Passing.{Pass, modeOf, After, after-more, af
 use Rattle.counting.proofs.Typed.{On, on-project, holds-entered}
 use Rattle.counting.proofs.Arguments.{Counts, Each}
 use Rattle.counting.proofs.Rows.{AfterArguments, holds-row}
+use Rattle.counting.specs.Cases.{tupleFields}
 
 -- a lowering adds what is counted, from a visit to its pattern on and on a place behind its derefs
 pub record Inside (image : List ℕ) (h : Head) (l : Lowering) (fails : PlaceTy → Bool) (reach : Reaching) : Type 0 where
@@ -51,7 +52,7 @@ inside-refused image h e fails reach = record { goes = λ pass c current els pla
 pub inside-tuple : {image : List ℕ} {ls : List Lowering} {fs : List (PlaceTy → Bool)} {rs : List Reaching} (h : Head) (ellipsis : Option ℕ) → Each image ls fs rs →
     Inside image h (tuplePattern image (h .number) ls ellipsis) (λ ty. someArgument image ty (inARow ellipsis (fieldCount (shapeOf image ty)) fs))
     (λ ty k f. testing h k f 0 0 ∷ throughArguments image ty k (inARow ellipsis (fieldCount (shapeOf image ty)) rs))
-unfolding tuplePattern tupleOn fieldCount
+unfolding tuplePattern tupleOn fieldCount tupleFields
 inside-tuple {image = image} {ls = ls} {fs = fs} {rs = rs} h ellipsis e =
     record {
       goes = λ pass c current els place ty k f o.

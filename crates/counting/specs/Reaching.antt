@@ -6,7 +6,7 @@ use mathlib.Core.List.{List, [], _∷_, _++_, map, reverse}
 use lib.ListN.{length, take, drop}
 use Rattle.image.specs.declared.kinds.AdtKind.{AdtKind}
 use Rattle.image.specs.Lists.{upFrom}
-use Rattle.image.specs.Types.{Shape, integer, bool, char, str, tuple, adt, reference, array, slice, unknown, tyOf, variantOf, Operand}
+use Rattle.image.specs.Types.{Shape, tyOf, variantOf, Operand}
 use Rattle.image.specs.Tree.{Head, Target, unresolved, variant, local, constant, other, Pat, Pats, nil, cons, PatOpt, no, sub}
 use Rattle.place.specs.declared.elems.ProjectionElem.{ProjectionElem}
 use Rattle.place.specs.declared.place_ty.PlaceTy.{PlaceTy}
@@ -14,6 +14,7 @@ use Rattle.place.specs.PlaceTypes.{projectionTy, multiProjectionTy}
 use Rattle.pattern_matching.specs.Variants.{shapeOf, fieldsUpTo}
 use Rattle.pattern_matching.specs.Slices.{RestOf, suffixItems}
 use Rattle.pattern_matching.specs.Patterns.{restOf}
+use Rattle.counting.specs.Cases.{ifThere, tupleFields, ifAdt, ifSlice}
 
 -- the type of a place behind so many references
 unfoldable pub behindDerefs : List ℕ → PlaceTy → ℕ → PlaceTy
@@ -45,17 +46,7 @@ byFields (some i ∷ fields) (x ∷ xs) = record { elems = ProjectionElem.Field 
 
 -- how many fields a tuple has
 unfoldable pub fieldCount : Option Shape → ℕ
-fieldCount none = 0
-fieldCount (some (integer size signed)) = 0
-fieldCount (some bool) = 0
-fieldCount (some char) = 0
-fieldCount (some str) = 0
-fieldCount (some (tuple fields)) = length fields
-fieldCount (some (adt kind variants)) = 0
-fieldCount (some (reference t)) = 0
-fieldCount (some (array t n)) = 0
-fieldCount (some (slice t)) = 0
-fieldCount (some unknown) = 0
+fieldCount shape = ifThere shape (λ s. length (tupleFields s)) 0
 
 abbrev pub isEnumKind : AdtKind → Bool
 isEnumKind AdtKind.Struct = false
@@ -65,30 +56,11 @@ isEnumKind AdtKind.Unknown = false
 
 -- the type at the place is an enum
 unfoldable pub isEnum : Option Shape → Bool
-isEnum none = false
-isEnum (some (integer size signed)) = false
-isEnum (some bool) = false
-isEnum (some char) = false
-isEnum (some str) = false
-isEnum (some (tuple fields)) = false
-isEnum (some (adt kind variants)) = isEnumKind kind
-isEnum (some (reference t)) = false
-isEnum (some (array t n)) = false
-isEnum (some (slice t)) = false
-isEnum (some unknown) = false
+isEnum shape = ifThere shape (λ s. ifAdt s (λ kind variants. isEnumKind kind) false) false
 
 -- a pattern's own type is a slice
 unfoldable pub isSliceShape : Shape → Bool
-isSliceShape (integer size signed) = false
-isSliceShape bool = false
-isSliceShape char = false
-isSliceShape str = false
-isSliceShape (tuple fields) = false
-isSliceShape (adt kind variants) = false
-isSliceShape (reference t) = false
-isSliceShape (array t n) = false
-isSliceShape (slice t) = true
-isSliceShape unknown = false
+isSliceShape shape = ifSlice shape (λ t. true) false
 
 -- the fields of an enum's variant lie behind a Downcast
 unfoldable pub downcast : {A : Type 0} → Bool → ℕ → List (Argument A) → List (Argument A)
@@ -188,16 +160,7 @@ testing h k f tests statements =
 
 -- one that names a variant: on an enum it has a test, which makes two statements
 abbrev pub naming : Head → ℕ → Bool → Bool → Reached
-naming h k f enum =
-    record {
-      number = h .number;
-      ors = k;
-      tests = cond enum 1 0;
-      testStatements = cond enum 2 0;
-      failingAlternative = f;
-      isOr = false;
-      bound = none;
-    }
+naming h k f enum = testing h k f (cond enum 1 0) (cond enum 2 0)
 
 -- one that may bind
 abbrev pub binding : Head → ℕ → Bool → ℕ → ℕ → Option ℕ → Reached

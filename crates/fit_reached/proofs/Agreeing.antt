@@ -16,10 +16,9 @@ use Rattle.place.specs.PlaceTypes.{projectionTy, multiProjectionTy}
 use Rattle.pattern_matching.specs.Variants.{fieldsUpTo}
 use Rattle.pattern_matching.specs.Slices.{suffixItems}
 use Rattle.counting.specs.Reaching.{Argument, zip, inARow, byFields, items, someArgument}
-use Rattle.meaning.specs.Typing.{TypeNumber, argumentsFit}
 use Rattle.meaning.specs.Matching.{recordFields}
-use Rattle.meaning.specs.Fitting.{rowFits, itemsAllFit}
-use Rattle.meaning.specs.Fits.{fieldsThere}
+use Rattle.meaning.specs.Typing.{TypeNumber}
+use Rattle.meaning.specs.Fit.{argumentsFit, rowFits, itemsAllFit, fieldsThere}
 use Rattle.meaning.proofs.Children.{Placed, length-from, row-counted, row-placed, items-placed}
 use Rattle.fit_reached.specs.Failing.{someTrue}
 

@@ -19,11 +19,10 @@ use Rattle.place.specs.PlaceTypes.{projectionTy, Named}
 use Rattle.place.proofs.Named.{named-projection}
 use Rattle.pattern_matching.specs.Variants.{shapeOf}
 use Rattle.counting.specs.Reaching.{Argument, behindDerefs, inARow, byFields, fieldCount, isEnumKind, isEnum, isSliceShape, downcast, ofVariant, items, someArgument, allAlternatives, endCount, pathTests, positive, canFail, failing, canFail?}
-use Rattle.meaning.specs.Values.{kindNumber, hasValues}
-use Rattle.meaning.specs.Typing.{TypeNumber, referent, tupleFields, variantFields, elementType}
-use Rattle.meaning.specs.Fitting.{isThere, rowFits, itemsAllFit, typesFit, fitting, typesFit?}
-use Rattle.meaning.specs.Fit.{patCount}
-use Rattle.meaning.specs.Fits.{hasVariant, fieldsThere, ellipsisWithin, hasLocal, restTaken?, nothingRefused, noneRefused, noneReachedRefused, nothingRefused?}
+use Rattle.counting.specs.Cases.{kindNumber, referent, tupleFields}
+use Rattle.meaning.specs.Values.{hasValues, hasVariant}
+use Rattle.meaning.specs.Typing.{TypeNumber, variantFields, elementType}
+use Rattle.meaning.specs.Fit.{isThere, rowFits, itemsAllFit, typesFit, fitting, typesFit?, patCount, fieldsThere, ellipsisWithin, hasLocal, restTaken?, nothingRefused, noneRefused, noneReachedRefused, nothingRefused?}
 use Rattle.meaning.proofs.Children.{record-placed}
 use Rattle.meaning.proofs.Typed.{headOf, tuple-fits, or-fits, record-fits, slice-fits, bind-fits, tuple-struct-fits, ref-fits, type-here, tuple-field, struct-field, deref-type, index-type, end-index-type, variant-fields, has-variant, struct-one}
 use Rattle.fit_reached.specs.Failing.{someTrue, pathFails, failsBy, failures, failsBy?}

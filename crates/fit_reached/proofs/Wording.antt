@@ -27,9 +27,10 @@ use Rattle.image.proofs.Known.{pattern-holds}
 use Rattle.marks.proofs.Takes.{listed-next, listed-none}
 use Rattle.marks.proofs.Shapes.{pattern-shape}
 use Rattle.place.proofs.Fields.{length-listed}
-use Rattle.meaning.specs.Values.{kindNumber, hasValues}
+use Rattle.counting.specs.Cases.{kindNumber}
+use Rattle.meaning.specs.Values.{hasValues, hasVariant}
 use Rattle.meaning.specs.Typing.{variantsOf}
-use Rattle.meaning.specs.Fits.{hasVariant, fieldsThere, ellipsisWithin, hasLocal, restTaken, restTaken?}
+use Rattle.meaning.specs.Fit.{fieldsThere, ellipsisWithin, hasLocal, restTaken, restTaken?}
 use Rattle.fit_literals.proofs.Shapes.{kind-of}
 use Rattle.fit_types.specs.declared.fields.Fields.{Fields}
 use Rattle.fit_types.specs.Numbers.{FieldsOf}

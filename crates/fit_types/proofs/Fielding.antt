@@ -22,8 +22,9 @@ use Rattle.image.proofs.Known.{variant-holds}
 use Rattle.marks.proofs.Takes.{listed-next, listed-none}
 use Rattle.place.proofs.Fields.{length-listed, listed-at}
 use Rattle.place.proofs.Ranges.{before-range, past-range, in-range}
-use Rattle.meaning.specs.Typing.{tupleFields, variantsOf, variantFields, fieldNumbers}
-use Rattle.meaning.specs.Fitting.{fieldType}
+use Rattle.counting.specs.Cases.{tupleFields}
+use Rattle.meaning.specs.Typing.{variantsOf, variantFields, fieldType}
+use Rattle.meaning.specs.Fit.{fieldNumbers}
 use Rattle.fit_types.specs.declared.TypeNumber.{TypeNumber}
 use Rattle.fit_types.specs.Numbers.{Numbers, TypesAt, FieldsOf, standsAgain}
 use Rattle.fit_types.proofs.Shaped.{tuple-of, adt-of, no-fields, no-variants, tuple-listed}

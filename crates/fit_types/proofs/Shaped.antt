@@ -17,8 +17,9 @@ use Rattle.image.specs.Types.{Shape, integer, bool, char, str, tuple, adt, refe
 use Rattle.image.specs.Tree.{PatOpt}
 use Rattle.image.specs.Valid.{valid}
 use Rattle.image.proofs.Bools.{and-left}
-use Rattle.meaning.specs.Values.{kindNumber}
-use Rattle.meaning.specs.Typing.{referent, tupleFields, variantsOf, discriminantsDiffer, itemsFit, elementType}
+use Rattle.counting.specs.Cases.{kindNumber, referent, tupleFields}
+use Rattle.meaning.specs.Typing.{variantsOf, elementType}
+use Rattle.meaning.specs.Fit.{discriminantsDiffer, itemsFit}
 use Rattle.fit_literals.proofs.Shapes.{shape-of, holds-of, kind-of}
 
 referent-none : (s : Shape) → (kindNumber s ≡ 7 → ⊥) → referent s ≡ none

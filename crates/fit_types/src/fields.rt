@@ -15,8 +15,9 @@ ghost use Rattle.image.specs.Patterns.{variantOrAbsent};
 ghost use Rattle.image.specs.Tree.{word?};
 ghost use Rattle.image.specs.Types.{tyOf};
 ghost use Rattle.image.specs.Valid.{valid};
-ghost use Rattle.meaning.specs.Typing.{tupleFields, variantsOf, variantFields, recordFieldsDiffer};
-ghost use Rattle.meaning.specs.Fitting.{fieldType};
+ghost use Rattle.counting.specs.Cases.{tupleFields};
+ghost use Rattle.meaning.specs.Typing.{variantsOf, variantFields, fieldType};
+ghost use Rattle.meaning.specs.Fit.{recordFieldsDiffer};
 ghost use Rattle.fit_types.specs.Numbers.{Numbers, TypesAt, FieldsOf, standsAgain};
 
 // Where the types of fields stand in the list.

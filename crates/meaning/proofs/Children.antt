@@ -22,13 +22,11 @@ use Rattle.place.specs.PlaceTypes.{projectionTy}
 use Rattle.pattern_matching.specs.Variants.{fieldsUpTo, resolved}
 use Rattle.pattern_matching.specs.Patterns.{lowerings}
 use Rattle.counting.specs.Reaching.{failing}
-use Rattle.meaning.specs.Values.{Value, Values, Variant, nothing, items, derefed, partsOf, partAt, valueFits, fieldsFit, eachFits as eachFitsType}
+use Rattle.meaning.specs.Values.{Value, Values, Variant, nothing, items, derefed, partsOf, partAt, valueFits, fieldsFit, elementsFit}
 use Rattle.meaning.specs.Matching.{recordFields, matchers}
 use Rattle.meaning.specs.Binding.{binders}
-use Rattle.meaning.specs.Typing.{TypeNumber, argumentsFit, elementType}
-use Rattle.meaning.specs.Fitting.{fitting, eachFits, rowFits, fieldType, byFieldsFit, itemsAllFit}
-use Rattle.meaning.specs.Fit.{patCount}
-use Rattle.meaning.specs.Fits.{fieldsThere}
+use Rattle.meaning.specs.Typing.{TypeNumber, elementType, fieldType}
+use Rattle.meaning.specs.Fit.{argumentsFit, fitting, eachFits, rowFits, byFieldsFit, itemsAllFit, patCount, fieldsThere}
 use Rattle.meaning.proofs.Parts.{field-fits, item-fits, fits-tuple, fits-reference, fits-array, fits-slice}
 use Rattle.meaning.proofs.Crossing.{none-some}
 use Rattle.meaning.proofs.Typed.{tuple-field, struct-field, enum-field, deref-type, index-type, end-index-type}
@@ -249,7 +247,7 @@ module _ (image : List ℕ) (t : ℕ) (x : Value) where
   unfolding partAt derefed
   deref-valued u e fits = let (w, q, inner) = fits-reference image x t u e fits in (deref-type image t u e, rw q inner)
 
-  element-of : (vs : Values) (u i : ℕ) → partsOf x ≡ items vs → eachFitsType image vs u ≡ true → i < length (partsOf x) → valueFits image (getD (partsOf x) i nothing) u ≡ true
+  element-of : (vs : Values) (u i : ℕ) → partsOf x ≡ items vs → elementsFit image vs u ≡ true → i < length (partsOf x) → valueFits image (getD (partsOf x) i nothing) u ≡ true
   element-of vs u i q each h = rw q (item-fits image vs u i each (rw q at h))
 
   -- the elements of an array or a slice fit

@@ -25,11 +25,11 @@ use Rattle.image.proofs.Known.{shape-holds}
 use Rattle.refusals.specs.Refusals.{Result, ok}
 use Rattle.mir.specs.declared.rvalues.Constant.{Constant}
 use Rattle.literals.specs.Literals.{constantOf, stringConstant, integerConstant, literalBy, lowerLiteralToOperand, lowerConstToOperand, literalOrConstBy, lowerLiteralOrConstToOperand}
-use Rattle.meaning.specs.Values.{Value, Int, Bool′, Char, Str, Reference, kindNumber}
+use Rattle.counting.specs.Cases.{kindNumber, referent}
+use Rattle.meaning.specs.Values.{Value, Int, Bool′, Char, Str, Reference}
 use Rattle.meaning.specs.Running.{dataBytes, signedNumber, constantNumber, constantBy, constantValue}
 use Rattle.meaning.specs.Matching.{evaluated, created, operandValue}
-use Rattle.meaning.specs.Typing.{integerFits, refersToStr}
-use Rattle.meaning.specs.Fitting.{constantFits, literalFits, endFits}
+use Rattle.meaning.specs.Fit.{integerFits, refersToStr, constantFits, literalFits, endFits}
 use Rattle.meaning.proofs.Cutting.{Bytes, little-split, cut, size-some}
 
 -- an operand that holds, and whose bytes are those of the data
@@ -81,7 +81,7 @@ only-bool (slice t) e = absurd (false≢true e)
 only-bool unknown e = absurd (false≢true e)
 
 only-reference : (image : List ℕ) (s : Shape) → refersToStr image s ≡ true → (u : ℕ) × (s ≡ reference u)
-unfolding refersToStr
+unfolding refersToStr referent
 only-reference image (integer size signed) e = absurd (false≢true e)
 only-reference image bool e = absurd (false≢true e)
 only-reference image char e = absurd (false≢true e)
@@ -143,7 +143,7 @@ module _ (image : List ℕ) (t : ℕ) (few : t < 256) where
       whole true = unfold signedNumber integerValue in refl
 
   string-by : (u offset : ℕ) (bytes : List ℕ) → bytes ≡ dataBytes image offset (length bytes) → constantBy (reference u) image (stringConstant t offset (length bytes)) ≡ Reference (Str bytes)
-  unfolding constantBy stringConstant
+  unfolding constantBy stringConstant referent
   string-by u offset bytes there = ap (λ (bs : List ℕ). Reference (Str bs)) (sym there)
 
   -- an evaluated constant, at what its type is

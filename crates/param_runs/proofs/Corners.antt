@@ -44,11 +44,10 @@ use Rattle.pattern_matching.specs.Patterns.{alternatives, alternativesEnd, orPa
 use Rattle.lowered_params.specs.Params.{paramLocal, byValue, plainBind, plainBinding, boundTo, declareSelf, declareParam, declareParams, declareBinding, declareBindings, declare, shutElse, shut, unlessBound, unlessOwn, lowerParam, lowerParams, selfCount, lowerAll, lowerParamsAndBindings}
 use Rattle.lowered_params.specs.Calls.{bindsReceiver, noneBindsReceiver, receiverApart}
 use Rattle.image.specs.Integers.{leastValue, greatestValue, inRange, integerValue}
-use Rattle.meaning.specs.Values.{items, partsOf, intFits, kindNumber, fieldTypes, valueFits}
-use Rattle.meaning.specs.Typing.{referent, behind, typeIsThePlaces, tupleFields, variantsOf, argumentsFit, discriminantsDiffer, integerFits}
-use Rattle.meaning.specs.Fitting.{literalFits, pathFits, rowFits, eachFits, typesFit}
-use Rattle.meaning.specs.Fit.{boundIn, bindingsFit}
-use Rattle.meaning.specs.Fits.{hasVariant, pathTaken, nothingRefused, present, localsDiffer, fits}
+use Rattle.counting.specs.Cases.{kindNumber, tupleFields, referent}
+use Rattle.meaning.specs.Values.{items, partsOf, intFits, hasVariant, valueFits}
+use Rattle.meaning.specs.Typing.{variantsOf}
+use Rattle.meaning.specs.Fit.{behind, typeIsThePlaces, argumentsFit, discriminantsDiffer, integerFits, literalFits, pathFits, rowFits, eachFits, typesFit, boundIn, bindingsFit, pathTaken, nothingRefused, present, localsDiffer, fits}
 use Rattle.meaning.specs.Matching.{crossed, created, matchAll, matchRow, isVariant, pathMatches, matches}
 use Rattle.meaning.specs.Running.{scalarOf, bytesOf, sameValue}
 use Rattle.param_runs.specs.Returned.{ownLocal}
@@ -113,5 +112,5 @@ as-wanted = refl
 
 -- whether the parameters fit the values beside them, as the theorem on runs asks
 pub fit-as-said : map cornerFits rows ≡ map (λ (row : Row). row .fit) rows
-unfolding wordAt littleEndian tablesOf typeAt variantAt patAt bindingAt listAt operandAt operandBytes allBelow allIn allTrue member distinct upFrom gather isScalarValue operandValueHolds operandHolds countsWhatFollows versionIsOne tablesFillTheRest listed typesListed isIntegerSize adtMayHave typeShapeHolds typeHolds variantsBy adtsShareNoVariant variantHolds bindingHolds withinLimits ifPresent subpatternsBy pathHolds patternShapeHolds patternHolds subpatternsBelow usedOnce valid shapeBy tyOf variantOf bindingOf operandOf word? operand? trees tree? target nodeBy node treeOf tree leastValue greatestValue inRange integerValue items partsOf intFits kindNumber fieldTypes valueFits referent behind typeIsThePlaces tupleFields variantsOf argumentsFit discriminantsDiffer integerFits literalFits pathFits rowFits eachFits typesFit boundIn bindingsFit hasVariant pathTaken nothingRefused present localsDiffer fits crossed created matchAll matchRow isVariant pathMatches matches scalarOf bytesOf sameValue Rattle.meaning.specs.Typing.variantFields ownLocal plain patternFits paramFits paramsFit allFit paramsBound cornerFits
+unfolding wordAt littleEndian tablesOf typeAt variantAt patAt bindingAt listAt operandAt operandBytes allBelow allIn allTrue member distinct upFrom gather isScalarValue operandValueHolds operandHolds countsWhatFollows versionIsOne tablesFillTheRest listed typesListed isIntegerSize adtMayHave typeShapeHolds typeHolds variantsBy adtsShareNoVariant variantHolds bindingHolds withinLimits ifPresent subpatternsBy pathHolds patternShapeHolds patternHolds subpatternsBelow usedOnce valid shapeBy tyOf variantOf bindingOf operandOf word? operand? trees tree? target nodeBy node treeOf tree leastValue greatestValue inRange integerValue kindNumber tupleFields referent items partsOf intFits hasVariant valueFits variantsOf behind typeIsThePlaces argumentsFit discriminantsDiffer integerFits literalFits pathFits rowFits eachFits typesFit boundIn bindingsFit pathTaken nothingRefused present localsDiffer fits crossed created matchAll matchRow isVariant pathMatches matches scalarOf bytesOf sameValue Rattle.meaning.specs.Typing.variantFields ownLocal plain patternFits paramFits paramsFit allFit paramsBound cornerFits
 fit-as-said = refl

@@ -14,8 +14,7 @@ use Rattle.lowered_params.specs.Params.{Param}
 use Rattle.meaning.specs.Values.{Value}
 use Rattle.meaning.specs.Running.{Held, Env}
 use Rattle.meaning.specs.Binding.{binds}
-use Rattle.meaning.specs.Fit.{boundIn}
-use Rattle.meaning.specs.Fits.{present, localsDiffer}
+use Rattle.meaning.specs.Fit.{boundIn, present, localsDiffer}
 use Rattle.correctness.specs.Demand2.{after}
 use Rattle.correctness.proofs.Permuting.{each-map, localOf, after-untouched}
 use Rattle.correctness.proofs.BindingNames.{not-and, names, Among, binds-among, locals-apart, present-member, member-left, member-right}

@@ -5,7 +5,7 @@ use Rattle.fit_literals.proofs.integers.integer_fits.Reads as reads
 use Rattle.fit_literals.proofs.integers.integer_fits.Lts as lts
 use Rattle.fit_literals.proofs.integers.in_range.Reads as in-range-reads
 use Rattle.image.specs.Types.{shapeBy}
-use Rattle.meaning.specs.Typing.{integerFits}
+use Rattle.meaning.specs.Fit.{integerFits}
 use Rattle.fit_literals.proofs.Shapes.{integer-sized, not-integer}
 
 in-range-requires : tie.Need-in-range-requires
