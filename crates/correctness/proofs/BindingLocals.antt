@@ -103,7 +103,7 @@ module _ (image bindings : List ℕ) where
     all-local (Pat.Path h target) e = local-none bindings
     all-local (Pat.Lit h operand) e = local-none bindings
     all-local (Pat.Bind h b s how annotation) e =
-        local-cons bindings (record { binding = b; ty = h .ty; left = none }) (boundIn? image s)
+        local-cons bindings (record { binding = b; ty = h .ty; lengthLeft = none }) (boundIn? image s)
         (not-eqb (getD bindings b 65535) 65535 (and-left (hasLocal bindings b) (nothingRefused? image bindings s) e))
         (local? s (and-right (hasLocal bindings b) (nothingRefused? image bindings s) e))
     all-local (Pat.TupleStruct h args ellipsis v) e =

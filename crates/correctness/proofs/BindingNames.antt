@@ -122,7 +122,7 @@ stands-among x [] e = absurd (false≢true e)
 stands-among x (y ∷ ys) e =
     let b = eqb (x .binding) (y .binding) in
     let t = eqb (x .ty) (y .ty) in
-    let n = sameCount (x .left) (y .left) in
+    let n = sameCount (x .lengthLeft) (y .lengthLeft) in
     or-elim (b && t && n) (standsIn x ys) e (λ q. or-left b (member (x .binding) (names ys)) (and-left b t (and-left (b && t) n q)))
     (λ q. or-right b (member (x .binding) (names ys)) (stands-among x ys q))
 
@@ -237,7 +237,7 @@ module _ (image : List ℕ) where
     binds-among (Pat.Bind h b s how annotation) f path v =
         let here = crossedPath (h .derefs) path in
         let x = crossed (h .derefs) v in
-        let own : BoundAt = record { binding = b; ty = h .ty; left = none } in
+        let own : BoundAt = record { binding = b; ty = h .ty; lengthLeft = none } in
         let bound : Bound = record { binding = b; what = boundAs how here x } in
         let below = binds? image s here x in
         each-append (Among (own ∷ boundIn? image s)) below (bound ∷ [])

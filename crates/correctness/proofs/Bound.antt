@@ -29,7 +29,7 @@ use Rattle.meaning.specs.Fit.{typesFit, fitting, typesFit?, BoundAt, within, pa
 use Rattle.meaning.proofs.Cutting.{Bytes}
 use Rattle.meaning.proofs.Typed.{headOf, tuple-fits, or-fits, record-fits, slice-fits, bind-fits, tuple-struct-fits, ref-fits, type-behind, value-here}
 use Rattle.meaning.proofs.Children.{lowerings-count, deref-valued}
-use Rattle.correctness.specs.Demand2.{pathOf}
+use Rattle.correctness.specs.Demand2.{placePath}
 use Rattle.correctness.proofs.OfImages.{OfImage, AllOfImage, OfImage?}
 use Rattle.correctness.proofs.Checked.{any-of, all-check}
 use Rattle.correctness.proofs.Choosing.{firstOf}
@@ -107,7 +107,7 @@ module _ (scene : Scene) (word : ℕ) (bindings : List ℕ) (M : Mir) (holds : v
               record {
                 fill = λ ctx c els place r root ready s e.
                     subst (λ (bs : List Bound). Fills scene bindings M ctx c els bs r)
-                    (first-binds image read (crossedPath (h .derefs) (pathOf place)) x) (g .fill ctx c els place r root ready s e);
+                    (first-binds image read (crossedPath (h .derefs) (placePath place)) x) (g .fill ctx c els place r root ready s e);
               };
         }
     bound (Pat.Record h fields args v) f there of =
@@ -187,7 +187,7 @@ module _ (scene : Scene) (word : ℕ) (bindings : List ℕ) (M : Mir) (holds : v
     bound (Pat.Bind h b s how annotation) f there of =
         let image = scene .image in
         let pat = Pat.Bind h b s how annotation in
-        let own : BoundAt = record { binding = b; ty = h .ty; left = none } in
+        let own : BoundAt = record { binding = b; ty = h .ty; lengthLeft = none } in
         let c = bound? s (and-right (bindOnce image (own ∷ boundIn? image s)) (bindingsFit? image s) f) (local-right bindings (own ∷ []) (boundIn? image s) there) of in
         record {
           fills = λ t w fits match value.

@@ -12,9 +12,8 @@ use Rattle.place.specs.declared.elems.ProjectionElem.{ProjectionElem}
 use Rattle.place.specs.declared.place_ty.PlaceTy.{PlaceTy}
 use Rattle.place.specs.PlaceTypes.{projectionTy, multiProjectionTy}
 use Rattle.pattern_matching.specs.Variants.{shapeOf, fieldsUpTo}
-use Rattle.pattern_matching.specs.Slices.{RestOf, suffixItems}
-use Rattle.pattern_matching.specs.Patterns.{restOf}
-use Rattle.counting.specs.Cases.{ifThere, tupleFields, ifAdt, ifSlice}
+use Rattle.pattern_matching.specs.Slices.{suffixItems}
+use Rattle.counting.specs.Cases.{ifThere, tupleFields, ifAdt, ifSlice, ifBind}
 
 -- the type of a place behind so many references
 unfoldable pub behindDerefs : List ℕ → PlaceTy → ℕ → PlaceTy
@@ -73,8 +72,8 @@ ofVariant image ty none args = []
 ofVariant image ty (some v) args = downcast (isEnum (shapeOf image ty)) v (args (length (variantOf image v .fields)))
 
 -- the items of a Slice pattern
-unfoldable pub items : {A : Type 0} → List A → List A → List (Argument A)
-items prefix suffix =
+unfoldable pub sliceArguments : {A : Type 0} → List A → List A → List (Argument A)
+sliceArguments prefix suffix =
     zip (map (λ i. ProjectionElem.Index i) (upFrom 0 (length prefix))) prefix
     ++ zip (suffixItems (length suffix)) suffix
 
@@ -122,7 +121,7 @@ module _ (image : List ℕ) where
         isEnum (shapeOf image here) || someArgument image here (ofVariant image here v (λ n. byFields fields (failing args)))
     canFail (Pat.Range h start end halfOpen) ty = positive (endCount start + endCount end)
     canFail (Pat.Slice h prefix rest suffix) ty =
-        isSliceShape (tyOf image (h .ty) .shape) || someArgument image (behindDerefs image ty (h .derefs)) (items (failing prefix) (failing suffix))
+        isSliceShape (tyOf image (h .ty) .shape) || someArgument image (behindDerefs image ty (h .derefs)) (sliceArguments (failing prefix) (failing suffix))
     canFail (Pat.Path h target) ty = positive (pathTests image (behindDerefs image ty (h .derefs)) target)
     canFail (Pat.Lit h operand) ty = true
     canFail (Pat.Bind h b s how annotation) ty = canFail? s (behindDerefs image ty (h .derefs))
@@ -171,16 +170,14 @@ abbrev pub anOr : Head → ℕ → Bool → Reached
 anOr h k f = record { number = h .number; ors = k; tests = 0; testStatements = 0; failingAlternative = f; isOr = true; bound = none }
 
 -- "a test makes 2, but .. of a Slice with a rest 4"
-unfoldable pub lengthStatements : RestOf → ℕ
-lengthStatements RestOf.none = 2
-lengthStatements (RestOf.binds q b how) = 4
-lengthStatements RestOf.ignores = 4
+unfoldable pub lengthStatements : PatOpt → ℕ
+lengthStatements no = 2
+lengthStatements (sub rest) = 4
 
 -- the binding of a Slice's rest that is one
-unfoldable pub restBinding : RestOf → Option ℕ
-restBinding RestOf.none = none
-restBinding (RestOf.binds q b how) = some b
-restBinding RestOf.ignores = none
+unfoldable pub restBinding : PatOpt → Option ℕ
+restBinding no = none
+restBinding (sub rest) = ifBind rest (λ h b s how. some b) none
 
 unfoldable pub pathReached : List ℕ → PlaceTy → Target → Head → ℕ → Bool → Reached
 pathReached image ty unresolved h k f = testing h k f 0 0
@@ -225,8 +222,8 @@ module _ (image : List ℕ) where
         testing h k f ends (ends + ends) ∷ []
     reached (Pat.Slice h prefix rest suffix) ty k f =
         let tested = isSliceShape (tyOf image (h .ty) .shape) in
-        binding h k f (cond tested 1 0) (cond tested (lengthStatements (restOf rest)) 0) (restBinding (restOf rest))
-        ∷ throughArguments image (behindDerefs image ty (h .derefs)) k (items (reachings prefix) (reachings suffix))
+        binding h k f (cond tested 1 0) (cond tested (lengthStatements rest) 0) (restBinding rest)
+        ∷ throughArguments image (behindDerefs image ty (h .derefs)) k (sliceArguments (reachings prefix) (reachings suffix))
     reached (Pat.Path h target) ty k f = pathReached image (behindDerefs image ty (h .derefs)) target h k f ∷ []
     reached (Pat.Lit h operand) ty k f = testing h k f 1 2 ∷ []
     reached (Pat.Bind h b s how annotation) ty k f = binding h k f 0 0 (some b) ∷ reaching? s (behindDerefs image ty (h .derefs)) k false

@@ -147,7 +147,7 @@ module _ (image : List ℕ) where
   split-by PatKind.Bind p row r = record {
     front = [];
     back = boundInAll image (trees (tree image) (numbers image 0 (row .b) (cond (eqb (row .b) absent) 0 1)));
-    whole-is = ap (λ (zs : List BoundAt). record { binding = row .a; ty = row .ty; left = none } ∷ zs) (bound-present (tree image) (row .b));
+    whole-is = ap (λ (zs : List BoundAt). record { binding = row .a; ty = row .ty; lengthLeft = none } ∷ zs) (bound-present (tree image) (row .b));
     rest-is = refl;
   }
   split-by PatKind.TupleStruct p row r = split-none (ap (λ (xs : List ℕ). boundInAll image (trees (tree image) xs)) (sym (numbers-listed image 0 (row .a) (row .b))))

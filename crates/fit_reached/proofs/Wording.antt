@@ -29,7 +29,7 @@ use Rattle.marks.proofs.Shapes.{pattern-shape}
 use Rattle.place.proofs.Fields.{length-listed}
 use Rattle.counting.specs.Cases.{kindNumber}
 use Rattle.meaning.specs.Values.{hasValues, hasVariant}
-use Rattle.meaning.specs.Typing.{variantsOf}
+use Rattle.meaning.specs.Typing.{adtVariants}
 use Rattle.meaning.specs.Fit.{fieldsThere, ellipsisWithin, hasLocal, restTaken, restTaken?}
 use Rattle.fit_literals.proofs.Shapes.{kind-of}
 use Rattle.fit_types.specs.declared.fields.Fields.{Fields}
@@ -65,8 +65,8 @@ module _ (image : List ℕ) (t : ℕ) {row : TypeRow} (at : row ≡ typeAt image
   values-by is told e = e ∙ rw (adt-of image t at is, told)
 
 -- a variant, in two parts
-variant-parts : (s : Shape) (v : ℕ) → hasVariant s (some v) ≡ valued s && member v (variantsOf s)
-unfolding hasVariant valued variantsOf
+variant-parts : (s : Shape) (v : ℕ) → hasVariant s (some v) ≡ valued s && member v (adtVariants s)
+unfolding hasVariant valued adtVariants
 variant-parts (integer size signed) v = refl
 variant-parts bool v = refl
 variant-parts char v = refl
@@ -97,7 +97,7 @@ module _ (s : Shape) (v : ℕ) where
     pub not-valued : r ≡ false → false ≡ hasVariant s (some v)
     not-valued e = sym (variant-parts s v ∙ rw (sym values ∙ e))
 
-    pub is-valued : r ≡ true → {b : Bool} → b ≡ member v (variantsOf s) → b ≡ hasVariant s (some v)
+    pub is-valued : r ≡ true → {b : Bool} → b ≡ member v (adtVariants s) → b ≡ hasVariant s (some v)
     is-valued e h = h ∙ sym (variant-parts s v ∙ rw (sym values ∙ e))
 
   -- `variant_taken`

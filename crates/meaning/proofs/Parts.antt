@@ -16,7 +16,7 @@ use Rattle.image.specs.Integers.{inRange}
 use Rattle.image.specs.Types.{Shape, integer, bool, char, str, tuple, adt, reference, array, slice, unknown, tyOf, variantOf}
 use Rattle.image.proofs.Bools.{and-left, and-right}
 use Rattle.counting.specs.Cases.{ifThere, kindNumber, tupleFields, referent, ifArray, ifSlice}
-use Rattle.meaning.specs.Values.{Value, Int, Bool′, Char, Str, Tuple, Variant, Reference, Array, Slice, Values, nil, cons, items, nothing, hasValues, shorter, intFits, hasVariant, valueFits, fieldsFit, elementsFit}
+use Rattle.meaning.specs.Values.{Value, Int, Bool′, Char, Str, Tuple, Adt, Reference, Array, Slice, Values, noMore, more, items, unitValue, hasValues, shorter, intFits, hasVariant, valueFits, fieldsFit, elementsFit}
 
 -- the kind of a value, by the numbers of types' kinds
 kindOf : Value → ℕ
@@ -25,7 +25,7 @@ kindOf (Bool′ b) = 2
 kindOf (Char c) = 3
 kindOf (Str bytes) = 4
 kindOf (Tuple vs) = 5
-kindOf (Variant v vs) = 6
+kindOf (Adt v vs) = 6
 kindOf (Reference v) = 7
 kindOf (Array vs) = 8
 kindOf (Slice vs) = 9
@@ -39,7 +39,7 @@ Kinds v =
     ∷ ((c : ℕ) × (v ≡ Char c))
     ∷ ((bytes : List ℕ) × (v ≡ Str bytes))
     ∷ ((vs : Values) × (v ≡ Tuple vs))
-    ∷ ((w : ℕ) × (vs : Values) × (v ≡ Variant w vs))
+    ∷ ((w : ℕ) × (vs : Values) × (v ≡ Adt w vs))
     ∷ ((w : Value) × (v ≡ Reference w))
     ∷ ((vs : Values) × (v ≡ Array vs))
     ∷ ((vs : Values) × (v ≡ Slice vs))
@@ -55,7 +55,7 @@ is-kind (Bool′ b) = (b, refl)
 is-kind (Char c) = (c, refl)
 is-kind (Str bytes) = (bytes, refl)
 is-kind (Tuple vs) = (vs, refl)
-is-kind (Variant w vs) = (w, vs, refl)
+is-kind (Adt w vs) = (w, vs, refl)
 is-kind (Reference w) = (w, refl)
 is-kind (Array vs) = (vs, refl)
 is-kind (Slice vs) = (vs, refl)
@@ -135,7 +135,7 @@ module _ (image : List ℕ) where
   fits-kind (Str bytes) t e = eqb-true (kindNumber (tyOf image t .shape)) 4 (and-left (eqb (kindNumber (tyOf image t .shape)) 4) (shorter (length bytes)) e)
   fits-kind (Tuple vs) t e =
       eqb-true (kindNumber (tyOf image t .shape)) 5 (and-left (eqb (kindNumber (tyOf image t .shape)) 5) (fieldsFit image vs (tupleFields (tyOf image t .shape))) e)
-  fits-kind (Variant w vs) t e =
+  fits-kind (Adt w vs) t e =
       adt-kind (tyOf image t .shape) w (and-left (hasVariant (tyOf image t .shape) (some w)) (fieldsFit image vs (variantOf image w .fields)) e)
   fits-kind (Reference w) t e = reference-kind (tyOf image t .shape) (λ u. valueFits image w u) e
   fits-kind (Array vs) t e = array-kind (tyOf image t .shape) (λ u n. eqb (length (items vs)) n && elementsFit image vs u) e
@@ -164,7 +164,7 @@ module _ (image : List ℕ) where
   unfolding valueFits kindNumber tupleFields
   tuple-part vs t fields e h = rw e at h
 
-  variant-part : (w : ℕ) (vs : Values) (t : ℕ) (kind : AdtKind) (variants : List ℕ) → tyOf image t .shape ≡ adt kind variants → valueFits image (Variant w vs) t ≡ true
+  variant-part : (w : ℕ) (vs : Values) (t : ℕ) (kind : AdtKind) (variants : List ℕ) → tyOf image t .shape ≡ adt kind variants → valueFits image (Adt w vs) t ≡ true
       → (hasValues kind ≡ true) × (member w variants ≡ true) × (fieldsFit image vs (variantOf image w .fields) ≡ true)
   unfolding valueFits hasVariant
   variant-part w vs t kind variants e h =
@@ -193,25 +193,25 @@ module _ (image : List ℕ) where
   -- values in a row that fit types in a row: as many, each its own
   pub fields-length : (vs : Values) (ts : List ℕ) → fieldsFit image vs ts ≡ true → length (items vs) ≡ length ts
   unfolding fieldsFit items
-  fields-length nil [] e = refl
-  fields-length nil (t ∷ ts) e = absurd (false≢true e)
-  fields-length (cons v vs) [] e = absurd (false≢true e)
-  fields-length (cons v vs) (t ∷ ts) e = ap suc (fields-length vs ts (and-right (valueFits image v t) (fieldsFit image vs ts) e))
+  fields-length noMore [] e = refl
+  fields-length noMore (t ∷ ts) e = absurd (false≢true e)
+  fields-length (more v vs) [] e = absurd (false≢true e)
+  fields-length (more v vs) (t ∷ ts) e = ap suc (fields-length vs ts (and-right (valueFits image v t) (fieldsFit image vs ts) e))
 
-  pub field-fits : (vs : Values) (ts : List ℕ) (i : ℕ) → fieldsFit image vs ts ≡ true → i < length ts → valueFits image (getD (items vs) i nothing) (getD ts i 0) ≡ true
+  pub field-fits : (vs : Values) (ts : List ℕ) (i : ℕ) → fieldsFit image vs ts ≡ true → i < length ts → valueFits image (getD (items vs) i unitValue) (getD ts i 0) ≡ true
   unfolding fieldsFit items
-  field-fits nil [] i e h = absurd (omega arith)
-  field-fits nil (t ∷ ts) i e h = absurd (false≢true e)
-  field-fits (cons v vs) [] i e h = absurd (false≢true e)
-  field-fits (cons v vs) (t ∷ ts) zero e h = and-left (valueFits image v t) (fieldsFit image vs ts) e
-  field-fits (cons v vs) (t ∷ ts) (suc i) e h = field-fits vs ts i (and-right (valueFits image v t) (fieldsFit image vs ts) e) (omega arith)
+  field-fits noMore [] i e h = absurd (omega arith)
+  field-fits noMore (t ∷ ts) i e h = absurd (false≢true e)
+  field-fits (more v vs) [] i e h = absurd (false≢true e)
+  field-fits (more v vs) (t ∷ ts) zero e h = and-left (valueFits image v t) (fieldsFit image vs ts) e
+  field-fits (more v vs) (t ∷ ts) (suc i) e h = field-fits vs ts i (and-right (valueFits image v t) (fieldsFit image vs ts) e) (omega arith)
 
   -- values that all fit one type
-  pub item-fits : (vs : Values) (t i : ℕ) → elementsFit image vs t ≡ true → i < length (items vs) → valueFits image (getD (items vs) i nothing) t ≡ true
+  pub item-fits : (vs : Values) (t i : ℕ) → elementsFit image vs t ≡ true → i < length (items vs) → valueFits image (getD (items vs) i unitValue) t ≡ true
   unfolding elementsFit items
-  item-fits nil t i e h = absurd (omega arith)
-  item-fits (cons v vs) t zero e h = and-left (valueFits image v t) (elementsFit image vs t) e
-  item-fits (cons v vs) t (suc i) e h = item-fits vs t i (and-right (valueFits image v t) (elementsFit image vs t) e) (omega arith)
+  item-fits noMore t i e h = absurd (omega arith)
+  item-fits (more v vs) t zero e h = and-left (valueFits image v t) (elementsFit image vs t) e
+  item-fits (more v vs) t (suc i) e h = item-fits vs t i (and-right (valueFits image v t) (elementsFit image vs t) e) (omega arith)
 
   -- a value that fits an integer type, bool, char or str
   pub fits-integer : (v : Value) (t size : ℕ) (signed : Bool) → tyOf image t .shape ≡ integer size signed → valueFits image v t ≡ true → (z : ℤ) × (v ≡ Int z) × (inRange size signed z ≡ true)
@@ -237,7 +237,7 @@ module _ (image : List ℕ) where
 
   -- a struct or an enum has the value's variant, whose fields fit
   pub fits-adt : (v : Value) (t : ℕ) (kind : AdtKind) (variants : List ℕ) → tyOf image t .shape ≡ adt kind variants → valueFits image v t ≡ true
-      → (w : ℕ) × (vs : Values) × (v ≡ Variant w vs) × (hasValues kind ≡ true) × (member w variants ≡ true) × (fieldsFit image vs (variantOf image w .fields) ≡ true)
+      → (w : ℕ) × (vs : Values) × (v ≡ Adt w vs) × (hasValues kind ≡ true) × (member w variants ≡ true) × (fieldsFit image vs (variantOf image w .fields) ≡ true)
   unfolding kindNumber
   fits-adt v t kind variants e h =
       let (w, vs, q) = is-of v t e h in

@@ -9,7 +9,7 @@ use lib.Dec.{eqb, ltb, leb}
 use lib.ListN.{length, getD, take, drop}
 use Rattle.image.specs.declared.kinds.OperandKind.{OperandKind}
 use Rattle.image.specs.Bytes.{littleEndian}
-use Rattle.image.specs.Integers.{inRange, integerValue}
+use Rattle.image.specs.Integers.{integerValue}
 use Rattle.image.specs.Lists.{allTrue, distinct}
 use Rattle.image.specs.Operands.{isScalarValue}
 use Rattle.image.specs.Types.{Shape, tyOf, variantOf, Operand}
@@ -17,7 +17,7 @@ use Rattle.image.specs.Tree.{Head, Target, unresolved, variant, local, constant
 use Rattle.place.specs.declared.place_ty.PlaceTy.{PlaceTy}
 use Rattle.counting.specs.Cases.{ifThere, kindNumber, ifScalar, tupleFields, ifAdt, referent, ifArray, ifBind, patternKind}
 use Rattle.counting.specs.Reaching.{isEnumKind, canFail}
-use Rattle.meaning.specs.Values.{hasVariant}
+use Rattle.meaning.specs.Values.{intFits, hasVariant}
 use Rattle.meaning.specs.Matching.{longEnough}
 use Rattle.meaning.specs.Typing.{TypeNumber, variantFields, fieldType, elementType}
 
@@ -71,7 +71,7 @@ restFits (sub rest) = isRest rest || eqb (patternKind rest) 3 || ifBind rest (λ
 
 -- "literals are integer, bool, char or String on a reference to str; .. a literal or constant has its type's kind and holds a value in its range": an integer
 unfoldable pub integerFits : Shape → Bool → List ℕ → Bool
-integerFits shape negative bytes = ifScalar shape (λ size signed. inRange size signed (integerValue negative bytes)) false false false
+integerFits shape asSigned bytes = intFits shape (integerValue asSigned bytes)
 
 -- a String
 unfoldable pub refersToStr : List ℕ → Shape → Bool
@@ -197,7 +197,7 @@ module _ (image : List ℕ) where
 pub record BoundAt : Type 0 where
   pub binding : ℕ
   pub ty : ℕ
-  pub left : Option ℕ
+  pub lengthLeft : Option ℕ
 
 abbrev pub sameCount : Option ℕ → Option ℕ → Bool
 sameCount none none = true
@@ -208,7 +208,7 @@ sameCount (some m) (some n) = eqb m n
 -- the same binding at the same type
 unfoldable pub standsIn : BoundAt → List BoundAt → Bool
 standsIn x [] = false
-standsIn x (y ∷ ys) = (eqb (x .binding) (y .binding) && eqb (x .ty) (y .ty) && sameCount (x .left) (y .left)) || standsIn x ys
+standsIn x (y ∷ ys) = (eqb (x .binding) (y .binding) && eqb (x .ty) (y .ty) && sameCount (x .lengthLeft) (y .lengthLeft)) || standsIn x ys
 
 unfoldable pub within : List BoundAt → List BoundAt → Bool
 within [] ys = true
@@ -219,7 +219,7 @@ sameBindings xs ys = within xs ys && within ys xs
 
 -- "A rest's binding has the slice's number, or, of an array, element and count left"
 unfoldable pub restTy : Shape → ℕ → ℕ → ℕ → BoundAt
-restTy shape b t items = ifArray shape (λ u n. record { binding = b; ty = u; left = some (n - items) }) (record { binding = b; ty = t; left = none })
+restTy shape b t items = ifArray shape (λ u n. record { binding = b; ty = u; lengthLeft = some (n - items) }) (record { binding = b; ty = t; lengthLeft = none })
 
 unfoldable pub restBound : Pat → Shape → ℕ → ℕ → List BoundAt
 restBound rest shape t items = ifBind rest (λ h b s how. restTy shape b t items ∷ []) []
@@ -248,7 +248,7 @@ module _ (image : List ℕ) where
         boundInAll prefix ++ (restBound? rest (tyOf image (h .ty) .shape) (h .ty) (patCount prefix + patCount suffix) ++ boundInAll suffix)
     boundIn (Pat.Path h target) = []
     boundIn (Pat.Lit h operand) = []
-    boundIn (Pat.Bind h b s how annotation) = record { binding = b; ty = h .ty; left = none } ∷ boundIn? s
+    boundIn (Pat.Bind h b s how annotation) = record { binding = b; ty = h .ty; lengthLeft = none } ∷ boundIn? s
     boundIn (Pat.TupleStruct h args ellipsis v) = boundInAll args
     boundIn (Pat.Ref h s) = boundIn s
     boundIn (Pat.Expr h) = []

@@ -17,7 +17,7 @@ use Rattle.place.specs.declared.elems.ProjectionElem.{ProjectionElem}
 use Rattle.views.specs.Views.{Path}
 use Rattle.counting.specs.Cases.{ifThere, ifScalar, ifAdt}
 use Rattle.counting.specs.Reaching.{isEnumKind}
-use Rattle.meaning.specs.Values.{Value, Int, Bool′, Char, Str, Reference, nothing, partsOf, ifVariant, partAt}
+use Rattle.meaning.specs.Values.{Value, Int, Bool′, Char, Str, Reference, unitValue, partsOf, ifVariant, partAt}
 use Rattle.meaning.specs.Running.{Held, value, refersTo, both, scalarOf, notAbove, sameValue}
 
 -- a place one element on
@@ -36,7 +36,7 @@ crossedPath (suc n) path = crossedPath n (onto path ProjectionElem.Deref)
 -- the value of an evaluated constant, at what its type is [patterns.const.primitive, patterns.range.path-value]
 unfoldable pub evaluated : Shape → List ℕ → Value
 evaluated shape bytes =
-    ifScalar shape (λ size signed. Int (integerValue signed bytes)) (Bool′ (not (eqb (littleEndian bytes) 0))) (Char (littleEndian bytes)) nothing
+    ifScalar shape (λ size signed. Int (integerValue signed bytes)) (Bool′ (not (eqb (littleEndian bytes) 0))) (Char (littleEndian bytes)) unitValue
 
 -- "Literal patterns match exactly the same value as what is created by the literal." [patterns.literal.intro, patterns.range.literal-value]
 unfoldable pub created : OperandKind → Shape → List ℕ → Value
@@ -45,12 +45,12 @@ created OperandKind.Uint shape bytes = Int (integerValue false bytes)
 created OperandKind.Char shape bytes = Char (littleEndian bytes)
 created OperandKind.Bool shape bytes = Bool′ (not (eqb (littleEndian bytes) 0))
 created OperandKind.Str shape bytes = Reference (Str bytes)
-created OperandKind.CStr shape bytes = nothing
-created OperandKind.ByteStr shape bytes = nothing
+created OperandKind.CStr shape bytes = unitValue
+created OperandKind.ByteStr shape bytes = unitValue
 created OperandKind.Constant shape bytes = evaluated shape bytes
-created OperandKind.Float shape bytes = nothing
-created OperandKind.Other shape bytes = nothing
-created OperandKind.Unknown shape bytes = nothing
+created OperandKind.Float shape bytes = unitValue
+created OperandKind.Other shape bytes = unitValue
+created OperandKind.Unknown shape bytes = unitValue
 
 abbrev pub operandValue : List ℕ → ℕ → Operand → Value
 operandValue image t operand = created (operand .kind) (tyOf image t .shape) (operand .bytes)
@@ -88,7 +88,7 @@ unfoldable pub matchFields : List (Option ℕ) → List (Value → Bool) → Lis
 matchFields [] ms vs = true
 matchFields (i ∷ fields) [] vs = true
 matchFields (none ∷ fields) (m ∷ ms) vs = false
-matchFields (some i ∷ fields) (m ∷ ms) vs = m (getD vs i nothing) && matchFields fields ms vs
+matchFields (some i ∷ fields) (m ∷ ms) vs = m (getD vs i unitValue) && matchFields fields ms vs
 
 -- a value of the variant v [patterns.struct.namespace, patterns.tuple-struct.namespace, patterns.path.intro]
 unfoldable pub isVariant : Option ℕ → Value → Bool

@@ -23,7 +23,7 @@ use Rattle.mir.specs.declared.rvalues.PlaceRvalue.{PlaceRvalue}
 use Rattle.views.specs.Views.{Path, Rvalue, ofPlace, ofConstant, binary, unknown as unknownRvalue, Statement, live, dead, set, Line, Mir}
 use Rattle.views.specs.Growing.{terminatorAt}
 use Rattle.counting.specs.Cases.{ifThere, ifScalar, referent}
-use Rattle.meaning.specs.Values.{Value, Int, Bool′, Char, Str, Tuple, Variant, Reference, Array, Slice, nothing, derefed, partsOf, ifVariant, placeIn}
+use Rattle.meaning.specs.Values.{Value, Int, Bool′, Char, Str, Tuple, Adt, Reference, Array, Slice, unitValue, derefed, partsOf, ifVariant, placeIn}
 
 -- what a local holds: a value, or a reference to a place, shared or mutable
 pub data Held : Type 0 where
@@ -39,7 +39,7 @@ update env l held k = cond (eqb k l) held (env k)
 
 unfoldable pub valueOf : Held → Value
 valueOf (value v) = v
-valueOf (refersTo mutable path) = nothing
+valueOf (refersTo mutable path) = unitValue
 
 -- the bytes of a string that a constant stands for
 unfoldable pub dataBytes : List ℕ → ℕ → ℕ → List ℕ
@@ -58,7 +58,7 @@ constantNumber c = c .low + 18446744073709551616 * c .high
 unfoldable pub constantBy : Shape → List ℕ → Constant → Value
 constantBy shape image c =
     ifScalar shape (λ size signed. Int (signedNumber size signed (constantNumber c))) (Bool′ (not (eqb (constantNumber c) 0))) (Char (constantNumber c))
-    (ifThere (referent shape) (λ t. Reference (Str (dataBytes image (c .offset) (c .high)))) nothing)
+    (ifThere (referent shape) (λ t. Reference (Str (dataBytes image (c .offset) (c .high)))) unitValue)
 
 -- a constant whose type is not of the table is a usize
 unfoldable pub constantValue : List ℕ → Constant → Value
@@ -78,7 +78,7 @@ scalarOf (Bool′ b) = some (record { kind = 2; number = pos (bit b) })
 scalarOf (Char c) = some (record { kind = 3; number = pos c })
 scalarOf (Str bytes) = none
 scalarOf (Tuple vs) = none
-scalarOf (Variant v vs) = none
+scalarOf (Adt v vs) = none
 scalarOf (Reference v) = none
 scalarOf (Array vs) = none
 scalarOf (Slice vs) = none
@@ -90,7 +90,7 @@ bytesOf (Bool′ b) = none
 bytesOf (Char c) = none
 bytesOf (Str bytes) = some bytes
 bytesOf (Tuple vs) = none
-bytesOf (Variant v vs) = none
+bytesOf (Adt v vs) = none
 bytesOf (Reference v) = none
 bytesOf (Array vs) = none
 bytesOf (Slice vs) = none
@@ -182,7 +182,7 @@ unfoldable pub rvalueValue : Rvalue → Scene → Env → Held
 rvalueValue (ofPlace rvalue path) scene env = ofPlaceValue rvalue scene env path
 rvalueValue (ofConstant c) scene env = value (constantValue (scene .image) c)
 rvalueValue (binary op left path) scene env = value (Bool′ (compared op (leftValue left scene env) (read scene env path)))
-rvalueValue unknownRvalue scene env = value nothing
+rvalueValue unknownRvalue scene env = value unitValue
 
 -- what a statement does
 unfoldable pub execute : Statement → Scene → Env → Env

@@ -14,13 +14,13 @@ abbrev pub TypeNumber : Type 0
 TypeNumber = Option ℕ
 
 -- the variants of an ADT
-unfoldable pub variantsOf : Shape → List ℕ
-variantsOf shape = ifAdt shape (λ kind variants. variants) []
+unfoldable pub adtVariants : Shape → List ℕ
+adtVariants shape = ifAdt shape (λ kind variants. variants) []
 
 -- the types of the fields of a variant that the ADT has
 unfoldable pub variantFields : List ℕ → Shape → Option ℕ → List ℕ
 variantFields image shape none = []
-variantFields image shape (some v) = cond (member v (variantsOf shape)) (variantOf image v .fields) []
+variantFields image shape (some v) = cond (member v (adtVariants shape)) (variantOf image v .fields) []
 
 -- the type of the field i
 unfoldable pub fieldType : List ℕ → Option ℕ → TypeNumber

@@ -24,7 +24,7 @@ mutual
     Str : List ℕ → Value
     Tuple : Values → Value
     -- a variant of a struct or an enum, by its number in the table, and its fields
-    Variant : ℕ → Values → Value
+    Adt : ℕ → Values → Value
     -- what it refers to
     Reference : Value → Value
     Array : Values → Value
@@ -32,8 +32,8 @@ mutual
 
   -- values in a row
   pub data Values : Type 0 where
-    nil : Values
-    cons : Value → Values → Values
+    noMore : Values
+    more : Value → Values → Values
 
 -- the values that tests compare: integers, bools, chars and references to a str
 pub data Comparable : Value → Type 0 where
@@ -43,28 +43,28 @@ pub data Comparable : Value → Type 0 where
   string : (bytes : List ℕ) → Comparable (Reference (Str bytes))
 
 unfoldable pub items : Values → List Value
-items nil = []
-items (cons v vs) = v ∷ items vs
+items noMore = []
+items (more v vs) = v ∷ items vs
 
 unfoldable pub values : List Value → Values
-values [] = nil
-values (v ∷ vs) = cons v (values vs)
+values [] = noMore
+values (v ∷ vs) = more v (values vs)
 
 -- what is read where there is nothing to read: no fitting value has such a place
-abbrev pub nothing : Value
-nothing = Tuple nil
+abbrev pub unitValue : Value
+unitValue = Tuple noMore
 
 -- what a reference refers to
 unfoldable pub derefed : Value → Value
-derefed (Int z) = nothing
-derefed (Bool′ b) = nothing
-derefed (Char c) = nothing
-derefed (Str bytes) = nothing
-derefed (Tuple vs) = nothing
-derefed (Variant v vs) = nothing
+derefed (Int z) = unitValue
+derefed (Bool′ b) = unitValue
+derefed (Char c) = unitValue
+derefed (Str bytes) = unitValue
+derefed (Tuple vs) = unitValue
+derefed (Adt v vs) = unitValue
 derefed (Reference v) = v
-derefed (Array vs) = nothing
-derefed (Slice vs) = nothing
+derefed (Array vs) = unitValue
+derefed (Slice vs) = unitValue
 
 -- the fields of a tuple or a variant, or the elements of an array or a slice
 unfoldable pub partsOf : Value → List Value
@@ -73,7 +73,7 @@ partsOf (Bool′ b) = []
 partsOf (Char c) = []
 partsOf (Str bytes) = []
 partsOf (Tuple vs) = items vs
-partsOf (Variant v vs) = items vs
+partsOf (Adt v vs) = items vs
 partsOf (Reference v) = []
 partsOf (Array vs) = items vs
 partsOf (Slice vs) = items vs
@@ -85,7 +85,7 @@ ifVariant (Bool′ b) made other = other
 ifVariant (Char c) made other = other
 ifVariant (Str bytes) made other = other
 ifVariant (Tuple vs) made other = other
-ifVariant (Variant v vs) made other = made v
+ifVariant (Adt v vs) made other = made v
 ifVariant (Reference v) made other = other
 ifVariant (Array vs) made other = other
 ifVariant (Slice vs) made other = other
@@ -96,25 +96,25 @@ middle front end vs = take (length vs - front - end) (drop front vs)
 
 -- a part of an array or a slice
 unfoldable pub subslice : ℕ → ℕ → Value → Value
-subslice front end (Int z) = nothing
-subslice front end (Bool′ b) = nothing
-subslice front end (Char c) = nothing
-subslice front end (Str bytes) = nothing
-subslice front end (Tuple vs) = nothing
-subslice front end (Variant v vs) = nothing
-subslice front end (Reference v) = nothing
+subslice front end (Int z) = unitValue
+subslice front end (Bool′ b) = unitValue
+subslice front end (Char c) = unitValue
+subslice front end (Str bytes) = unitValue
+subslice front end (Tuple vs) = unitValue
+subslice front end (Adt v vs) = unitValue
+subslice front end (Reference v) = unitValue
 subslice front end (Array vs) = Array (values (middle front end (items vs)))
 subslice front end (Slice vs) = Slice (values (middle front end (items vs)))
 
 -- what lies one element on
 unfoldable pub partAt : ProjectionElem → Value → Value
 partAt ProjectionElem.Deref v = derefed v
-partAt (ProjectionElem.Field i) v = getD (partsOf v) i nothing
-partAt (ProjectionElem.Index i) v = getD (partsOf v) i nothing
-partAt (ProjectionElem.IndexFromEnd i) v = getD (partsOf v) (length (partsOf v) - 1 - i) nothing
+partAt (ProjectionElem.Field i) v = getD (partsOf v) i unitValue
+partAt (ProjectionElem.Index i) v = getD (partsOf v) i unitValue
+partAt (ProjectionElem.IndexFromEnd i) v = getD (partsOf v) (length (partsOf v) - 1 - i) unitValue
 partAt (ProjectionElem.Subslice front end) v = subslice front end v
 partAt (ProjectionElem.Downcast w) v = v
-partAt ProjectionElem.Unknown v = nothing
+partAt ProjectionElem.Unknown v = unitValue
 
 -- what lies at the end of a projection
 unfoldable pub placeIn : List ProjectionElem → Value → Value
@@ -149,19 +149,19 @@ module _ (image : List ℕ) where
     valueFits (Char c) t = eqb (kindNumber (tyOf image t .shape)) 3 && isScalarValue c
     valueFits (Str bytes) t = eqb (kindNumber (tyOf image t .shape)) 4 && shorter (length bytes)
     valueFits (Tuple vs) t = eqb (kindNumber (tyOf image t .shape)) 5 && fieldsFit vs (tupleFields (tyOf image t .shape))
-    valueFits (Variant v vs) t = hasVariant (tyOf image t .shape) (some v) && fieldsFit vs (variantOf image v .fields)
+    valueFits (Adt v vs) t = hasVariant (tyOf image t .shape) (some v) && fieldsFit vs (variantOf image v .fields)
     valueFits (Reference v) t = ifThere (referent (tyOf image t .shape)) (λ u. valueFits v u) false
     valueFits (Array vs) t = ifArray (tyOf image t .shape) (λ u n. eqb (length (items vs)) n && elementsFit vs u) false
     valueFits (Slice vs) t = ifSlice (tyOf image t .shape) (λ u. shorter (length (items vs)) && elementsFit vs u) false
 
     -- as many values as types, each of its own
     pub fieldsFit : Values → List ℕ → Bool
-    fieldsFit nil [] = true
-    fieldsFit nil (t ∷ ts) = false
-    fieldsFit (cons v vs) [] = false
-    fieldsFit (cons v vs) (t ∷ ts) = valueFits v t && fieldsFit vs ts
+    fieldsFit noMore [] = true
+    fieldsFit noMore (t ∷ ts) = false
+    fieldsFit (more v vs) [] = false
+    fieldsFit (more v vs) (t ∷ ts) = valueFits v t && fieldsFit vs ts
 
     -- values all of one type
     pub elementsFit : Values → ℕ → Bool
-    elementsFit nil t = true
-    elementsFit (cons v vs) t = valueFits v t && elementsFit vs t
+    elementsFit noMore t = true
+    elementsFit (more v vs) t = valueFits v t && elementsFit vs t

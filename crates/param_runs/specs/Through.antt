@@ -27,7 +27,7 @@ use Rattle.meaning.specs.Running.{Env, value, Run}
 use Rattle.meaning.specs.Matching.{matches, Bound}
 use Rattle.meaning.specs.Binding.{binds}
 use Rattle.meaning.specs.Fit.{boundIn, fits}
-use Rattle.correctness.specs.Demand2.{after, Distinct}
+use Rattle.correctness.specs.Demand2.{heldAfter, Distinct}
 use Rattle.param_runs.specs.Returned.{ownLocal}
 
 -- a local as a place
@@ -132,4 +132,4 @@ pub record ComesThrough (image : List ℕ) (self : SelfParam) (params : List Par
       (r .then .0) (drop (length (r .ctx .state .statements)) (M .lines)) env′ entered
   pub once : Distinct (current .0 ∷ entered)
   pub locals : (l : ℕ) → l < madeCount (declare image self params (record { state = ctx .state; bindings = bindings })) →
-      env′ l ≡ after (r .bindings) (boundBy image self params (length (ctx .state .locals)) vs) l (env l)
+      env′ l ≡ heldAfter (r .bindings) (boundBy image self params (length (ctx .state .locals)) vs) l (env l)

@@ -10,7 +10,7 @@ use Rattle.place.specs.PlaceTypes.{projectionTy, multiProjectionTy}
 use Rattle.pattern_matching.specs.Variants.{shapeOf}
 use Rattle.pattern_matching.specs.Slices.{RestOf}
 use Rattle.pattern_matching.specs.Patterns.{restOf}
-use Rattle.counting.specs.Reaching.{Argument, behindDerefs, inARow, byFields, fieldCount, isEnum, ofVariant, items, failing}
+use Rattle.counting.specs.Reaching.{Argument, behindDerefs, inARow, byFields, fieldCount, isEnum, ofVariant, sliceArguments, failing}
 use Rattle.counting.specs.Counting.{one}
 
 -- the most that leads to one of the arguments and goes on from there, each at its type
@@ -55,7 +55,7 @@ module _ (image : List ℕ) where
         h .derefs + max (one (isEnum (shapeOf image here))) (mostOfArguments image here (ofVariant image here v (λ n. byFields fields (elementsOf args))))
     elements (Pat.Range h start end halfOpen) ty = h .derefs
     elements (Pat.Slice h prefix rest suffix) ty =
-        h .derefs + max (restElements (restOf rest)) (mostOfArguments image (behindDerefs image ty (h .derefs)) (items (elementsOf prefix) (elementsOf suffix)))
+        h .derefs + max (restElements (restOf rest)) (mostOfArguments image (behindDerefs image ty (h .derefs)) (sliceArguments (elementsOf prefix) (elementsOf suffix)))
     elements (Pat.Path h target) ty = h .derefs + pathElements image (behindDerefs image ty (h .derefs)) target
     elements (Pat.Lit h operand) ty = h .derefs
     elements (Pat.Bind h b s how annotation) ty = h .derefs + elements? s (behindDerefs image ty (h .derefs))

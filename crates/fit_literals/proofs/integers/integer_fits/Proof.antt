@@ -7,12 +7,14 @@ use Rattle.fit_literals.proofs.integers.in_range.Reads as in-range-read
 use Rattle.image.specs.Types.{shapeBy}
 use Rattle.meaning.specs.Fit.{integerFits}
 use Rattle.fit_literals.proofs.Shapes.{integer-sized, not-integer}
+use Rattle.meaning.specs.Values.{intFits}
+use Rattle.image.specs.Integers.{inRange}
 
 in-range-requires : tie.Need-in-range-requires
 in-range-requires c κs = (integer-sized _ _ (c .before .enum-told .given .1) (c .before .before .before .before .before .pre .0), c .before .before .before .before .before .pre .1)
 
 returns : tie.Need-returns
-unfolding integerFits shapeBy
+unfolding integerFits shapeBy intFits inRange
 returns c = rw (c .before .before .enum-told .given .1) (c .in-range .ensures)
 
 returns-2 : tie.Need-returns-2
