@@ -89,10 +89,10 @@ MEANING = {
     "meaning.specs.Executing": "runs",
     "meaning.specs.Matching": "onto crossed crossedPath evaluated created fromStart toEnd matchAll matchRow matchFields isVariant pathMatches matches boundAs bindAll "
     "rowFields recordFields lastItems variantPath",
-    "meaning.specs.Binding": "restBinds restBinds? binds",
+    "meaning.specs.Binding": "restBinds? binds",
     "meaning.specs.Typing": "adtVariants variantFields fieldType elementType",
     "meaning.specs.Fit": "behind typeIsThePlaces argumentsFit fieldNumbers discriminantsDiffer itemsFit restFits integerFits refersToStr constantFits literalFits endFits "
-    "pathFits eachFits rowFits byFieldsFit itemsAllFit typesFit standsIn within restTy restBound restBound? patCount boundIn bindingsFit fieldsThere pathTaken restTaken "
+    "pathFits eachFits rowFits byFieldsFit itemsAllFit typesFit standsIn within restTy restBound? patCount boundIn bindingsFit fieldsThere pathTaken "
     "nothingRefused present localsDiffer fits",
 }
 

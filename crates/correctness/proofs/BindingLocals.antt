@@ -17,7 +17,7 @@ use Rattle.counting.specs.Reaching.{canFail}
 use Rattle.counting.specs.Cases.{kindNumber}
 use Rattle.meaning.specs.Values.{hasVariant}
 use Rattle.meaning.specs.Typing.{variantFields}
-use Rattle.meaning.specs.Fit.{BoundAt, restTy, restBound, restBound?, patCount, boundIn, boundInAll, boundInFirst, boundIn?, fieldsThere, ellipsisWithin, hasLocal, restTaken, restTaken?, nothingRefused, noneRefused, noneReachedRefused, nothingRefused?}
+use Rattle.meaning.specs.Fit.{BoundAt, restTy, restBound?, patCount, boundIn, boundInAll, boundInFirst, boundIn?, fieldsThere, ellipsisWithin, hasLocal, restTaken?, nothingRefused, noneRefused, noneReachedRefused, nothingRefused?}
 use Rattle.correctness.proofs.BindingNames.{names, AllLocal, member-case, rest-binding}
 
 -- a test of numbers that fails
@@ -44,8 +44,8 @@ local-cons bindings x xs n h a m = by (eqb a (x .binding)) refl m
     by false q m = h a m
 
 -- a rest that is taken
-rest-local : (bindings : List ℕ) (rest : Pat) (shape : Shape) (t items : ℕ) → restTaken bindings rest ≡ true → AllLocal bindings (restBound rest shape t items)
-unfolding restTaken restBound
+rest-local : (bindings : List ℕ) (rest : Pat) (shape : Shape) (t items : ℕ) → restTaken? bindings (sub rest) ≡ true → AllLocal bindings (restBound? (sub rest) shape t items)
+unfolding restBound?
 rest-local bindings (Pat.Missing h) shape t items e = local-none bindings
 rest-local bindings (Pat.Rest h) shape t items e = local-none bindings
 rest-local bindings (Pat.NotNull h) shape t items e = local-none bindings

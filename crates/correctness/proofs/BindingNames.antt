@@ -16,8 +16,8 @@ use Rattle.place.specs.declared.elems.ProjectionElem.{ProjectionElem}
 use Rattle.views.specs.Views.{Path}
 use Rattle.meaning.specs.Values.{Value, partAt, partsOf}
 use Rattle.meaning.specs.Matching.{onto, crossed, crossedPath, Bound, boundAs, bindAll, matches, rowFields, recordFields, lastItems, variantPath}
-use Rattle.meaning.specs.Binding.{restBinds, restBinds?, binds, binders, bindFirst, binds?}
-use Rattle.meaning.specs.Fit.{BoundAt, sameCount, standsIn, within, restTy, restBound, restBound?, patCount, boundIn, boundInAll, boundInFirst, boundIn?, bindingsFit, allBindingsFit, bindingsFit?, alternativesFit, allBind, bindOnce, sameBindings, present, localsDiffer}
+use Rattle.meaning.specs.Binding.{restBinds?, binds, binders, bindFirst, binds?}
+use Rattle.meaning.specs.Fit.{BoundAt, sameCount, standsIn, within, restTy, restBound?, patCount, boundIn, boundInAll, boundInFirst, boundIn?, bindingsFit, allBindingsFit, bindingsFit?, alternativesFit, allBind, bindOnce, sameBindings, present, localsDiffer}
 use Rattle.correctness.proofs.Permuting.{Each, each-append, each-map, EachBinder, each-binder-map, each-bound, HasLocal, LocalsApart, Separate}
 
 -- the bindings, by their numbers
@@ -155,8 +155,8 @@ unfolding member
 one-among x xs b e = or-left (eqb (b .binding) (x .binding)) (member (b .binding) (names xs)) (eq-eqb (b .binding) (x .binding) (sym e))
 
 -- what a rest binds
-rest-among : (rest : Pat) (shape : Shape) (t items front end : ℕ) (path : Path) (v : Value) → Each (Among (restBound rest shape t items)) (restBinds rest front end path v)
-unfolding restBound restBinds
+rest-among : (rest : Pat) (shape : Shape) (t items front end : ℕ) (path : Path) (v : Value) → Each (Among (restBound? (sub rest) shape t items)) (restBinds? (sub rest) front end path v)
+unfolding restBound? restBinds?
 rest-among (Pat.Missing h) shape t items front end path v = tt
 rest-among (Pat.Rest h) shape t items front end path v = tt
 rest-among (Pat.NotNull h) shape t items front end path v = tt

@@ -47,8 +47,10 @@ inside-slice : {image : List ℕ} {ls ls′ : List Lowering} {fs fs′ : List (P
     Inside image h (sliceOn (tyOf image (h .ty) .shape) image bindings (h .number) ls (restOf rest) ls′) (λ ty. isSliceShape (tyOf image (h .ty) .shape) || someArgument image ty (sliceArguments fs fs′))
     (λ ty k f. binding h k f (cond (isSliceShape (tyOf image (h .ty) .shape)) 1 0) (cond (isSliceShape (tyOf image (h .ty) .shape)) (lengthStatements rest) 0) (restBinding rest) ∷ throughArguments image ty k (sliceArguments rs rs′))
 inside-slice {image = image} bindings h rest front back =
-    record { goes = λ pass c current els place ty k f o.
-        rw (sym (statements-of rest), sym (binding-of rest)) (holds-slice front back bindings h (restOf rest) pass c els place ty k f (tyOf image (h .ty) .shape) current o) }
+    record {
+      goes = λ pass c current els place ty k f o.
+          rw (sym (statements-of rest), sym (binding-of rest)) (holds-slice front back bindings h (restOf rest) pass c els place ty k f (tyOf image (h .ty) .shape) current o);
+    }
 
 -- an Or
 inside-or : {image : List ℕ} {ls : List Lowering} {fs : List (PlaceTy → Bool)} {rs : List Reaching} (h : Head) → Each image ls fs rs →

@@ -105,42 +105,26 @@ ifSlice (array t n) made other = other
 ifSlice (slice t) made other = made t
 ifSlice unknown made other = other
 
--- what is made of a Bind, by its head, its binding, its subpattern and how it binds; or of every other pattern
-abbrev pub ifBind : {A : Type 0} → Pat → (Head → ℕ → PatOpt → BindingMode → A) → A → A
-ifBind (Pat.Missing h) made other = other
-ifBind (Pat.Rest h) made other = other
-ifBind (Pat.NotNull h) made other = other
-ifBind (Pat.Wild h) made other = other
-ifBind (Pat.Tuple h args ellipsis) made other = other
-ifBind (Pat.Or h alts) made other = other
-ifBind (Pat.Record h fields args v) made other = other
-ifBind (Pat.Range h start end halfOpen) made other = other
-ifBind (Pat.Slice h prefix rest suffix) made other = other
-ifBind (Pat.Path h target) made other = other
-ifBind (Pat.Lit h operand) made other = other
-ifBind (Pat.Bind h b s how annotation) made other = made h b s how
-ifBind (Pat.TupleStruct h args ellipsis v) made other = other
-ifBind (Pat.Ref h s) made other = other
-ifBind (Pat.Expr h) made other = other
-ifBind (Pat.Box h) made other = other
-ifBind (Pat.Deref h) made other = other
+-- what is made of a pattern by what a rest may be: of Rest, of Wild, and of a Bind by its head, its binding, its subpattern and how it binds; or of every other
+abbrev pub byRest : {A : Type 0} → Pat → A → A → (Head → ℕ → PatOpt → BindingMode → A) → A → A
+byRest (Pat.Missing h) ofRest ofWild ofBind other = other
+byRest (Pat.Rest h) ofRest ofWild ofBind other = ofRest
+byRest (Pat.NotNull h) ofRest ofWild ofBind other = other
+byRest (Pat.Wild h) ofRest ofWild ofBind other = ofWild
+byRest (Pat.Tuple h args ellipsis) ofRest ofWild ofBind other = other
+byRest (Pat.Or h alts) ofRest ofWild ofBind other = other
+byRest (Pat.Record h fields args v) ofRest ofWild ofBind other = other
+byRest (Pat.Range h start end halfOpen) ofRest ofWild ofBind other = other
+byRest (Pat.Slice h prefix rest suffix) ofRest ofWild ofBind other = other
+byRest (Pat.Path h target) ofRest ofWild ofBind other = other
+byRest (Pat.Lit h operand) ofRest ofWild ofBind other = other
+byRest (Pat.Bind h b s how annotation) ofRest ofWild ofBind other = ofBind h b s how
+byRest (Pat.TupleStruct h args ellipsis v) ofRest ofWild ofBind other = other
+byRest (Pat.Ref h s) ofRest ofWild ofBind other = other
+byRest (Pat.Expr h) ofRest ofWild ofBind other = other
+byRest (Pat.Box h) ofRest ofWild ofBind other = other
+byRest (Pat.Deref h) ofRest ofWild ofBind other = other
 
--- the pattern's kind, as document 01 numbers it
-abbrev pub patternKind : Pat → ℕ
-patternKind (Pat.Missing h) = 0
-patternKind (Pat.Rest h) = 1
-patternKind (Pat.NotNull h) = 2
-patternKind (Pat.Wild h) = 3
-patternKind (Pat.Tuple h args ellipsis) = 4
-patternKind (Pat.Or h alts) = 5
-patternKind (Pat.Record h fields args v) = 6
-patternKind (Pat.Range h start end halfOpen) = 7
-patternKind (Pat.Slice h prefix rest suffix) = 8
-patternKind (Pat.Path h target) = 9
-patternKind (Pat.Lit h operand) = 10
-patternKind (Pat.Bind h b s how annotation) = 11
-patternKind (Pat.TupleStruct h args ellipsis v) = 12
-patternKind (Pat.Ref h s) = 13
-patternKind (Pat.Expr h) = 14
-patternKind (Pat.Box h) = 15
-patternKind (Pat.Deref h) = 16
+-- what is made of a Bind; or of every other pattern
+abbrev pub ifBind : {A : Type 0} → Pat → (Head → ℕ → PatOpt → BindingMode → A) → A → A
+ifBind pat made other = byRest pat other other made other

@@ -20,7 +20,7 @@ use Rattle.image.specs.Rows.{typeAt, patAt, listAt}
 use Rattle.image.specs.Rules.{absent, listed}
 use Rattle.image.specs.Patterns.{patternShapeHolds}
 use Rattle.image.specs.Types.{Shape, integer, bool, char, str, tuple, adt, reference, array, slice, unknown, tyOf}
-use Rattle.image.specs.Tree.{Head, Pat, nodeBy, tree?, tree, word?}
+use Rattle.image.specs.Tree.{Head, Pat, sub, nodeBy, tree?, tree, word?}
 use Rattle.image.specs.Valid.{valid}
 use Rattle.image.proofs.Bools.{and-left}
 use Rattle.image.proofs.Known.{pattern-holds}
@@ -30,7 +30,7 @@ use Rattle.place.proofs.Fields.{length-listed}
 use Rattle.counting.specs.Cases.{kindNumber}
 use Rattle.meaning.specs.Values.{hasValues, hasVariant}
 use Rattle.meaning.specs.Typing.{adtVariants}
-use Rattle.meaning.specs.Fit.{fieldsThere, ellipsisWithin, hasLocal, restTaken, restTaken?}
+use Rattle.meaning.specs.Fit.{fieldsThere, ellipsisWithin, hasLocal, restTaken?}
 use Rattle.fit_literals.proofs.Shapes.{kind-of}
 use Rattle.fit_types.specs.declared.fields.Fields.{Fields}
 use Rattle.fit_types.specs.Numbers.{FieldsOf}
@@ -148,8 +148,8 @@ pub local-read : (bindings : List ℕ) (b : ℕ) → b < length bindings → not
 local-read bindings b h = ap (λ (l : ℕ). not (eqb l 65535)) (read-within bindings b 0 65535 h)
 
 -- the kind of a rest says whether its binding has a local
-rest-node : (bindings : List ℕ) (k : PatKind) (g : ℕ → Pat) (image : List ℕ) (h : Head) (row : PatRow) → restKindTaken bindings k (row .a) ≡ restTaken bindings (nodeBy k g image h row)
-unfolding nodeBy restTaken
+rest-node : (bindings : List ℕ) (k : PatKind) (g : ℕ → Pat) (image : List ℕ) (h : Head) (row : PatRow) → restKindTaken bindings k (row .a) ≡ restTaken? bindings (sub (nodeBy k g image h row))
+unfolding nodeBy
 rest-node bindings PatKind.Missing g image h row = refl
 rest-node bindings PatKind.Rest g image h row = refl
 rest-node bindings PatKind.NotNull g image h row = refl

@@ -14,14 +14,11 @@ use Rattle.meaning.specs.Values.{Value, partsOf, partAt}
 use Rattle.meaning.specs.Matching.{onto, crossed, crossedPath, Bound, boundAs, bindAll, rowFields, recordFields, lastItems, variantPath, matches}
 
 -- a rest that is an identifier pattern binds what the other items leave [patterns.rest.allowed-patterns]
-unfoldable pub restBinds : Pat → ℕ → ℕ → Path → Value → List Bound
-restBinds rest front end path v =
-    let elem = ProjectionElem.Subslice front end in
-    ifBind rest (λ h b s how. record { binding = b; what = boundAs how (onto path elem) (partAt elem v) } ∷ []) []
-
 unfoldable pub restBinds? : PatOpt → ℕ → ℕ → Path → Value → List Bound
 restBinds? no front end path v = []
-restBinds? (sub rest) front end path v = restBinds rest front end path v
+restBinds? (sub rest) front end path v =
+    let elem = ProjectionElem.Subslice front end in
+    ifBind rest (λ h b s how. record { binding = b; what = boundAs how (onto path elem) (partAt elem v) } ∷ []) []
 
 module _ (image : List ℕ) where
   unfoldable mutual

@@ -15,7 +15,7 @@ use Rattle.image.specs.Operands.{isScalarValue}
 use Rattle.image.specs.Types.{Shape, tyOf, variantOf, Operand}
 use Rattle.image.specs.Tree.{Head, Target, unresolved, variant, local, constant, other, Pat, Pats, nil, cons, PatOpt, no, sub}
 use Rattle.place.specs.declared.place_ty.PlaceTy.{PlaceTy}
-use Rattle.counting.specs.Cases.{ifThere, kindNumber, ifScalar, tupleFields, ifAdt, referent, ifArray, ifBind, patternKind}
+use Rattle.counting.specs.Cases.{ifThere, kindNumber, ifScalar, tupleFields, ifAdt, referent, ifArray, byRest, ifBind}
 use Rattle.counting.specs.Reaching.{isEnumKind, canFail}
 use Rattle.meaning.specs.Values.{intFits, hasVariant}
 use Rattle.meaning.specs.Matching.{longEnough}
@@ -59,7 +59,7 @@ itemsFit shape rest count = ifArray shape (λ t n. longEnough rest count n) true
 
 -- "a rest is Rest, Wild or Bind over Rest, its type and derefs not looked at"
 abbrev pub isRest : Pat → Bool
-isRest pat = eqb (patternKind pat) 1
+isRest pat = byRest pat true false (λ h b s how. false) false
 
 abbrev pub isRest? : PatOpt → Bool
 isRest? no = false
@@ -67,7 +67,7 @@ isRest? (sub s) = isRest s
 
 unfoldable pub restFits : PatOpt → Bool
 restFits no = true
-restFits (sub rest) = isRest rest || eqb (patternKind rest) 3 || ifBind rest (λ h b s how. isRest? s) false
+restFits (sub rest) = byRest rest true true (λ h b s how. isRest? s) false
 
 -- "literals are integer, bool, char or String on a reference to str; .. a literal or constant has its type's kind and holds a value in its range": an integer
 unfoldable pub integerFits : Shape → Bool → List ℕ → Bool
@@ -221,12 +221,9 @@ sameBindings xs ys = within xs ys && within ys xs
 unfoldable pub restTy : Shape → ℕ → ℕ → ℕ → BoundAt
 restTy shape b t items = ifArray shape (λ u n. record { binding = b; ty = u; lengthLeft = some (n - items) }) (record { binding = b; ty = t; lengthLeft = none })
 
-unfoldable pub restBound : Pat → Shape → ℕ → ℕ → List BoundAt
-restBound rest shape t items = ifBind rest (λ h b s how. restTy shape b t items ∷ []) []
-
 unfoldable pub restBound? : PatOpt → Shape → ℕ → ℕ → List BoundAt
 restBound? no shape t items = []
-restBound? (sub rest) shape t items = restBound rest shape t items
+restBound? (sub rest) shape t items = ifBind rest (λ h b s how. restTy shape b t items ∷ []) []
 
 unfoldable pub patCount : Pats → ℕ
 patCount nil = 0
@@ -333,12 +330,9 @@ pathTaken shape (constant operand) = true
 pathTaken shape other = false
 
 -- the binding of a rest has a local
-unfoldable pub restTaken : List ℕ → Pat → Bool
-restTaken bindings rest = ifBind rest (λ h b s how. hasLocal bindings b) true
-
 abbrev pub restTaken? : List ℕ → PatOpt → Bool
 restTaken? bindings no = true
-restTaken? bindings (sub rest) = restTaken bindings rest
+restTaken? bindings (sub rest) = ifBind rest (λ h b s how. hasLocal bindings b) true
 
 module _ (image bindings : List ℕ) where
   unfoldable mutual

@@ -23,13 +23,14 @@ use Rattle.pattern_matching.specs.Tests.{patternMatchBinding}
 use Rattle.pattern_matching.specs.Variants.{patternMatchAdt}
 use Rattle.pattern_matching.specs.Slices.{RestOf, lengthTest, restBound, sliceItems, sliceOn, suffixItems}
 use Rattle.pattern_matching.specs.Patterns.{bindPattern}
+use Rattle.counting.specs.Cases.{ifThere}
 use Rattle.counting.specs.Reaching.{Argument, zip, isSliceShape, sliceArguments, someArgument, Reached, Reaching, testing, binding, throughArguments}
 use Rattle.counting.specs.Counting.{total}
 use Rattle.counting.proofs.Rests.{statementsBy, bindingBy}
 use Rattle.counting.proofs.Passing.{Pass, checks, binds, modeOf, inChecks, total-append}
 use Rattle.counting.proofs.Arguments.{fit-all}
 use Rattle.counting.proofs.Rows.{through-append, some-argument-append}
-use Rattle.room.specs.Elements.{mostOfArguments, restElements}
+use Rattle.room.specs.Elements.{mostOfArguments}
 use Rattle.room.proofs.Telling.{Origin, Sound, sound-ok, sound-step, sound-as}
 use Rattle.room.proofs.Recording.{Alike, alike-is, alike-on, alike-moved}
 use Rattle.room.proofs.Building.{Table, block, statement, local, entry, make, Goal, owing, has-as, has-by}
@@ -42,6 +43,10 @@ fills : {A : Type 0} {base : Origin} {T : Goal} (h : Head) (b k : ℕ) (F : Bool
     Fares A base T F (λ w. make 0 2 0 0 w + m w) c els
 unfolding total
 fills h b k F m c els room = has-by room _ (omega arith) (omega arith) (omega arith) (omega arith)
+
+-- how many elements lead to what a rest binds
+abbrev pub elementsBy : RestOf → ℕ
+elementsBy rest = ifThere (bindingBy rest) (λ b. 1) 0
 
 module _ {A : Type 0} {base : Origin} {image : List ℕ} (ty : PlaceTy) (h : Head) where
   -- a binding
@@ -81,8 +86,8 @@ module _ {A : Type 0} {base : Origin} {image : List ℕ} (ty : PlaceTy) (h : Hea
 
   -- a rest
   spends-rest : (front end : ℕ) (rest : RestOf) →
-      Spends A base image ty (restBound rest (base .bindings) (h .number) front end) false (restElements rest) (λ k. binding h k false 0 0 (bindingBy rest) ∷ [])
-  unfolding restBound restElements bindingBy total
+      Spends A base image ty (restBound rest (base .bindings) (h .number) front end) false (elementsBy rest) (λ k. binding h k false 0 0 (bindingBy rest) ∷ [])
+  unfolding restBound bindingBy total
   spends-rest front end RestOf.none =
       record {
         above = λ k. (le-refl _, tt);
@@ -170,7 +175,7 @@ module _ {A : Type 0} {base : Origin} {image : List ℕ} {ls ls′ : List Loweri
 
   -- how many elements are appended
   abbrev most : ℕ
-  most = max (mostOfArguments image ty (prefix ds)) (max (restElements rest) (mostOfArguments image ty (suffix ds′)))
+  most = max (mostOfArguments image ty (prefix ds)) (max (elementsBy rest) (mostOfArguments image ty (suffix ds′)))
 
   -- the items in front, the rest, and the items at the end
   spends-inner : Spends A base image ty (sliceItems (base .bindings) (h .number) ls rest ls′) (someArgument image ty (prefix fs) || someArgument image ty (suffix fs′)) most
@@ -184,11 +189,11 @@ module _ {A : Type 0} {base : Origin} {image : List ℕ} {ls ls′ : List Loweri
   -- with what the length's test takes
   slice-as : {l : Lowering} (f : Bool) (t s : ℕ) {deep : ℕ} → deep ≡ most → Spends A base image ty l (f || (someArgument image ty (prefix fs) || someArgument image ty (suffix fs′))) deep
       (λ k. binding h k false t s none ∷ (first k ++ (binding h k false 0 0 (bindingBy rest) ∷ last k))) →
-      Spends A base image ty l (f || someArgument image ty (sliceArguments fs fs′)) (max (restElements rest) (mostOfArguments image ty (sliceArguments ds ds′)))
+      Spends A base image ty l (f || someArgument image ty (sliceArguments fs fs′)) (max (elementsBy rest) (mostOfArguments image ty (sliceArguments ds ds′)))
       (λ k. binding h k false t s (bindingBy rest) ∷ throughArguments image ty k (sliceArguments rs rs′))
   unfolding sliceArguments total
   slice-as f t s same g =
-      let R = restElements rest in
+      let R = elementsBy rest in
       let through : (k : ℕ) → throughArguments image ty k (prefix rs ++ suffix rs′) ≡ first k ++ last k = λ k. through-append image ty k (prefix rs) (suffix rs′) in
       spends-within (λ e. ap (λ (x : Bool). f || x) (some-argument-append image ty (prefix fs) (suffix fs′)) ∙ e)
       (same ∙ max-turned (mostOfArguments image ty (prefix ds)) R (mostOfArguments image ty (suffix ds′)) ∙ ap (max R) (most-append image ty (prefix ds) (suffix ds′)))
@@ -225,7 +230,7 @@ module _ {A : Type 0} {base : Origin} {image : List ℕ} {ls ls′ : List Loweri
       sound-length image (h .number) m c F rest n current els place (f refl) (has-by room _ (omega arith) (omega arith) (omega arith) (omega arith)))
 
   -- of what is no slice nothing is tested
-  spends-array : Spends A base image ty (sliceItems (base .bindings) (h .number) ls rest ls′) (someArgument image ty (sliceArguments fs fs′)) (max (restElements rest) (mostOfArguments image ty (sliceArguments ds ds′)))
+  spends-array : Spends A base image ty (sliceItems (base .bindings) (h .number) ls rest ls′) (someArgument image ty (sliceArguments fs fs′)) (max (elementsBy rest) (mostOfArguments image ty (sliceArguments ds ds′)))
       (λ k. binding h k false 0 0 (bindingBy rest) ∷ throughArguments image ty k (sliceArguments rs rs′))
   spends-array = slice-as false 0 0 refl (spends-under (λ k. binding h k false 0 0 none) (free-testing h) spends-inner)
 
@@ -234,7 +239,7 @@ module _ {A : Type 0} {base : Origin} {image : List ℕ} {ls ls′ : List Loweri
   abbrev pub Sliced : Shape → ℕ → Option ℕ → Type 0
   Sliced s n o =
       Spends A base image ty (sliceOn s image (base .bindings) (h .number) ls rest ls′) (isSliceShape s || someArgument image ty (sliceArguments fs fs′))
-      (max (restElements rest) (mostOfArguments image ty (sliceArguments ds ds′)))
+      (max (ifThere o (λ b. 1) 0) (mostOfArguments image ty (sliceArguments ds ds′)))
       (λ k. binding h k false (cond (isSliceShape s) 1 0) (cond (isSliceShape s) n 0) o ∷ throughArguments image ty k (sliceArguments rs rs′))
 
   spends-slice : (s : Shape) → Sliced s (statementsBy rest) (bindingBy rest)

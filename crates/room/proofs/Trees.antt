@@ -26,7 +26,7 @@ use Rattle.counting.proofs.Holding.{Holds, holds-as}
 use Rattle.counting.proofs.Passing.{checks}
 use Rattle.counting.proofs.Typed.{On}
 use Rattle.counting.proofs.Trees.{counts}
-use Rattle.room.specs.Elements.{elements, elementsOf, elements?}
+use Rattle.room.specs.Elements.{elements, elementsOf, elements?, restElements}
 use Rattle.room.proofs.Telling.{Origin, Tells, sound-refused}
 use Rattle.room.proofs.Spending.{free-testing, Spends, spends-none, spends-as, spends-under, spends-entered}
 use Rattle.room.proofs.Rows.{Settled, Headed, Pays, Each, none-left, one-more}
@@ -98,7 +98,7 @@ module _ (A : Type 0) (base : Origin) (image : List ℕ) where
   pays-by pat g = record { spends = g; headed = headed image pat; settles = settles image (base .bindings) pat }
 
   mutual
-    unfolding patternMatchInner lowerings lowering? canFail failing canFail? reached reachings reaching? elements elementsOf elements?
+    unfolding patternMatchInner lowerings lowering? canFail failing canFail? reached reachings reaching? elements elementsOf elements? restElements
 
     -- every pattern
     pub spends-pattern : (pat : Pat) → Spending pat
