@@ -110,7 +110,7 @@ def reached(names, through_contracts=True):
         if word not in found:
             continue
         entry = (path, found[word])
-        passed = LOWERING.search(path.as_posix()) and word not in READ_BY_OTHERS
+        passed = LOWERING.search(path.as_posix()) and not found[word].names & READ_BY_OTHERS
         if entry in believed or entry in lowering:
             continue
         (lowering if passed else believed).add(entry)
@@ -129,11 +129,12 @@ def by_file(definitions_):
 
 
 def twice(definitions_):
-    """The names that stand for two things, each with the files that define it; a constructor that is written with its type has a name of its own."""
+    """The names that stand for two things, each with its files. A pattern's constructor is written with its type, as `Pat.Tuple`."""
     where = {}
     for path, definition in definitions_:
         for name in definition.names:
-            where.setdefault(f"{definition.own}.{name}" if definition.own == "Pat" and name != "Pat" else name, set()).add(path.relative_to(ROOT).as_posix())
+            whole = f"Pat.{name}" if definition.own == "Pat" and name != "Pat" else name
+            where.setdefault(whole, set()).add(path.relative_to(ROOT).as_posix())
     return {name: sorted(files) for name, files in where.items() if len(files) > 1}
 
 

@@ -17,6 +17,7 @@ use Rattle.lower.specs.declared.merging.OptBlock.{OptBlock}
 use Rattle.pattern_matching.specs.Walking.{Ctx, Out, Lowering, project, visited, entered}
 use Rattle.pattern_matching.specs.Variants.{placeTy, shapeOf, needed, tupleOn, tuplePattern, refOn, refPattern}
 use Rattle.pattern_matching.specs.Patterns.{refusing, passing}
+use Rattle.counting.specs.Cases.{tupleFields}
 use Rattle.counting.specs.Reaching.{behindDerefs, inARow, fieldCount, someArgument, Reaching, testing, throughArguments}
 use Rattle.counting.proofs.Holding.{Holds, holds, refuses, holds-step, holds-as}
 use Rattle.counting.proofs.Going.{visit}
@@ -24,7 +25,6 @@ use Rattle.counting.proofs.Passing.{Pass, modeOf, After, after-more, af
 use Rattle.counting.proofs.Typed.{On, on-project, holds-entered}
 use Rattle.counting.proofs.Arguments.{Counts, Each}
 use Rattle.counting.proofs.Rows.{AfterArguments, holds-row}
-use Rattle.counting.specs.Cases.{tupleFields}
 
 -- a lowering adds what is counted, from a visit to its pattern on and on a place behind its derefs
 pub record Inside (image : List ℕ) (h : Head) (l : Lowering) (fails : PlaceTy → Bool) (reach : Reaching) : Type 0 where

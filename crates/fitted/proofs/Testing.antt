@@ -34,11 +34,11 @@ use Rattle.pattern_matching.specs.Variants.{discriminantTest}
 use Rattle.pattern_matching.specs.Slices.{RestOf, lengthCompared, lengthTest}
 use Rattle.pattern_matching.specs.Patterns.{endOp, rangePattern}
 use Rattle.place.specs.declared.place_ty.PlaceTy.{PlaceTy}
+use Rattle.meaning.specs.Values.{intFits}
 use Rattle.meaning.specs.Fit.{integerFits, constantFits, literalFits, endFits, endFits?, hasLocal}
 use Rattle.fitted.proofs.Stopping.{Fine, Fair, fine-ok, fair-done, fine-step}
 use Rattle.fitted.proofs.Building.{Kept, kept-on, kept-terminator, fair-block, fair-statement, fair-live, fair-temp, no-slice, fair-else}
 use Rattle.fitted.proofs.Walks.{Stays, Good, fine-out, fine-walk, fine-check}
-use Rattle.meaning.specs.Values.{intFits}
 
 -- of an answer nothing is asked
 abbrev Any : {A : Type 0} → A → Type 0

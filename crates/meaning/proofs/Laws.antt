@@ -1,21 +1,21 @@
 -- What the definitions that matching and running share mean in plain terms: equal values, their order, the parts of a list, two's complement. Assumes nothing.
 use Prim.Native.Nat.{ℕ, _+_, _-_, _^_, _/_, _≤_, _<_}
-use mathlib.Core.Path.{_≡_, refl, sym, ap, ap₂, _∙_}
+use mathlib.Core.Path.{_≡_, refl, sym, ap, _∙_}
 use mathlib.Core.Logic.{_↔_}
 use mathlib.Core.Bool.{Bool, true, false, not, _&&_, _||_, false≢true}
 use mathlib.Core.Option.{none, some}
-use mathlib.Core.List.{List, [], _∷_, _++_}
+use mathlib.Core.List.{List, _++_}
 use native.Mathlib.Omega.{arith}
-use borrow.Author.Tests.{eqb-true, eq-eqb, leb-true, leb-false, le-leb, lt-ltb, le-ltb}
-use lib.Dec.{eqb, leb, ltb}
+use borrow.Author.Tests.{leb-true, leb-false, le-leb, lt-ltb, le-ltb}
+use lib.Dec.{leb, ltb}
 use lib.IntN.{ℤ, pos, negsuc, negℤ}
 use lib.ListN.{length, take, drop, take-append-drop, length-take, length-drop}
 use lib.Seq.{drop-drop}
 use lib.Signed.{leZ, ltZ}
-use Rattle.image.proofs.Bools.{and-left, and-right, and-true}
+use Rattle.image.proofs.Bools.{and-left, and-right}
 use Rattle.mir.specs.declared.rvalues.BinOp.{BinOp}
 use Rattle.meaning.specs.Values.{Value, Int, Bool′, Char, Str, Reference, Comparable, int, bool′, char′, string, derefed, middle}
-use Rattle.meaning.specs.Running.{signedNumber, scalarOf, bytesOf, sameNumbers, sameValue, compared}
+use Rattle.meaning.specs.Running.{signedNumber, scalarOf, bytesOf, sameValue, compared}
 use Rattle.meaning.specs.Matching.{fromStart, toEnd}
 use Rattle.meaning.proofs.Numbers.{numbers-meet, numbers-met}
 

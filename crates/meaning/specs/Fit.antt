@@ -217,7 +217,7 @@ within (x ∷ xs) ys = standsIn x ys && within xs ys
 abbrev pub sameBindings : List BoundAt → List BoundAt → Bool
 sameBindings xs ys = within xs ys && within ys xs
 
--- "A rest's binding has the slice's number, or, of an array, element and count left"
+-- a rest's binding has the slice's number, or, of an array, the elements' type and how many are left
 unfoldable pub restTy : Shape → ℕ → ℕ → ℕ → BoundAt
 restTy shape b t items = ifArray shape (λ u n. record { binding = b; ty = u; lengthLeft = some (n - items) }) (record { binding = b; ty = t; lengthLeft = none })
 
