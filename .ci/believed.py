@@ -1,10 +1,12 @@
 #!/usr/bin/env python3
-"""Counts the definitions that the auditor's page rests on: `.ci/believed.py [FILES]`.
+"""Counts the definitions that the auditor's page rests on: `.ci/believed.py [FILES] [NAMES]`.
 
 From the statements of the page's theorems every name is followed to its definition in specs/, and
 from there on by the names that the definition has. Counted are the lines of the definitions that are
 reached, without comments, imports and empty lines. What need not be believed is the lowering itself:
-the page's theorems are about what it gives. With FILES the lines are told for each file.
+the page's theorems are about what it gives. Of the lines it is told how many are led to by the code's
+contracts alone: these stand in hypotheses, which the proof of the code meets. With FILES the lines
+are told for each file, with NAMES the names that stand for two things.
 """
 
 import re
@@ -18,7 +20,9 @@ PAGE = (("demands 2 and 3, with parameters", ("Audit", "Parameters")), ("all of 
 # The lowering's definition and the steps that it is made of; of `lower` and `state` the rest is read as tables are.
 LOWERING = re.compile(r"crates/(pattern_matching|literals|drop_scopes)/specs/|crates/(lowered_params/specs/Params|lower/specs/(Temps|Merging)|state/specs/Steps|mir/specs/Rvalues)")
 # `placeTy` and the shape of a place stand among the lowering's files, but are read by the counts and the fit.
-READ_BY_OTHERS = {"placeTy", "shapeOf", "Ctx", "Out", "Walk", "localPlace"}
+READ_BY_OTHERS = {"placeTy", "shapeOf", "Ctx", "Out", "Walk", "localPlace", "fieldsUpTo", "suffixItems", "Param", "ParamsOut", "Declared", "selfCount"}
+# What a call's contract promises of its answer.
+CONTRACT = re.compile(r"Promised\w*$")
 
 USE = re.compile(r"^use Rattle·(\w+?)(?:·specs|·proofs)?((?:\.\w+)+)\.\{([^}]*)\}", re.M)
 HEAD = re.compile(r"^( *)(?:(?:unfoldable|abbrev) )?(?:pub )?(?:(record|data) )?([^\s:(]+)(?: |$)")
@@ -30,7 +34,7 @@ class Definition:
     """A definition: its names, its lines, and the words that it has."""
 
     def __init__(self, name, indent, kind):
-        self.names, self.indent, self.kind, self.lines = {name}, indent, kind, []
+        self.own, self.names, self.indent, self.kind, self.lines = name, {name}, indent, kind, []
 
     def add(self, line):
         self.lines.append(line)
@@ -91,8 +95,8 @@ def statements(path):
     return {word for line in kept for word in NAME.findall(line)}
 
 
-def reached(names):
-    """The definitions that the page's files lead to: (file, definition), the lowering's apart."""
+def reached(names, through_contracts=True):
+    """The definitions that the page's files lead to, the lowering's apart: (file, definition)."""
     believed, lowering, todo = set(), set(), []
     for name in names:
         path = ROOT / f"crates/audit/proofs/{name}.antt"
@@ -106,26 +110,47 @@ def reached(names):
         if word not in found:
             continue
         entry = (path, found[word])
-        passed = LOWERING.search(path.as_posix()) and word not in READ_BY_OTHERS
+        passed = LOWERING.search(path.as_posix()) and not found[word].names & READ_BY_OTHERS
         if entry in believed or entry in lowering:
             continue
         (lowering if passed else believed).add(entry)
-        if not passed:
+        if not passed and (through_contracts or not CONTRACT.match(word)):
             todo += [(path, other) for other in found[word].words() if other in found]
             todo += [named[other] for other in found[word].words() if other in named]
     return believed
 
 
+def by_file(definitions_):
+    """The lines of definitions, for each file."""
+    files = {}
+    for path, definition in definitions_:
+        files[path] = files.get(path, 0) + len([line for line in definition.lines if not line.lstrip().startswith("module")])
+    return files
+
+
+def twice(definitions_):
+    """The names that stand for two things, each with its files. A pattern's constructor is written with its type, as `Pat.Tuple`."""
+    where = {}
+    for path, definition in definitions_:
+        for name in definition.names:
+            whole = f"Pat.{name}" if definition.own == "Pat" and name != "Pat" else name
+            where.setdefault(whole, set()).add(path.relative_to(ROOT).as_posix())
+    return {name: sorted(files) for name, files in where.items() if len(files) > 1}
+
+
 def main():
-    """Prints the totals, and with FILES the files."""
+    """Prints the totals, with FILES the files, and with NAMES the names that are defined twice."""
     for title, names in PAGE:
-        files = {}
-        for path, definition in reached(names):
-            files[path] = files.get(path, 0) + len([line for line in definition.lines if not line.lstrip().startswith("module")])
-        print(f"{title}: {sum(files.values())} lines of definitions to believe, in {len(files)} files")
-        if sys.argv[1:]:
+        believed = reached(names)
+        files, without = by_file(believed), by_file(reached(names, through_contracts=False))
+        total = sum(files.values())
+        print(f"{title}: {total} lines of definitions to believe, in {len(files)} files; {total - sum(without.values())} of them by the code's contracts alone")
+        if "FILES" in sys.argv[1:]:
             for path in sorted(files):
                 print(f"  {files[path]:4} {path.relative_to(ROOT)}")
+        if "NAMES" in sys.argv[1:]:
+            for name, defined in sorted(twice(believed).items()):
+                print(f"  {name}: {', '.join(defined)}")
 
 
 if __name__ == "__main__":

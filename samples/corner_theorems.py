@@ -69,11 +69,11 @@ PARAM_MODULES = [
 
 FIT_MODULES = [
     ("image", "Integers", "leastValue greatestValue inRange integerValue"),
-    ("meaning", "Values", "items partsOf intFits kindNumber fieldTypes valueFits"),
-    ("meaning", "Typing", "referent behind typeIsThePlaces tupleFields variantsOf argumentsFit discriminantsDiffer integerFits"),
-    ("meaning", "Fitting", "literalFits pathFits rowFits eachFits typesFit"),
-    ("meaning", "Fit", "boundIn bindingsFit"),
-    ("meaning", "Fits", "hasVariant pathTaken nothingRefused present localsDiffer fits"),
+    ("counting", "Cases", "kindNumber tupleFields referent"),
+    ("meaning", "Values", "items partsOf intFits hasVariant valueFits"),
+    ("meaning", "Typing", "adtVariants"),
+    ("meaning", "Fit", "behind typeIsThePlaces argumentsFit discriminantsDiffer integerFits literalFits pathFits rowFits eachFits typesFit boundIn bindingsFit pathTaken "
+     "nothingRefused present localsDiffer fits"),
     ("meaning", "Matching", "crossed created matchAll matchRow isVariant pathMatches matches"),
     ("meaning", "Running", "scalarOf bytesOf sameValue"),
 ]
@@ -81,19 +81,19 @@ FIT_MODULES = [
 # What the rows on fit, meaning and run unfold besides, by the whole of its name.
 MEANING = {
     "image.specs.Integers": "leastValue greatestValue inRange integerValue",
-    "counting.specs.Reaching": "isEnum isSliceShape behindDerefs fieldCount pathTests zip inARow byFields downcast ofVariant items someArgument allAlternatives canFail",
-    "meaning.specs.Values": "items values derefed partsOf middle subslice partAt placeIn intFits kindNumber fieldTypes arrayLength valueFits",
-    "meaning.specs.Running": "update valueOf dataBytes signedNumber constantBy constantValue scalarOf bytesOf sameBytes sameValue compared discriminantOf elemKind "
-    "elemFirst elemSecond sameElem behindRoot partBehind read ofPlaceValue leftValue rvalueValue execute switched",
+    "counting.specs.Cases": "kindNumber tupleFields referent",
+    "counting.specs.Reaching": "isEnum isSliceShape behindDerefs fieldCount pathTests zip inARow byFields downcast ofVariant sliceArguments someArgument allAlternatives canFail",
+    "meaning.specs.Values": "items values derefed partsOf middle subslice partAt placeIn intFits hasVariant valueFits",
+    "meaning.specs.Running": "update valueOf dataBytes signedNumber constantBy constantValue scalarOf bytesOf sameNumbers sameValue compared discriminantOf elemNumbers "
+    "sameElem behindRoot partBehind read ofPlaceValue leftValue rvalueValue execute switched",
     "meaning.specs.Executing": "runs",
     "meaning.specs.Matching": "onto crossed crossedPath evaluated created fromStart toEnd matchAll matchRow matchFields isVariant pathMatches matches boundAs bindAll "
     "rowFields recordFields lastItems variantPath",
-    "meaning.specs.Binding": "restBinds restBinds? binds",
-    "meaning.specs.Typing": "referent behind typeIsThePlaces tupleFields variantsOf variantFields argumentsFit fieldNumbers discriminantsDiffer itemsFit elementType "
-    "restFits integerFits refersToStr",
-    "meaning.specs.Fitting": "constantFits literalFits endFits pathFits eachFits rowFits fieldType byFieldsFit itemsAllFit typesFit",
-    "meaning.specs.Fit": "standsIn within restTy restBound restBound? patCount boundIn bindingsFit",
-    "meaning.specs.Fits": "hasVariant fieldsThere pathTaken restTaken nothingRefused present localsDiffer fits",
+    "meaning.specs.Binding": "restBinds? binds",
+    "meaning.specs.Typing": "adtVariants variantFields fieldType elementType",
+    "meaning.specs.Fit": "behind typeIsThePlaces argumentsFit fieldNumbers discriminantsDiffer itemsFit restFits integerFits refersToStr constantFits literalFits endFits "
+    "pathFits eachFits rowFits byFieldsFit itemsAllFit typesFit standsIn within restTy restBound? patCount boundIn bindingsFit fieldsThere pathTaken "
+    "nothingRefused present localsDiffer fits",
 }
 
 FILES = {"proved": "audit/proofs/Proved", "further": "audit/proofs/Further", "params": "param_runs/proofs/Corners", "judged": "audit/proofs/Judged",
@@ -241,10 +241,10 @@ def value(of):
     word, *parts = of[1:] if of[0] == "of" else of
     if word == "ref":
         return f"Reference ({value(parts[0])})"
-    fields = "nil"
+    fields = "noMore"
     for field in reversed(parts):
-        fields = f"(cons ({value(field)}) {fields})"
-    return f"Variant {word} {fields}" if isinstance(word, int) else f"{word.capitalize()} {fields}"
+        fields = f"(more ({value(field)}) {fields})"
+    return f"Adt {word} {fields}" if isinstance(word, int) else f"{word.capitalize()} {fields}"
 
 
 def held(of):
@@ -278,14 +278,14 @@ def param_rows():
     for name, m, receiver, params, values in PARAM_CORNERS:
         body = lower_params(m, receiver, params)
         locals_ = row_of(ABSENT if local is None else local for local in body.binding_locals)
-        answer = f"accepted {number(body.then)} {locals_} {content(body)} {row_of(body.visits)}"
+        answer = f"acceptedParams {number(body.then)} {locals_} {content(body)} {row_of(body.visits)}"
         if binds_again(m, receiver, [p for p, _ in params]):
-            answer = f"refusal (record {{ number = 1; pattern = {ABSENT}; reason = 0 }})"
+            answer = f"refusedParams (record {{ number = 1; pattern = {ABSENT}; reason = 0 }})"
         me = f"SelfParam.Some {number(receiver[0])} {receiver[1]}" if receiver else "SelfParam.None"
         listed = row_of(f"record {{ pattern = {p}; ty = {type_} }}" for p, type_ in params)
         label = name.replace("_", "-") + "-row"
         given = f"values = {row_of(map(value, values))}; fit = {'false' if name in UNFIT else 'true'}"
-        print(f"abbrev {label} : Row\n{label} = record {{ image = {byte_list(m.encode())}; self = {me}; params = {listed}; wanted = {answer}; {given} }}\n")
+        print(f"abbrev {label} : ParamsRow\n{label} = record {{ image = {byte_list(m.encode())}; self = {me}; params = {listed}; wanted = {answer}; {given} }}\n")
 
 
 def differs(kind):
@@ -305,12 +305,12 @@ def main():
         sys.exit(f"not what samples/corner_theorems.py prints: {', '.join(wrong)}")
 
 
-def print_end(modules, present, opened, answer):
+def print_end(modules, present, opened, answer, row="Row"):
     """Prints the list of the rows, and the theorem."""
     unfolded = " ".join(names for _, _, names in modules)
-    print(f"abbrev pub rows : List Row\nrows = {row_of(present)[1:-1]}\n")
+    print(f"abbrev pub rows : List {row}\nrows = {row_of(present)[1:-1]}\n")
     print("-- each row's image comes to the answer that is wanted")
-    print(f"pub as-wanted : map (λ (row : Row). {answer}) rows ≡ map (λ (row : Row). row .wanted) rows")
+    print(f"pub as-wanted : map (λ (row : {row}). {answer}) rows ≡ map (λ (row : {row}). row .wanted) rows")
     print(f"unfolding {unfolded} {opened}\nas-wanted = refl")
 
 
@@ -342,18 +342,18 @@ def print_params():
     first = """use mathlib.Core.Bool.{true, false}
 use lib.IntN.{pos}
 use Rattle.lowered_params.specs.declared.SelfParam.{SelfParam}
-use Rattle.meaning.specs.Values.{Value, Int, Tuple, Variant, nil, cons}"""
+use Rattle.meaning.specs.Values.{Value, Int, Tuple, Adt, noMore, more}"""
     own = """use Rattle.param_runs.specs.Returned.{ownLocal}
 use Rattle.param_runs.specs.Through.{plain, patternFits, paramFits, paramsFit, allFit, paramsBound}
-use Rattle.param_runs.specs.Corner.{start, unbound, answer, Answer, accepted, refusal, Row, cornerFits}"""
+use Rattle.param_runs.specs.Corner.{paramsStart, unbound, paramsAnswer, ParamsAnswer, acceptedParams, refusedParams, ParamsRow, cornerFits}"""
     print(HEAD.format(what="The corners of document 01 on parameters", has="an image, self, the parameters", first=first, uses=uses(MODULES + PARAM_MODULES + FIT_MODULES), own=own))
     param_rows()
     present = [corner[0].replace("_", "-") + "-row" for corner in PARAM_CORNERS]
-    print_end(MODULES + PARAM_MODULES, present, "start unbound answer", "answer (row .image) (row .self) (row .params)")
+    print_end(MODULES + PARAM_MODULES, present, "paramsStart unbound paramsAnswer", "paramsAnswer (row .image) (row .self) (row .params)", "ParamsRow")
     tables = [module for module in MODULES if module[0] == "image"]
     unfolded = " ".join(names for _, _, names in tables + FIT_MODULES)
     print("\n-- whether the parameters fit the values beside them, as the theorem on runs asks")
-    print("pub fit-as-said : map cornerFits rows ≡ map (λ (row : Row). row .fit) rows")
+    print("pub fit-as-said : map cornerFits rows ≡ map (λ (row : ParamsRow). row .fit) rows")
     print(f"unfolding {unfolded} Rattle.meaning.specs.Typing.variantFields ownLocal plain patternFits paramFits paramsFit allFit paramsBound cornerFits\nfit-as-said = refl")
 
 
@@ -367,7 +367,7 @@ use mathlib.Core.Bool.{{true, false}}
 use mathlib.Core.List.{{List, [], _∷_, map}}
 use lib.IntN.{{pos, negsuc}}
 use Rattle.place.specs.declared.elems.ProjectionElem.{{ProjectionElem}}
-use Rattle.meaning.specs.Values.{{Value, Int, Bool′, Char, Str, Tuple, Variant, Reference, Array, Slice, nil, cons}}
+use Rattle.meaning.specs.Values.{{Value, Int, Bool′, Char, Str, Tuple, Adt, Reference, Array, Slice, noMore, more}}
 use Rattle.meaning.specs.Running.{{Held, value, refersTo}}
 use Rattle.meaning.specs.Matching.{{Bound}}
 use Rattle.audit.specs.Started.{{startState, start}}

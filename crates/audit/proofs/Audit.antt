@@ -32,7 +32,7 @@ use Rattle.called.proofs.Refusals.{fit-refused}
 use Rattle.called.proofs.Naming.{named-throughout}
 use Rattle.audit.specs.Started.{Row, answerBy}
 use Rattle.audit.specs.Call.{lowering}
-use Rattle.param_runs.specs.Corner.{answer, Row as ParamsRow}
+use Rattle.param_runs.specs.Corner.{paramsAnswer, ParamsRow}
 use Rattle.audit.proofs.Proved as proved
 use Rattle.param_runs.proofs.Corners as on-parameters
 
@@ -104,5 +104,5 @@ a-fitting-pattern-is-refused-by-11-or-14-alone = fit-refused
 
 -- The corners that document 01 marks [P], of pattern_matching.rs and of lower.rs on parameters, from the bytes of their images, which are valid; of parameters, others beside them.
 pub the-proved-corners : (map (λ (row : Row). answerBy lowering (row .image) (row .ty)) proved.rows ≡ map (λ (row : Row). row .wanted) proved.rows)
-    × (map (λ (row : ParamsRow). answer (row .image) (row .self) (row .params)) on-parameters.rows ≡ map (λ (row : ParamsRow). row .wanted) on-parameters.rows)
+    × (map (λ (row : ParamsRow). paramsAnswer (row .image) (row .self) (row .params)) on-parameters.rows ≡ map (λ (row : ParamsRow). row .wanted) on-parameters.rows)
 the-proved-corners = (proved.as-wanted, on-parameters.as-wanted)

@@ -20,7 +20,7 @@ use Rattle.lowered_params.specs.declared.ParamsCall.{ParamsCall}
 use Rattle.lowered_params.specs.Calls.{numbers as paramsNumbers}
 use Rattle.called.specs.Call.{Call, Promised}
 use Rattle.called.specs.AsFound.{AsFound, NoneVisited}
-use Rattle.called.specs.Params.{ParamsHanded, ParamsLeft, PromisedParams}
+use Rattle.called.specs.Params.{ParamsHanded, ParamsTables, PromisedParams}
 use Rattle.called.specs.Contracts.{PromisedAssignment, SelfHanded, PromisedSelf, OnBody, PromisedTemp, PromisedMerge, PromisedPush, PromisedPopAssumeDropped, PromisedPopAndDrop, PromisedDropUntil}
 use Rattle.called.proofs.Restored as restored
 
@@ -40,10 +40,10 @@ pub a-refused-match-self-param-leaves-all-as-found : (call : SelfHanded) (answer
 a-refused-match-self-param-leaves-all-as-found = restored.self-left
 
 -- `lower_params_and_bindings`, "and the bindings' locals .. as handed in"
-module _ (call : ParamsHanded) (answer : ParamsCall) (left : ParamsLeft) (refusal : Refusal) (is-refused : paramsNumbers answer ≡ some refusal) where
-  pub refused-parameters-leave-all-as-found : PromisedParams call answer left →
-      AsFound (call .body) (call .counts) refusal (left .body) × NoneVisited (call .visits) refusal (left .visits) × (left .bindings ≡ call .bindings)
-  refused-parameters-leave-all-as-found promised = restored.params-left call answer left refusal promised is-refused
+module _ (call : ParamsHanded) (answer : ParamsCall) (tables : ParamsTables) (refusal : Refusal) (is-refused : paramsNumbers answer ≡ some refusal) where
+  pub refused-parameters-leave-all-as-found : PromisedParams call answer tables →
+      AsFound (call .body) (call .counts) refusal (tables .body) × NoneVisited (call .visits) refusal (tables .visits) × (tables .bindings ≡ call .bindings)
+  refused-parameters-leave-all-as-found promised = restored.params-left call answer tables refusal promised is-refused
 
 -- A call on a body, what lies in its tables when it returns, and the numbers of a refusal.
 module _ (call : OnBody) (body : Body) (refusal : Refusal) where

@@ -25,7 +25,7 @@ use Rattle.named.proofs.Recording as recording
 use Rattle.named.proofs.Keeping.{temp-looked-for}
 use Rattle.called.specs.Call.{Call, HandedOut, Promised, Accepted, before, after}
 use Rattle.called.specs.Contracts.{PromisedAssignment, SelfHanded, PromisedSelf, OnBody, PromisedTemp, PromisedMerge, PromisedPush, PromisedPopAssumeDropped, PromisedPopAndDrop, PromisedDropUntil}
-use Rattle.called.specs.Params.{ParamsHanded, ParamsLeft, PromisedParams}
+use Rattle.called.specs.Params.{ParamsHanded, ParamsTables, PromisedParams}
 use Rattle.called.specs.Scopes.{countsAfterTemp, countsAfterMerge, countsAfterScope, countsAfterDrop, countsAfterMatch, countsAfterParams, StillOnce}
 use Rattle.called.proofs.Scopes as scopes
 use Rattle.audit.specs.Call.{lowering}
@@ -59,8 +59,8 @@ pub match-self-param-leaves-a-local-at-most-once : (call : SelfHanded) (answer :
 match-self-param-leaves-a-local-at-most-once = scopes.self-still-once
 
 -- .. `lower_params_and_bindings` ..
-pub parameters-leave-a-local-at-most-once : (call : ParamsHanded) (answer : ParamsCall) (left : ParamsLeft) → PromisedParams call answer left →
-    StillOnce (call .body) (call .counts) (left .body) (countsAfterParams (call .counts) answer)
+pub parameters-leave-a-local-at-most-once : (call : ParamsHanded) (answer : ParamsCall) (tables : ParamsTables) → PromisedParams call answer tables →
+    StillOnce (call .body) (call .counts) (tables .body) (countsAfterParams (call .counts) answer)
 parameters-leave-a-local-at-most-once = scopes.params-still-once
 
 -- .. and of the calls on a body: "every scope operation preserves that"

@@ -9,12 +9,12 @@ use Rattle.image.specs.Valid.{valid}
 use Rattle.lower.specs.declared.merging.OptBlock.{OptBlock}
 use Rattle.views.specs.Views.{Mir, Path, mirOf}
 use Rattle.pattern_matching.specs.Walking.{Out, Walk, ok, refused, localPlace}
-use Rattle.meaning.specs.Values.{Value, nothing, valueFits}
+use Rattle.meaning.specs.Values.{Value, unitValue, valueFits}
 use Rattle.meaning.specs.Running.{Held, value}
 use Rattle.meaning.specs.Executing.{Ending, atThen, atElse, stuck, unfinished, runs}
 use Rattle.meaning.specs.Matching.{Bound, matches}
 use Rattle.meaning.specs.Binding.{binds}
-use Rattle.meaning.specs.Fits.{fits}
+use Rattle.meaning.specs.Fit.{fits}
 use Rattle.audit.specs.Started.{start}
 use Rattle.audit.specs.Call.{lowering}
 
@@ -59,7 +59,7 @@ abbrev pub cameBy : List ℕ → List ℕ → Value → Walk Out → Came
 cameBy image locals v (ok r) =
     let m : Mir = mirOf (r .ctx .state) in
     cameTo locals
-    (runs (record { image = image; root = root; here = v }) m (r .then .0) (r .else) 1000 (record { block = 0; lines = m .lines; env = λ l. value nothing; entered = [] }))
+    (runs (record { image = image; root = root; here = v }) m (r .then .0) (r .else) 1000 (record { block = 0; lines = m .lines; env = λ l. value unitValue; entered = [] }))
 cameBy image locals v (refused e p) = toNeither
 
 -- a value is tried

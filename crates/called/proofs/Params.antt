@@ -73,12 +73,12 @@ record Handing (w : Walk ParamsOut) (c : Counts) (out : ParamsHandedOut) : Type 
   counts : out .counts ≡ countsOf (result .ctx .state)
   then : out .then ≡ result .then
   first : out .first ≡ record { 0 = c .locals }
-  reads : decode (out .left .body) (countsOf (result .ctx .state)) ≡ result .ctx .state
-  visits : out .left .visits ≡ map visitWord (result .ctx .visits)
-  bindings : out .left .bindings ≡ result .bindings
+  reads : decode (out .tables .body) (countsOf (result .ctx .state)) ≡ result .ctx .state
+  visits : out .tables .visits ≡ map visitWord (result .ctx .visits)
+  bindings : out .tables .bindings ≡ result .bindings
 
 handing : (w : Walk ParamsOut) (out : ParamsHandedOut) {m : List ℕ} {b : Body} {before : List ℕ} {c : Counts} →
-    GivesParams m b before c (walked w) (ParamsCall.Lowered (out .counts) (out .then) (out .first)) (out .left .bindings) (out .left .body) (out .left .visits) → Handing w c out
+    GivesParams m b before c (walked w) (ParamsCall.Lowered (out .counts) (out .then) (out .first)) (out .tables .bindings) (out .tables .body) (out .tables .visits) → Handing w c out
 handing (ok r) out P =
     let reply = P .reply in
     record { result = r; gave = refl; counts = cc; then = cc; first = cc; reads = P .reads; visits = P .visits; bindings = P .locals }
@@ -176,8 +176,8 @@ module _ (call : ParamsHanded) (out : ParamsHandedOut) (accepted : AcceptedParam
   pub params-give : loweredOf call ≡ ok (resultOfParams out)
   params-give =
       let r = H .result in
-      let state : r .ctx .state ≡ afterParams out = sym (H .reads) ∙ ap (decode (out .left .body)) (sym (H .counts)) in
-      let visits : r .ctx .visits ≡ out .left .visits = sym (H .visits ∙ words-same (r .ctx .visits) visits-small) in
+      let state : r .ctx .state ≡ afterParams out = sym (H .reads) ∙ ap (decode (out .tables .body)) (sym (H .counts)) in
+      let visits : r .ctx .visits ≡ out .tables .visits = sym (H .visits ∙ words-same (r .ctx .visits) visits-small) in
       let same : r ≡ resultOfParams out =
       λ i. record { ctx = record { state = state i; visits = visits i }; then = sym (H .then) i; bindings = sym (H .bindings) i } in
       H .gave ∙ ap (λ (x : ParamsOut). ok x) same
@@ -190,7 +190,7 @@ module _ (call : ParamsHanded) (out : ParamsHandedOut) (accepted : AcceptedParam
   pub only-returned-open : (b : ℕ) → call .counts .blocks ≤ b → b < out .counts .blocks → terminatorAt (mirOf (afterParams out)) b ≡ Terminator.Open → b ≡ out .then .0
   only-returned-open b new there lacks =
       let m = block-count (call .body) (call .counts) in
-      let n = block-count (out .left .body) (out .counts) in
+      let n = block-count (out .tables .body) (out .counts) in
       opens.only-the-returned-is-open (call .image) (call .self) (parametersOf call) (call .bindings) (startOfParams call) (call .start) (resultOfParams out) starts params-give b (omega (arith, new, m))
       (omega (arith, there, n)) lacks
 
@@ -206,7 +206,7 @@ module _ (call : ParamsHanded) (out : ParamsHandedOut) (accepted : AcceptedParam
   pub values-come-through : (M : Mir) → GoesOn (mirOf (afterParams out)) M → (vs : List Value) (env : Env) → FittingParams call out vs env → ComesThroughParams call out M vs env
   values-come-through M onward vs env fitting =
       comes-through (call .image) (call .self) (parametersOf call) (call .bindings) (startOfParams call) (call .start) (handed (fitting .image-bytes)) (resultOfParams out) params-give M onward vs
-      (subst (λ (l : ℕ). allFit (call .image) (out .left .bindings) (call .self) (parametersOf call) l vs ≡ true) (sym locals-same) (fitting .all-fit)) (fitting .bindings-differ) env
+      (subst (λ (l : ℕ). allFit (call .image) (out .tables .bindings) (call .self) (parametersOf call) l vs ≡ true) (sym locals-same) (fitting .all-fit)) (fitting .bindings-differ) env
       (subst (λ (l : ℕ). HeldFrom env l vs) (sym locals-same) (fitting .held))
 
 -- self's binding has self's own local, when all locals are made

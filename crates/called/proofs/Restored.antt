@@ -35,7 +35,7 @@ use Rattle.lowered_params.specs.Calls.{listHolds, paramsCall}
 use Rattle.lowered_params.specs.Calls as params
 use Rattle.called.specs.Call.{Call, Promised}
 use Rattle.called.specs.AsFound.{AsFound, NoneVisited}
-use Rattle.called.specs.Params.{ParamsHanded, ParamsLeft, PromisedParams}
+use Rattle.called.specs.Params.{ParamsHanded, ParamsTables, PromisedParams}
 use Rattle.called.specs.Contracts.{PromisedAssignment, SelfHanded, PromisedSelf, OnBody, PromisedTemp, PromisedMerge, PromisedPush, PromisedPopAssumeDropped, PromisedPopAndDrop, PromisedDropUntil}
 
 -- the same refusal
@@ -180,12 +180,12 @@ self-left call answer body refusal P is =
     (sym (P .refusal) ∙ is) (P .tables) refl .0
 
 -- `lower_params_and_bindings`
-pub params-left : (call : ParamsHanded) (answer : ParamsCall) (left : ParamsLeft) (refusal : Refusal) → PromisedParams call answer left → params.numbers answer ≡ some refusal →
-    AsFound (call .body) (call .counts) refusal (left .body) × NoneVisited (call .visits) refusal (left .visits) × (left .bindings ≡ call .bindings)
+pub params-left : (call : ParamsHanded) (answer : ParamsCall) (tables : ParamsTables) (refusal : Refusal) → PromisedParams call answer tables → params.numbers answer ≡ some refusal →
+    AsFound (call .body) (call .counts) refusal (tables .body) × NoneVisited (call .visits) refusal (tables .visits) × (tables .bindings ≡ call .bindings)
 unfolding paramsCall
-params-left call answer left refusal P is =
-    on-params (call .image) (call .body) (call .counts) refusal (left .body) (valid (call .image) && listHolds (call .image) (call .self) (call .list)) (bodyTaken (call .image) (call .body) (call .counts)) _ _ refl
-    (call .bindings) (left .bindings) (call .visits) (left .visits) (sym (P .refusal) ∙ is) (P .tables) (P .visits) (P .locals)
+params-left call answer tables refusal P is =
+    on-params (call .image) (call .body) (call .counts) refusal (tables .body) (valid (call .image) && listHolds (call .image) (call .self) (call .list)) (bodyTaken (call .image) (call .body) (call .counts)) _ _ refl
+    (call .bindings) (tables .bindings) (call .visits) (tables .visits) (sym (P .refusal) ∙ is) (P .tables) (P .visits) (P .locals)
 
 -- the calls on a body
 module _ (call : OnBody) (body : Body) (refusal : Refusal) where

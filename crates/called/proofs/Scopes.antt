@@ -52,7 +52,7 @@ use Rattle.param_runs.proofs.Scoping.{params-once}
 use Rattle.called.specs.Call.{Call, HandedOut, Promised, Accepted, before, after, patternOf, startOf, resultOf}
 use Rattle.called.specs.Acceptance.{Taken}
 use Rattle.called.specs.Contracts.{PromisedAssignment, SelfHanded, PromisedSelf, OnBody, PromisedTemp, PromisedMerge, PromisedPush, PromisedPopAssumeDropped, PromisedPopAndDrop, PromisedDropUntil}
-use Rattle.called.specs.Params.{ParamsHanded, ParamsLeft, PromisedParams, parametersOf, startOfParams, loweredOf}
+use Rattle.called.specs.Params.{ParamsHanded, ParamsTables, PromisedParams, parametersOf, startOfParams, loweredOf}
 use Rattle.called.specs.Scopes.{countsAfterTemp, countsAfterMerge, countsAfterScope, countsAfterDrop, countsAfterMatch, countsAfterParams, StillOnce}
 use Rattle.called.proofs.Walked.{walkOf, taken}
 use Rattle.called.proofs.Given.{given}
@@ -280,11 +280,11 @@ self-still-once call r body P =
         ∷ []
 
 -- `lower_params_and_bindings`
-pub params-still-once : (call : ParamsHanded) (r : ParamsCall) (left : ParamsLeft) → PromisedParams call r left →
-    StillOnce (call .body) (call .counts) (left .body) (countsAfterParams (call .counts) r)
+pub params-still-once : (call : ParamsHanded) (r : ParamsCall) (tables : ParamsTables) → PromisedParams call r tables →
+    StillOnce (call .body) (call .counts) (tables .body) (countsAfterParams (call .counts) r)
 unfolding paramsCall paramsHold
-params-still-once call r left P =
-    on-params (call .image) (call .body) (call .counts) (left .body) _ (valid (call .image) && listHolds (call .image) (call .self) (call .list)) (bodyTaken (call .image) (call .body) (call .counts))
+params-still-once call r tables P =
+    on-params (call .image) (call .body) (call .counts) (tables .body) _ (valid (call .image) && listHolds (call .image) (call .self) (call .list)) (bodyTaken (call .image) (call .body) (call .counts))
     (paramsHold (call .image) (call .self) (call .bindings) (call .body .blocks) (call .visits) (call .counts) (call .start)) (loweredOf call) refl r
     (λ T n o e.
     params-once (call .image) (call .self) (parametersOf call) (call .bindings) (startOfParams call) (call .start) o (taken-named (call .image) (call .body) (call .counts) T)

@@ -34,7 +34,7 @@ pub record ParamsHanded : Type 0 where
   pub start : BasicBlockId
 
 -- what lies in the bindings' locals and in the tables when it returns
-pub record ParamsLeft : Type 0 where
+pub record ParamsTables : Type 0 where
   pub bindings : List ℕ
   pub body : Body
   pub visits : List ℕ
@@ -51,19 +51,19 @@ abbrev pub definedOf : ParamsHanded → ParamsCalled
 definedOf call = paramsCall (call .image) (call .list) (call .self) (call .bindings) (call .body) (call .visits) (call .counts) (call .start)
 
 -- its contract (crates/params/src/lib.rt), of a call, its answer, and what is left
-abbrev pub PromisedParams : ParamsHanded → ParamsCall → ParamsLeft → Type 0
-PromisedParams call answer left = GivesParams (call .bindings) (call .body) (call .visits) (call .counts) (definedOf call) answer (left .bindings) (left .body) (left .visits)
+abbrev pub PromisedParams : ParamsHanded → ParamsCall → ParamsTables → Type 0
+PromisedParams call answer tables = GivesParams (call .bindings) (call .body) (call .visits) (call .counts) (definedOf call) answer (tables .bindings) (tables .body) (tables .visits)
 
 -- what it hands out where it is accepted: the counts, the block to go on from, the first parameter's local, and what is left
 pub record ParamsHandedOut : Type 0 where
   pub counts : Counts
   pub then : BasicBlockId
   pub first : LocalId
-  pub left : ParamsLeft
+  pub tables : ParamsTables
 
 -- the call is accepted, and hands this out
 abbrev pub AcceptedParams : ParamsHanded → ParamsHandedOut → Type 0
-AcceptedParams call out = PromisedParams call (ParamsCall.Lowered (out .counts) (out .then) (out .first)) (out .left)
+AcceptedParams call out = PromisedParams call (ParamsCall.Lowered (out .counts) (out .then) (out .first)) (out .tables)
 
 -- the parameters that the list names
 abbrev pub parametersOf : ParamsHanded → List Param
@@ -83,11 +83,11 @@ loweredOf call = lowerParamsAndBindings (call .image) (call .self) (parametersOf
 
 -- the body after the call, as rows
 abbrev pub afterParams : ParamsHandedOut → State
-afterParams out = decode (out .left .body) (out .counts)
+afterParams out = decode (out .tables .body) (out .counts)
 
 -- what the call hands out, as the definition gives it
 abbrev pub resultOfParams : ParamsHandedOut → ParamsOut
-resultOfParams out = record { ctx = record { state = afterParams out; visits = out .left .visits }; then = out .then; bindings = out .left .bindings }
+resultOfParams out = record { ctx = record { state = afterParams out; visits = out .tables .visits }; then = out .then; bindings = out .tables .bindings }
 
 -- what is counted of the call
 abbrev pub CountedParams : ParamsHanded → ParamsHandedOut → Type 0
@@ -97,7 +97,7 @@ CountedParams call out = ParamsCounted (call .image) (call .self) (parametersOf 
 -- the parameters, self's among them.
 pub record FittingParams (call : ParamsHanded) (out : ParamsHandedOut) (vs : List Value) (env : Env) : Type 0 where
   pub image-bytes : (i : ℕ) → getD (call .image) i 0 < 256
-  pub all-fit : allFit (call .image) (out .left .bindings) (call .self) (parametersOf call) (call .counts .locals) vs ≡ true
+  pub all-fit : allFit (call .image) (out .tables .bindings) (call .self) (parametersOf call) (call .counts .locals) vs ≡ true
   pub bindings-differ : bindingsDiffer (call .image) (call .self) (parametersOf call) ≡ true
   pub held : HeldFrom env (call .counts .locals) vs
 

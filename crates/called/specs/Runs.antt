@@ -17,8 +17,8 @@ use Rattle.meaning.specs.Running.{Env}
 use Rattle.meaning.specs.Executing.{Position, Ending, atThen, atElse}
 use Rattle.meaning.specs.Matching.{Bound, matches}
 use Rattle.meaning.specs.Binding.{binds}
-use Rattle.meaning.specs.Fits.{fits}
-use Rattle.correctness.specs.Demand2.{pathOf, Fitting, Stops, Comes, Ends}
+use Rattle.meaning.specs.Fit.{fits}
+use Rattle.correctness.specs.Demand2.{placePath, Fitting, Stops, Comes, Ends}
 use Rattle.called.specs.Call.{Call, HandedOut, Accepted, before, after, patternOf, startOf}
 
 -- the type of the place that the call is about
@@ -55,7 +55,7 @@ module _ {call : Call} {out : HandedOut} (on : FittingValue call out) where
 
   -- "the bindings it says"
   abbrev pub bound : List Bound
-  bound = binds (call .image) (patternOf call) (pathOf (call .place)) (on .value)
+  bound = binds (call .image) (patternOf call) (placePath (call .place)) (on .value)
 
   -- a run on the value, in a body M, what the locals hold before being env: it stops at a block, with these lines still to be looked at
   abbrev pub StopsAt : Mir → Env → ℕ → List Line → Type 0

@@ -34,7 +34,7 @@ use Rattle.growth.proofs.Testing.{good-binding}
 use Rattle.meaning.specs.Values.{Value}
 use Rattle.meaning.specs.Running.{Held, value, Env, update, Scene, ofPlaceValue, rvalueValue, execute}
 use Rattle.meaning.specs.Matching.{Bound, boundAs}
-use Rattle.correctness.specs.Demand2.{pathOf, after}
+use Rattle.correctness.specs.Demand2.{placePath, heldAfter}
 use Rattle.correctness.proofs.Trails.{trail-here}
 use Rattle.correctness.proofs.Walking.{rest, Walked, walked-here}
 use Rattle.correctness.proofs.Landing.{follow}
@@ -110,7 +110,7 @@ binding-local bindings b l e = by (eqb (getD bindings b 65535) 65535) e
 
 -- what a binding is filled with
 filled-with : {scene : Scene} {word : ℕ} {place : Place} {ty : PlaceTy} {w : Value} (how : BindingMode) (env : Env) → Stands scene word place ty w →
-    ofPlaceValue (bindingRvalue how) scene env (pathOf place) ≡ boundAs how (pathOf place) w
+    ofPlaceValue (bindingRvalue how) scene env (placePath place) ≡ boundAs how (placePath place) w
 unfolding ofPlaceValue bindingRvalue boundAs
 filled-with BindingMode.Value env s = ap value (stands-read env s)
 filled-with BindingMode.Ref env s = refl
@@ -119,14 +119,14 @@ filled-with BindingMode.Unknown env s = ap value (stands-read env s)
 
 -- one local set is one binding
 set-after : (bindings : List ℕ) (env : Env) (l b : ℕ) (held what : Held) → l ≡ getD bindings b 65535 → held ≡ what → (k : ℕ) →
-    update env l held k ≡ after bindings (record { binding = b; what = what } ∷ []) k (env k)
-unfolding update after
+    update env l held k ≡ heldAfter bindings (record { binding = b; what = what } ∷ []) k (env k)
+unfolding update heldAfter
 set-after bindings env l b held what e q k = ap (λ (x : ℕ). cond (eqb k x) held (env k)) e ∙ ap (λ (x : Held). cond (eqb k (getD bindings b 65535)) x (env k)) q
 
 -- a binding is filled with what lies at the place, or with a reference to it
 pub fills-binding : {scene : Scene} {word : ℕ} {place : Place} {ty : PlaceTy} {w : Value} (bindings : List ℕ) (M : Mir) (p q b : ℕ) (how : BindingMode) (ctx : Ctx) (c : BasicBlockId)
     (els : OptBlock) (r : Out) → Ready (ctx .state) c els → Stands scene word place ty w → patternMatchBinding bindings p q b how ctx c els place ≡ ok r →
-    Fills scene bindings M ctx c els (record { binding = b; what = boundAs how (pathOf place) w } ∷ []) r
+    Fills scene bindings M ctx c els (record { binding = b; what = boundAs how (placePath place) w } ∷ []) r
 unfolding patternMatchBinding execute rvalueValue
 fills-binding {scene} {place} {w} bindings M p q b how ctx c els r h s e =
     stepped q (bindingLocal bindings b) _ e (λ l e₁ f₁.
@@ -135,19 +135,19 @@ fills-binding {scene} {place} {w} bindings M p q b how ctx c els r h s e =
     let is = binding-local bindings b l e₁ in
     let good = good-binding {mode = MatchingMode.Bind} bindings p q b how ctx c els place .leaves h r e in
     let d = does-seq (does-live (isHeld (ctx .state) l) (ctx .state) st₁ l c e₂)
-    (does-line {scene = scene} (c .0) st₁ st₂ (placeRvalueRow c l (bindingRvalue how) place) (set (l .0) (ofPlace (bindingRvalue how) (pathOf place)))
+    (does-line {scene = scene} (c .0) st₁ st₂ (placeRvalueRow c l (bindingRvalue how) place) (set (l .0) (ofPlace (bindingRvalue how) (placePath place)))
     (place-rvalue-back c l (bindingRvalue how) place (s .within) (s .elements)) e₃) in
-    let bound : Bound = record { binding = b; what = boundAs how (pathOf place) w } in
+    let bound : Bound = record { binding = b; what = boundAs how (placePath place) w } in
     let out : Out = record { ctx = withState ctx st₂; then = c; else = els } in
     subst (λ (x : Out). Fills scene bindings M ctx c els (bound ∷ []) x) (ok-is f₃)
     (record {
       leaves = subst (λ (x : Out). Leaves (ctx .state) c els x) (sym (ok-is f₃)) good;
       walked = λ x env.
           record {
-            env′ = update env (l .0) (ofPlaceValue (bindingRvalue how) scene env (pathOf place));
+            env′ = update env (l .0) (ofPlaceValue (bindingRvalue how) scene env (placePath place));
             entered = [];
             run = does-run M env (x .more) d (x .grown);
-            locals = λ k i. set-after bindings env (l .0) b (ofPlaceValue (bindingRvalue how) scene env (pathOf place)) (boundAs how (pathOf place) w) is (filled-with how env s) k;
+            locals = λ k i. set-after bindings env (l .0) b (ofPlaceValue (bindingRvalue how) scene env (placePath place)) (boundAs how (placePath place) w) is (filled-with how env s) k;
             trail = trail-here (lt-of-lt-of-le (h .inside) (subst (λ (x : Out). Leaves (ctx .state) c els x) (sym (ok-is f₃)) good .worked .blocks));
           };
     }))))

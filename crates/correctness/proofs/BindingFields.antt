@@ -27,13 +27,13 @@ use Rattle.meaning.specs.Running.{Scene}
 use Rattle.meaning.specs.Matching.{onto, Bound, bindAll}
 use Rattle.meaning.specs.Typing.{TypeNumber}
 use Rattle.meaning.proofs.Children.{Valued}
-use Rattle.correctness.specs.Demand2.{pathOf}
+use Rattle.correctness.specs.Demand2.{placePath}
 use Rattle.correctness.proofs.Standing.{Rooted, rooted-more, Stands, onward, stands-onward, stepped}
 use Rattle.correctness.proofs.Permuting.{Binder}
 use Rattle.correctness.proofs.BindSteps.{Fills, fills-here, fills-seq}
 
 -- the path of a place one element on
-pub path-onward : (place : Place) (elem : ProjectionElem) (place′ : Place) → Fits elem → length (place .elems) ≡ 16 → project place elem ≡ done place′ → pathOf place′ ≡ onto (pathOf place) elem
+pub path-onward : (place : Place) (elem : ProjectionElem) (place′ : Place) → Fits elem → length (place .elems) ≡ 16 → project place elem ≡ done place′ → placePath place′ ≡ onto (placePath place) elem
 unfolding onto
 path-onward place elem place′ f n e =
     let o = onward place elem place′ f n e in
@@ -49,7 +49,7 @@ module _ (scene : Scene) (word : ℕ) (bindings : List ℕ) (M : Mir) where
   -- a lowering binds, on places of this type with this value, what the binder says
   pub record FillsOn (l : Lowering) (ty : PlaceTy) (w : Value) (b : Binder) : Type 0 where
     pub fill : (ctx : Ctx) (c : BasicBlockId) (els : OptBlock) (place : Place) (r : Out) → Rooted scene word (ctx .state) → Ready (ctx .state) c els → Stands scene word place ty w →
-        l MatchingMode.Bind ctx c els place ≡ ok r → Fills scene bindings M ctx c els (b (pathOf place) w) r
+        l MatchingMode.Bind ctx c els place ≡ ok r → Fills scene bindings M ctx c els (b (placePath place) w) r
 
   -- a lowering that binds where its pattern fits and matches
   pub record Can (l : Lowering) (f : TypeNumber → Bool) (m : Value → Bool) (b : Binder) : Type 0 where
@@ -114,11 +114,11 @@ module _ (scene : Scene) (word : ℕ) (bindings : List ℕ) (M : Mir) where
     -- children in turn
     pub fills-adt : valid (scene .image) ≡ true → (p : ℕ) (elems : List ProjectionElem) (ls : List Lowering) (bs : List Binder) → AllFill elems ls bs →
         (ctx : Ctx) (c : BasicBlockId) (els : OptBlock) (place : Place) (r : Out) → Rooted scene word (ctx .state) → Ready (ctx .state) c els → Stands scene word place ty w →
-        patternMatchAdt p elems ls MatchingMode.Bind ctx c els place ≡ ok r → Fills scene bindings M ctx c els (bindAll bs elems (pathOf place) w) r
+        patternMatchAdt p elems ls MatchingMode.Bind ctx c els place ≡ ok r → Fills scene bindings M ctx c els (bindAll bs elems (placePath place) w) r
     unfolding patternMatchAdt bindAll
     fills-adt holds p [] ls bs h ctx c els place r root ready s e =
-        subst (λ (x : Out). Fills scene bindings M ctx c els (bindAll bs [] (pathOf place) w) x) (ok-is e)
-        (subst (λ (xs : List Bound). Fills scene bindings M ctx c els xs (record { ctx = ctx; then = c; else = els })) (sym (bind-none bs (pathOf place) w)) (fills-here ctx c els ready))
+        subst (λ (x : Out). Fills scene bindings M ctx c els (bindAll bs [] (placePath place) w) x) (ok-is e)
+        (subst (λ (xs : List Bound). Fills scene bindings M ctx c els xs (record { ctx = ctx; then = c; else = els })) (sym (bind-none bs (placePath place) w)) (fills-here ctx c els ready))
     fills-adt holds p (elem ∷ elems) [] [] h ctx c els place r root ready s e = subst (λ (x : Out). Fills scene bindings M ctx c els [] x) (ok-is e) (fills-here ctx c els ready)
     fills-adt holds p (elem ∷ elems) [] (b ∷ bs) h ctx c els place r root ready s e = absurd h
     fills-adt holds p (elem ∷ elems) (l ∷ ls) [] h ctx c els place r root ready s e = absurd h
@@ -126,7 +126,7 @@ module _ (scene : Scene) (word : ℕ) (bindings : List ℕ) (M : Mir) where
         stepped p (project place elem) _ e (λ place′ e₁ f₁.
         walked (l MatchingMode.Bind ctx c els place′) _ f₁ (λ r₁ e₂ f₂.
         let first = h .1 .fill ctx c els place′ r₁ root ready (stands-onward elem place′ holds (h .0) s e₁) e₂ in
-        let here : Fills scene bindings M ctx c els (b (onto (pathOf place) elem) (partAt elem w)) r₁ =
+        let here : Fills scene bindings M ctx c els (b (onto (placePath place) elem) (partAt elem w)) r₁ =
         subst (λ (path : Path). Fills scene bindings M ctx c els (b path (partAt elem w)) r₁) (path-onward place elem place′ (h .0) (s .elements) e₁) first in
         let root₁ = rooted-more scene word (ctx .state) (r₁ .ctx .state) (first .leaves .worked .moreLocals) (first .leaves .worked .locals) root in
         fills-seq r₁ r ready here (fills-adt holds p elems ls bs (h .2) (r₁ .ctx) (r₁ .then) (r₁ .else) place r root₁ (first .leaves .ready) s f₂)))

@@ -21,16 +21,17 @@ use Rattle.pattern_matching.specs.Tests.{literal, litBy}
 use Rattle.pattern_matching.specs.Variants.{placeTy, shapeOf, needed, patternMatchTupleLike, ellipsisAt, tupleOn, tuplePattern, refOn, refPattern}
 use Rattle.pattern_matching.specs.Patterns.{rangePattern, bindPattern}
 use Rattle.growth.proofs.Walks.{not-ok, ok-is, walked}
+use Rattle.counting.specs.Cases.{tupleFields}
 use Rattle.meaning.specs.Values.{Value, partsOf, partAt, valueFits}
 use Rattle.meaning.specs.Running.{Scene}
 use Rattle.meaning.specs.Matching.{onto, crossed, crossedPath, boundAs, bindAll, matchRow, rowFields}
-use Rattle.meaning.specs.Typing.{TypeNumber, behind, tupleFields}
-use Rattle.meaning.specs.Fitting.{rowFits}
+use Rattle.meaning.specs.Typing.{TypeNumber}
+use Rattle.meaning.specs.Fit.{behind, rowFits}
 use Rattle.meaning.proofs.Parts.{fields-length, fits-tuple}
 use Rattle.meaning.proofs.Crossing.{behind-first}
 use Rattle.meaning.proofs.Typed.{deref-type}
 use Rattle.meaning.proofs.Children.{tuple-valued}
-use Rattle.correctness.specs.Demand2.{pathOf}
+use Rattle.correctness.specs.Demand2.{placePath}
 use Rattle.correctness.proofs.Standing.{Rooted, Stands, stands-typed, stands-onward, stands-as, stepped}
 use Rattle.correctness.proofs.Permuting.{LocalsApart, Binder, Separate}
 use Rattle.correctness.proofs.BindSteps.{Fills, fills-here, fills-seq, fills-visited, fills-binding}
@@ -40,7 +41,7 @@ use Rattle.correctness.proofs.BindingRows.{fills-row}
 -- references crossed: behind them lies what the pattern looks at, on the place behind them
 crossing-path : {C : Type 0} {scene : Scene} {word : ℕ} {place : Place} {t : ℕ} {w : Value} (p n u : ℕ) (k : Place → Walk Out) (r : Out) → valid (scene .image) ≡ true →
     Stands scene word place (PlaceTy.Ty t) w → behind (scene .image) n (some t) ≡ some u → derefed p place k n ≡ ok r →
-    ((place′ : Place) → Stands scene word place′ (PlaceTy.Ty u) (crossed n w) → pathOf place′ ≡ crossedPath n (pathOf place) → k place′ ≡ ok r → C) → C
+    ((place′ : Place) → Stands scene word place′ (PlaceTy.Ty u) (crossed n w) → placePath place′ ≡ crossedPath n (placePath place) → k place′ ≡ ok r → C) → C
 unfolding derefed behind crossed crossedPath
 crossing-path {place} {t} p zero u k r holds s b e f = let same : t ≡ u = cc in f place (stands-as (ap PlaceTy.Ty same) s) refl e
 crossing-path {C} {scene} {place} {t} p (suc n) u k r holds s b e f =

@@ -14,10 +14,10 @@ use Rattle.image.specs.Tree.{Pat, Pats, nil, cons, PatOpt, no, sub}
 use Rattle.image.proofs.Bools.{and-left, and-right}
 use Rattle.place.specs.declared.place_ty.PlaceTy.{PlaceTy}
 use Rattle.counting.specs.Reaching.{canFail}
-use Rattle.meaning.specs.Values.{kindNumber}
+use Rattle.counting.specs.Cases.{kindNumber}
+use Rattle.meaning.specs.Values.{hasVariant}
 use Rattle.meaning.specs.Typing.{variantFields}
-use Rattle.meaning.specs.Fit.{BoundAt, restTy, restBound, restBound?, patCount, boundIn, boundInAll, boundInFirst, boundIn?}
-use Rattle.meaning.specs.Fits.{hasVariant, fieldsThere, ellipsisWithin, hasLocal, restTaken, restTaken?, nothingRefused, noneRefused, noneReachedRefused, nothingRefused?}
+use Rattle.meaning.specs.Fit.{BoundAt, restTy, restBound?, patCount, boundIn, boundInAll, boundInFirst, boundIn?, fieldsThere, ellipsisWithin, hasLocal, restTaken?, nothingRefused, noneRefused, noneReachedRefused, nothingRefused?}
 use Rattle.correctness.proofs.BindingNames.{names, AllLocal, member-case, rest-binding}
 
 -- a test of numbers that fails
@@ -44,8 +44,8 @@ local-cons bindings x xs n h a m = by (eqb a (x .binding)) refl m
     by false q m = h a m
 
 -- a rest that is taken
-rest-local : (bindings : List ℕ) (rest : Pat) (shape : Shape) (t items : ℕ) → restTaken bindings rest ≡ true → AllLocal bindings (restBound rest shape t items)
-unfolding restTaken restBound
+rest-local : (bindings : List ℕ) (rest : Pat) (shape : Shape) (t items : ℕ) → restTaken? bindings (sub rest) ≡ true → AllLocal bindings (restBound? (sub rest) shape t items)
+unfolding restBound?
 rest-local bindings (Pat.Missing h) shape t items e = local-none bindings
 rest-local bindings (Pat.Rest h) shape t items e = local-none bindings
 rest-local bindings (Pat.NotNull h) shape t items e = local-none bindings
@@ -103,7 +103,7 @@ module _ (image bindings : List ℕ) where
     all-local (Pat.Path h target) e = local-none bindings
     all-local (Pat.Lit h operand) e = local-none bindings
     all-local (Pat.Bind h b s how annotation) e =
-        local-cons bindings (record { binding = b; ty = h .ty; left = none }) (boundIn? image s)
+        local-cons bindings (record { binding = b; ty = h .ty; lengthLeft = none }) (boundIn? image s)
         (not-eqb (getD bindings b 65535) 65535 (and-left (hasLocal bindings b) (nothingRefused? image bindings s) e))
         (local? s (and-right (hasLocal bindings b) (nothingRefused? image bindings s) e))
     all-local (Pat.TupleStruct h args ellipsis v) e =

@@ -16,9 +16,8 @@ use Rattle.place.specs.declared.elems.ProjectionElem.{ProjectionElem}
 use Rattle.views.specs.Views.{Path}
 use Rattle.meaning.specs.Values.{Value, partAt, partsOf}
 use Rattle.meaning.specs.Matching.{onto, crossed, crossedPath, Bound, boundAs, bindAll, matches, rowFields, recordFields, lastItems, variantPath}
-use Rattle.meaning.specs.Binding.{restBinds, restBinds?, binds, binders, bindFirst, binds?}
-use Rattle.meaning.specs.Fit.{BoundAt, sameCount, standsIn, within, restTy, restBound, restBound?, patCount, boundIn, boundInAll, boundInFirst, boundIn?, bindingsFit, allBindingsFit, bindingsFit?, alternativesFit, allBind, bindOnce, sameBindings}
-use Rattle.meaning.specs.Fits.{present, localsDiffer}
+use Rattle.meaning.specs.Binding.{restBinds?, binds, binders, bindFirst, binds?}
+use Rattle.meaning.specs.Fit.{BoundAt, sameCount, standsIn, within, restTy, restBound?, patCount, boundIn, boundInAll, boundInFirst, boundIn?, bindingsFit, allBindingsFit, bindingsFit?, alternativesFit, allBind, bindOnce, sameBindings, present, localsDiffer}
 use Rattle.correctness.proofs.Permuting.{Each, each-append, each-map, EachBinder, each-binder-map, each-bound, HasLocal, LocalsApart, Separate}
 
 -- the bindings, by their numbers
@@ -123,7 +122,7 @@ stands-among x [] e = absurd (false≢true e)
 stands-among x (y ∷ ys) e =
     let b = eqb (x .binding) (y .binding) in
     let t = eqb (x .ty) (y .ty) in
-    let n = sameCount (x .left) (y .left) in
+    let n = sameCount (x .lengthLeft) (y .lengthLeft) in
     or-elim (b && t && n) (standsIn x ys) e (λ q. or-left b (member (x .binding) (names ys)) (and-left b t (and-left (b && t) n q)))
     (λ q. or-right b (member (x .binding) (names ys)) (stands-among x ys q))
 
@@ -156,8 +155,8 @@ unfolding member
 one-among x xs b e = or-left (eqb (b .binding) (x .binding)) (member (b .binding) (names xs)) (eq-eqb (b .binding) (x .binding) (sym e))
 
 -- what a rest binds
-rest-among : (rest : Pat) (shape : Shape) (t items front end : ℕ) (path : Path) (v : Value) → Each (Among (restBound rest shape t items)) (restBinds rest front end path v)
-unfolding restBound restBinds
+rest-among : (rest : Pat) (shape : Shape) (t items front end : ℕ) (path : Path) (v : Value) → Each (Among (restBound? (sub rest) shape t items)) (restBinds? (sub rest) front end path v)
+unfolding restBound? restBinds?
 rest-among (Pat.Missing h) shape t items front end path v = tt
 rest-among (Pat.Rest h) shape t items front end path v = tt
 rest-among (Pat.NotNull h) shape t items front end path v = tt
@@ -238,7 +237,7 @@ module _ (image : List ℕ) where
     binds-among (Pat.Bind h b s how annotation) f path v =
         let here = crossedPath (h .derefs) path in
         let x = crossed (h .derefs) v in
-        let own : BoundAt = record { binding = b; ty = h .ty; left = none } in
+        let own : BoundAt = record { binding = b; ty = h .ty; lengthLeft = none } in
         let bound : Bound = record { binding = b; what = boundAs how here x } in
         let below = binds? image s here x in
         each-append (Among (own ∷ boundIn? image s)) below (bound ∷ [])

@@ -22,9 +22,9 @@ use Rattle.meaning.specs.Values.{Value, valueFits}
 use Rattle.meaning.specs.Running.{Env, Scene}
 use Rattle.meaning.specs.Matching.{Bound}
 use Rattle.meaning.specs.Typing.{TypeNumber}
-use Rattle.meaning.specs.Fitting.{itemsAllFit}
+use Rattle.meaning.specs.Fit.{itemsAllFit}
 use Rattle.image.proofs.Bools.{and-left, and-right}
-use Rattle.correctness.specs.Demand2.{pathOf}
+use Rattle.correctness.specs.Demand2.{placePath}
 use Rattle.correctness.proofs.Walking.{rest, worked-locals, Walked, Lands, on, off, walked-seq, walked-later}
 use Rattle.correctness.proofs.Standing.{Rooted, rooted-more, Stands}
 use Rattle.correctness.proofs.Arguments.{Meant, AllMeant, nil, cons, meant-grow, rooted-after}
@@ -46,7 +46,7 @@ module _ (scene : Scene) (word : ℕ) (bindings : List ℕ) (M : Mir) where
   module _ (t : ℕ) (w : Value) (value : valueFits (scene .image) w t ≡ true) (place : Place) (stands : Stands scene word place (PlaceTy.Ty t) w) where
     -- an alternative
     alternative-binds : {l : Lowering} {m : Value → Bool} {f : TypeNumber → Bool} {b : Binder} → Meant scene bindings M word l m f → Can scene word bindings M l f m b → f (some t) ≡ true →
-        Choice (λ ctx. Rooted scene word (ctx .state)) scene bindings M MatchingMode.Bind place l (m w) (b (pathOf place) w)
+        Choice (λ ctx. Rooted scene word (ctx .state)) scene bindings M MatchingMode.Bind place l (m w) (b (placePath place) w)
     alternative-binds {l} {m} {f} {b} h k fits =
         record {
           grows = h .grows;
@@ -57,7 +57,7 @@ module _ (scene : Scene) (word : ℕ) (bindings : List ℕ) (M : Mir) where
               let again : Ready (r₁ .ctx .state) (r₁ .then) OptBlock.None = record { inside = q .ready .inside; opened = q .ready .opened; else = tt; lines = q .ready .lines } in
               let q′ : Leaves (r₁ .ctx .state) (r₁ .then) OptBlock.None n = h .grows MatchingMode.Bind (r₁ .ctx) (r₁ .then) OptBlock.None place .leaves again n e₃ in
               let y : GoesOn (mirOf (n .ctx .state)) M = subst (λ (z : Out). GoesOn (mirOf (z .ctx .state)) M) (sym (ok-is e₄)) x in
-              subst (λ (z : Out). Lands scene bindings M ctx (c .0) env (b (pathOf place) w) z (m w)) (ok-is e₄)
+              subst (λ (z : Out). Lands scene bindings M ctx (c .0) env (b (placePath place) w) z (m w)) (ok-is e₄)
               (twice r₁ n q q′
               (h .lands t fits ctx c OptBlock.None place w root stands value ready r₁ e₁ (goes-on-trans (goes-on (q′ .worked) (q .ready .opened)) y) env)
               (λ env matches.
@@ -67,7 +67,7 @@ module _ (scene : Scene) (word : ℕ) (bindings : List ℕ) (M : Mir) where
     -- all alternatives
     choices : {ls : List Lowering} {ms : List (Value → Bool)} {fs : List (TypeNumber → Bool)} {bs : List Binder} → AllMeant scene bindings M word ls ms fs →
         AllCan scene word bindings M ls fs ms bs → itemsAllFit fs (some t) ≡ true →
-        Choices (λ ctx. Rooted scene word (ctx .state)) scene bindings M MatchingMode.Bind place ls (map (λ m. m w) ms) (map (λ b. b (pathOf place) w) bs)
+        Choices (λ ctx. Rooted scene word (ctx .state)) scene bindings M MatchingMode.Bind place ls (map (λ m. m w) ms) (map (λ b. b (placePath place) w) bs)
     unfolding itemsAllFit
     choices nil no-child fits = no-choice
     choices (cons {f = f} {fs = fs} h hs) (child k ks) fits =

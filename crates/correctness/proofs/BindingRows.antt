@@ -26,14 +26,13 @@ use Rattle.pattern_matching.specs.Walking.{Ctx, Out, ok, refused, Lowering, nex
 use Rattle.pattern_matching.specs.Variants.{patternMatchAdt, fieldsUpTo, patternMatchTupleLike, ellipsisAt}
 use Rattle.growth.specs.Opened.{Ready}
 use Rattle.growth.proofs.Walks.{not-ok, walked}
-use Rattle.meaning.specs.Values.{Value, nothing, partsOf, partAt}
+use Rattle.meaning.specs.Values.{Value, unitValue, partsOf, partAt}
 use Rattle.meaning.specs.Running.{Scene}
 use Rattle.meaning.specs.Matching.{onto, Bound, bindAll, matchAll, matchRow, matchFields, rowFields, recordFields}
-use Rattle.meaning.specs.Typing.{TypeNumber, argumentsFit}
-use Rattle.meaning.specs.Fitting.{eachFits, rowFits, fieldType, byFieldsFit, itemsAllFit}
-use Rattle.meaning.specs.Fits.{fieldsThere}
+use Rattle.meaning.specs.Typing.{TypeNumber, fieldType}
+use Rattle.meaning.specs.Fit.{argumentsFit, rowFits, byFieldsFit, itemsAllFit, fieldsThere, eachFits}
 use Rattle.meaning.proofs.Children.{Valued, from-append, length-from}
-use Rattle.correctness.specs.Demand2.{pathOf}
+use Rattle.correctness.specs.Demand2.{placePath}
 use Rattle.correctness.proofs.Standing.{Rooted, rooted-more, Stands}
 use Rattle.correctness.proofs.Rows.{zipMatch}
 use Rattle.correctness.proofs.Permuting.{LocalsApart, Binder, Same, same-trans, same-is, same-behind, turned, Separate, separate-drop, pieces-apart}
@@ -130,7 +129,7 @@ module _ (scene : Scene) (word : ℕ) (bindings : List ℕ) (M : Mir) (ty : Plac
   -- children in a row, on the elements from a on
   pub suited-row : (elem : ℕ → ProjectionElem) → ((i : ℕ) → Fits (elem i)) → (a n : ℕ) (fs : List (TypeNumber → Bool)) (ms : List (Value → Bool)) (ts : List ℕ) (vs : List Value) →
       length fs ≡ length ms → length fs ≤ length ts → ((i : ℕ) → i < length ts → Valued (scene .image) ty w (elem (a + i)) (getD ts i 0)) →
-      ((i : ℕ) → i < length fs → partAt (elem (a + i)) w ≡ getD vs i nothing) → eachFits fs ts ≡ true → matchAll ms vs ≡ true → Suited scene word bindings M ty w (map elem (upFrom a n)) fs ms
+      ((i : ℕ) → i < length fs → partAt (elem (a + i)) w ≡ getD vs i unitValue) → eachFits fs ts ≡ true → matchAll ms vs ≡ true → Suited scene word bindings M ty w (map elem (upFrom a n)) fs ms
   unfolding upFrom eachFits matchAll
   suited-row elem fit a zero fs ms ts vs same few at part e h = tt
   suited-row elem fit a (suc n) [] [] ts vs same few at part e h = tt
@@ -192,7 +191,7 @@ module _ (scene : Scene) (word : ℕ) (bindings : List ℕ) (M : Mir) (ty : Plac
       let here = and-left (ltb i (length ts)) (fieldsThere fields (length ts)) there in
       let kind = cond (ltb i (length ts)) (some (getD ts i 0)) none in
       let first = and-left (f kind) (byFieldsFit fields fs ts) e in
-      let value = getD (partsOf w) i nothing in (
+      let value = getD (partsOf w) i unitValue in (
         record {
           fit = tt;
           number = getD ts i 0;
@@ -211,7 +210,7 @@ module _ (scene : Scene) (word : ℕ) (bindings : List ℕ) (M : Mir) (ty : Plac
         AllFill scene word bindings M ty w (fieldsFrom (n - (length ls - at)) (length ls - at)) (drop at ls) (drop at bs) →
         (ctx : Ctx) (c : BasicBlockId) (els : OptBlock) (place : Place) (r : Out) → Rooted scene word (ctx .state) → Ready (ctx .state) c els → Stands scene word place ty w →
         patternMatchTupleLike p ls at n MatchingMode.Bind ctx c els place ≡ ok r →
-        Fills scene bindings M ctx c els (bindAll bs (rowFields (some at) (length bs) n) (pathOf place) w) r
+        Fills scene bindings M ctx c els (bindAll bs (rowFields (some at) (length bs) n) (placePath place) w) r
     unfolding patternMatchTupleLike
     fills-like at n ls bs same few sep front end ctx c els place r root ready s e = by (leb at (length ls)) refl e
       where
@@ -232,7 +231,7 @@ module _ (scene : Scene) (word : ℕ) (bindings : List ℕ) (M : Mir) (ty : Plac
             (next (patternMatchAdt p (fieldsUpTo n) (take at ls) MatchingMode.Bind ctx c els place) (λ r.
             patternMatchAdt p (reverse (fieldsUpTo n)) (reverse (drop at ls)) MatchingMode.Bind (r .ctx) (r .then) (r .else) place))
             (refused MirLowerError.Ellipsis p) ≡ ok r →
-            Fills scene bindings M ctx c els (bindAll bs (rowFields (some at) (length bs) n) (pathOf place) w) r
+            Fills scene bindings M ctx c els (bindAll bs (rowFields (some at) (length bs) n) (placePath place) w) r
         by false q e = absurd (not-ok e)
         by true q e =
             walked (patternMatchAdt p (fieldsUpTo n) (take at ls) MatchingMode.Bind ctx c els place) _ e (λ r₁ e₁ e₂.
@@ -242,7 +241,7 @@ module _ (scene : Scene) (word : ℕ) (bindings : List ℕ) (M : Mir) (ty : Plac
             (f₁ .leaves .ready) s e₂ in
             let f = fills-seq r₁ r ready f₁ f₂ in
             let inside : at ≤ length bs = omega (arith, leb-true at (length ls) q) in
-            fills-as r (row-order bindings apart at n bs (pathOf place) w inside (omega arith) sep) f)
+            fills-as r (row-order bindings apart at n bs (placePath place) w inside (omega arith) sep) f)
 
     -- the arguments of a row
     pub fills-row : {ls : List Lowering} {fs : List (TypeNumber → Bool)} {ms : List (Value → Bool)} {bs : List Binder} (ellipsis : Option ℕ) (ts : List ℕ) → AllCan scene word bindings M ls fs ms bs →
@@ -250,14 +249,14 @@ module _ (scene : Scene) (word : ℕ) (bindings : List ℕ) (M : Mir) (ty : Plac
         rowFits ellipsis fs ts ≡ true → matchRow ellipsis ms (partsOf w) ≡ true →
         (ctx : Ctx) (c : BasicBlockId) (els : OptBlock) (place : Place) (r : Out) → Rooted scene word (ctx .state) → Ready (ctx .state) c els → Stands scene word place ty w →
         patternMatchTupleLike p ls (ellipsisAt ellipsis ls) (length ts) MatchingMode.Bind ctx c els place ≡ ok r →
-        Fills scene bindings M ctx c els (bindAll bs (rowFields ellipsis (length bs) (length (partsOf w))) (pathOf place) w) r
+        Fills scene bindings M ctx c els (bindAll bs (rowFields ellipsis (length bs) (length (partsOf w))) (placePath place) w) r
     unfolding rowFits matchRow argumentsFit ellipsisAt rowFields partAt upFrom
     fills-row {ls} {fs} {ms} {bs} none ts cs sep parts at e h ctx c els place r root ready s q =
         let same = can-length scene word bindings M cs in
         let long = eqb-true (length fs) (length ts) (and-left (eqb (length fs) (length ts)) (eachFits fs ts) e) in
         let front = suited-row (λ i. ProjectionElem.Field i) (λ i. tt) 0 (length ts) fs ms ts (partsOf w) (same .fits ∙ sym (same .matches)) (omega arith)
         (λ i j. subst (λ (k : ℕ). Valued (scene .image) ty w (ProjectionElem.Field k) (getD ts i 0)) (sym (zero-add i)) (at i j))
-        (λ i j. ap (λ (k : ℕ). getD (partsOf w) k nothing) (zero-add i)) (and-right (eqb (length fs) (length ts)) (eachFits fs ts) e)
+        (λ i j. ap (λ (k : ℕ). getD (partsOf w) k unitValue) (zero-add i)) (and-right (eqb (length fs) (length ts)) (eachFits fs ts) e)
         (and-right (eqb (length ms) (length (partsOf w))) (matchAll ms (partsOf w)) h) in
         let n = length ls in
         let filled = suited-fill scene word bindings M ty w (fieldsUpTo (length ts)) cs front in
@@ -270,7 +269,7 @@ module _ (scene : Scene) (word : ℕ) (bindings : List ℕ) (M : Mir) (ty : Plac
         let is : rowFields (some n) (length bs) (length ts) ≡ map (λ i. ProjectionElem.Field i) (upFrom 0 (length bs)) =
         ap (λ (k : ℕ). map (λ i. ProjectionElem.Field i) (upFrom 0 n ++ upFrom (length ts - k) k)) z
         ∙ ap (map (λ i. ProjectionElem.Field i)) (append-nil (upFrom 0 n)) ∙ ap (λ (k : ℕ). map (λ i. ProjectionElem.Field i) (upFrom 0 k)) (sym (same .binders)) in
-        subst (λ (elems : List ProjectionElem). Fills scene bindings M ctx c els (bindAll bs elems (pathOf place) w) r) is f
+        subst (λ (elems : List ProjectionElem). Fills scene bindings M ctx c els (bindAll bs elems (placePath place) w) r) is f
     fills-row {ls} {fs} {ms} {bs} (some k) ts cs sep parts at e h ctx c els place r root ready s q =
         let same = can-length scene word bindings M cs in
         let vs = partsOf w in
@@ -291,13 +290,13 @@ module _ (scene : Scene) (word : ℕ) (bindings : List ℕ) (M : Mir) (ty : Plac
         let front = suited-row (λ i. ProjectionElem.Field i) (λ i. tt) 0 (length ts) (take k fs) (take k ms) ts vs
         (length-take k fs ∙ ap (λ (n : ℕ). min k n) (same .fits ∙ sym (same .matches)) ∙ sym (length-take k ms)) (first-few (length (take k fs)) k (length fs) (length ts) (length-take k fs) le)
         (λ i j. subst (λ (x : ℕ). Valued (scene .image) ty w (ProjectionElem.Field x) (getD ts i 0)) (sym (zero-add i)) (at i j))
-        (λ i j. ap (λ (x : ℕ). getD vs x nothing) (zero-add i)) (and-right few fits₁ (and-left (few && fits₁) fits₂ e)) (and-right enough match₁ (and-left (enough && match₁) match₂ h)) in
+        (λ i j. ap (λ (x : ℕ). getD vs x unitValue) (zero-add i)) (and-right few fits₁ (and-left (few && fits₁) fits₂ e)) (and-right enough match₁ (and-left (enough && match₁) match₂ h)) in
         let end = suited-row (λ i. ProjectionElem.Field i) (λ i. tt) a m (drop k fs) (drop k ms) (drop a ts) (drop a vs)
         (length-drop k fs ∙ ap (λ (n : ℕ). n - k) (same .fits ∙ sym (same .matches)) ∙ sym (length-drop k ms))
         (last-few m (length ts) (length (drop k fs)) (length (drop a ts)) (left-few (length ls) k (length ts) le′) (length-drop k fs ∙ ap (λ (n : ℕ). n - k) (same .fits)) (length-drop a ts))
         (λ i j. subst (Valued (scene .image) ty w (ProjectionElem.Field (a + i))) (sym (getD-drop a ts i 0)) (at (a + i) (last-inside a (length ts) i (length (drop a ts)) (length-drop a ts) j)))
-        (λ i j. sym (getD-drop a vs i nothing)) e₂ h₂ in
+        (λ i j. sym (getD-drop a vs i unitValue)) e₂ h₂ in
         let f = fills-like k (length ts) ls bs (same .binders) le′ sep
         (suited-fill scene word bindings M ty w (fieldsUpTo (length ts)) (can-take scene word bindings M k cs) front)
         (suited-fill scene word bindings M ty w (fieldsFrom a m) (can-drop scene word bindings M k cs) end) ctx c els place r root ready s q in
-        subst (λ (n : ℕ). Fills scene bindings M ctx c els (bindAll bs (rowFields (some k) (length bs) n) (pathOf place) w) r) (sym parts) f
+        subst (λ (n : ℕ). Fills scene bindings M ctx c els (bindAll bs (rowFields (some k) (length bs) n) (placePath place) w) r) (sym parts) f

@@ -25,9 +25,9 @@ use Rattle.growth.proofs.Walks.{not-ok, ok-is, walked}
 use Rattle.meaning.specs.Values.{Value, partsOf, partAt, valueFits}
 use Rattle.meaning.specs.Running.{Scene}
 use Rattle.meaning.specs.Matching.{bindAll, matchAll, lastItems, boundAs}
-use Rattle.meaning.specs.Binding.{restBinds, restBinds?}
+use Rattle.meaning.specs.Binding.{restBinds?}
 use Rattle.meaning.specs.Typing.{TypeNumber, elementType}
-use Rattle.meaning.specs.Fitting.{itemsAllFit}
+use Rattle.meaning.specs.Fit.{itemsAllFit}
 use Rattle.meaning.proofs.Children.{index-valued, end-valued}
 use Rattle.correctness.proofs.Standing.{rooted-more, stands-onward, stepped}
 use Rattle.correctness.proofs.Rows.{zipMatch, zip-numbered, last-items, zip-end}
@@ -61,8 +61,8 @@ last-there n k m q h = omega arith
 module _ (scene : Scene) (word : ℕ) (bindings : List ℕ) (M : Mir) (holds : valid (scene .image) ≡ true) where
   -- a rest binds the part between the items
   fills-rest-by : (rest : Pat) (p front end : ℕ) (ty : PlaceTy) (w : Value) → end < 8192 →
-      FillsOn scene word bindings M (restBound (restBy rest) bindings p front end) ty w (λ path v. restBinds rest front end path v)
-  unfolding restBy restBinds restBound
+      FillsOn scene word bindings M (restBound (restBy rest) bindings p front end) ty w (λ path v. restBinds? (sub rest) front end path v)
+  unfolding restBy restBinds? restBound
   fills-rest-by (Pat.Missing h) p front end ty w few = fills-nothing scene word bindings M (restBound RestOf.ignores bindings p front end) ty w (λ ctx c els place r e. ok-is e)
   fills-rest-by (Pat.Rest h) p front end ty w few = fills-nothing scene word bindings M (restBound RestOf.ignores bindings p front end) ty w (λ ctx c els place r e. ok-is e)
   fills-rest-by (Pat.NotNull h) p front end ty w few = fills-nothing scene word bindings M (restBound RestOf.ignores bindings p front end) ty w (λ ctx c els place r e. ok-is e)

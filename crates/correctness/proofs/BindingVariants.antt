@@ -27,16 +27,15 @@ use Rattle.pattern_matching.specs.Variants.{recordFields as recordArguments}
 use Rattle.pattern_matching.specs.Patterns.{pathPattern}
 use Rattle.growth.specs.Opened.{Ready}
 use Rattle.growth.proofs.Walks.{not-ok, ok-is}
-use Rattle.meaning.specs.Values.{Value, Variant, Values, fieldsFit, partsOf, partAt, valueFits}
+use Rattle.meaning.specs.Values.{Value, Adt, Values, fieldsFit, partsOf, partAt, valueFits}
 use Rattle.meaning.specs.Running.{Scene}
 use Rattle.meaning.specs.Matching.{bindAll, isVariant, pathMatches, matchRow, matchFields, rowFields, recordFields, variantPath}
-use Rattle.meaning.specs.Typing.{TypeNumber}
-use Rattle.meaning.specs.Typing.{variantFields as fieldsOf}
-use Rattle.meaning.specs.Fitting.{rowFits, byFieldsFit}
+use Rattle.meaning.specs.Typing.{TypeNumber, variantFields as fieldsOf}
+use Rattle.meaning.specs.Fit.{rowFits, byFieldsFit}
 use Rattle.meaning.proofs.Parts.{fields-length, fits-adt}
 use Rattle.meaning.proofs.Typed.{enum-choice, variant-fields, struct-one}
 use Rattle.meaning.proofs.Children.{Valued, struct-valued, enum-valued}
-use Rattle.correctness.specs.Demand2.{pathOf}
+use Rattle.correctness.specs.Demand2.{placePath}
 use Rattle.correctness.proofs.Standing.{Rooted, Stands, stands-onward, stands-as, stepped}
 use Rattle.correctness.proofs.Arguments.{accepted}
 use Rattle.correctness.proofs.Rows.{fields-there}
@@ -82,7 +81,7 @@ record-taken none p ls mode ctx c els place r e = absurd (not-ok e)
 record-taken (some elems) p ls mode ctx c els place r e = (elems, refl, e)
 
 -- of a value of the variant v
-is-variant : (v u : ℕ) (w : Value) {vs : Values} → w ≡ Variant u vs → isVariant (some v) w ≡ true → v ≡ u
+is-variant : (v u : ℕ) (w : Value) {vs : Values} → w ≡ Adt u vs → isVariant (some v) w ≡ true → v ≡ u
 unfolding isVariant
 is-variant v u w {vs} q e = eqb-true v u (ap (isVariant (some v)) (sym q) ∙ e)
 
@@ -114,12 +113,12 @@ module _ (scene : Scene) (word : ℕ) (bindings : List ℕ) (M : Mir) (holds : v
           ((kind ≡ AdtKind.Struct) × (variantFields args p (length (variantOf image v .fields)) MatchingMode.Bind ctx c els place ≡ ok r))
           ⊎ ((kind ≡ AdtKind.Enum)
           × (step p (project place (ProjectionElem.Downcast v)) (λ place′. variantFields args p (length (variantOf image v .fields)) MatchingMode.Bind ctx c els place′) ≡ ok r)) →
-          Fills scene bindings M ctx c els (b (variantPath (tyOf image t .shape) (some v) (pathOf place)) w) r
+          Fills scene bindings M ctx c els (b (variantPath (tyOf image t .shape) (some v) (placePath place)) w) r
       by ctx c els place r root ready s kind variants q m (inl (k, e)) =
           let here : tyOf image t .shape ≡ adt AdtKind.Struct variants = q ∙ ap (λ (x : AdtKind). adt x variants) k in
           let (u, vs, x, h, n, each) = fits-adt image w t AdtKind.Struct variants here value in
           let same : u ≡ v = sym (is-variant v u w x is) in
-          let y : w ≡ Variant v vs = x ∙ ap (λ (z : ℕ). Variant z vs) same in
+          let y : w ≡ Adt v vs = x ∙ ap (λ (z : ℕ). Adt z vs) same in
           let fields : fieldsFit image vs (variantOf image v .fields) ≡ true = rw same at each in
           let there : FieldsThere v t w (PlaceTy.Ty t) =
           record {
@@ -127,13 +126,13 @@ module _ (scene : Scene) (word : ℕ) (bindings : List ℕ) (M : Mir) (holds : v
             many = ap (λ (z : Value). length (partsOf z)) y ∙ fields-length image vs (variantOf image v .fields) fields;
             valued = struct-valued image t w v vs variants here (struct-one image t variants v holds (s .named) here m) y fields;
           } in
-          subst (λ (path : Path). Fills scene bindings M ctx c els (b path w) r) (ap (λ (z : Shape). variantPath z (some v) (pathOf place)) (sym here))
+          subst (λ (path : Path). Fills scene bindings M ctx c els (b path w) r) (ap (λ (z : Shape). variantPath z (some v) (placePath place)) (sym here))
           (f (PlaceTy.Ty t) there .fill ctx c els place r root ready s e)
       by ctx c els place r root ready s kind variants q m (inr (k, e)) =
           let here : tyOf image t .shape ≡ adt AdtKind.Enum variants = q ∙ ap (λ (x : AdtKind). adt x variants) k in
           let (u, vs, x, h, n, each) = fits-adt image w t AdtKind.Enum variants here value in
           let same : u ≡ v = sym (is-variant v u w x is) in
-          let y : w ≡ Variant v vs = x ∙ ap (λ (z : ℕ). Variant z vs) same in
+          let y : w ≡ Adt v vs = x ∙ ap (λ (z : ℕ). Adt z vs) same in
           let fields : fieldsFit image vs (variantOf image v .fields) ≡ true = rw same at each in
           let there : FieldsThere v t w (PlaceTy.Variant t v) =
           record {
@@ -143,7 +142,7 @@ module _ (scene : Scene) (word : ℕ) (bindings : List ℕ) (M : Mir) (holds : v
           } in
           stepped p (project place (ProjectionElem.Downcast v)) _ e (λ place′ e₁ e₂.
           subst (λ (path : Path). Fills scene bindings M ctx c els (b path w) r)
-          (path-onward place (ProjectionElem.Downcast v) place′ tt (s .elements) e₁ ∙ ap (λ (z : Shape). variantPath z (some v) (pathOf place)) (sym here))
+          (path-onward place (ProjectionElem.Downcast v) place′ tt (s .elements) e₁ ∙ ap (λ (z : Shape). variantPath z (some v) (placePath place)) (sym here))
           (f (PlaceTy.Variant t v) there .fill ctx c els place′ r root ready
           (stands-as (enum-choice image t v variants here m) (stands-onward (ProjectionElem.Downcast v) place′ holds tt s e₁)) e₂))
 

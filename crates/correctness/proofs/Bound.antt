@@ -20,17 +20,16 @@ use Rattle.pattern_matching.specs.Variants.{AdtPatternShape, tuplePattern, refP
 use Rattle.pattern_matching.specs.Slices.{sliceOn}
 use Rattle.pattern_matching.specs.Patterns.{passing, orPattern, rangePattern, pathPattern, bindPattern, restOf, patternMatchInner, lowerings, lowering?}
 use Rattle.growth.proofs.Walks.{ok-is}
+use Rattle.counting.specs.Cases.{referent}
 use Rattle.meaning.specs.Values.{Value, partsOf, partAt}
 use Rattle.meaning.specs.Running.{Scene}
 use Rattle.meaning.specs.Matching.{onto, crossed, crossedPath, Bound, boundAs, bindAll, matchAll, matchRow, matchFields, longEnough, isVariant, rowFields, recordFields, lastItems, variantPath, matches, matchers, matches?}
 use Rattle.meaning.specs.Binding.{restBinds?, binds, binders, bindFirst, binds?}
-use Rattle.meaning.specs.Typing.{referent}
-use Rattle.meaning.specs.Fitting.{typesFit, fitting, typesFit?}
-use Rattle.meaning.specs.Fit.{BoundAt, within, patCount, restBound?, boundIn, boundInAll, boundIn?, bindOnce, bindingsFit, allBindingsFit, bindingsFit?, alternativesFit, allBind, sameBindings}
+use Rattle.meaning.specs.Fit.{typesFit, fitting, typesFit?, BoundAt, within, patCount, restBound?, boundIn, boundInAll, boundIn?, bindOnce, bindingsFit, allBindingsFit, bindingsFit?, alternativesFit, allBind, sameBindings}
 use Rattle.meaning.proofs.Cutting.{Bytes}
 use Rattle.meaning.proofs.Typed.{headOf, tuple-fits, or-fits, record-fits, slice-fits, bind-fits, tuple-struct-fits, ref-fits, type-behind, value-here}
 use Rattle.meaning.proofs.Children.{lowerings-count, deref-valued}
-use Rattle.correctness.specs.Demand2.{pathOf}
+use Rattle.correctness.specs.Demand2.{placePath}
 use Rattle.correctness.proofs.OfImages.{OfImage, AllOfImage, OfImage?}
 use Rattle.correctness.proofs.Checked.{any-of, all-check}
 use Rattle.correctness.proofs.Choosing.{firstOf}
@@ -108,7 +107,7 @@ module _ (scene : Scene) (word : ℕ) (bindings : List ℕ) (M : Mir) (holds : v
               record {
                 fill = λ ctx c els place r root ready s e.
                     subst (λ (bs : List Bound). Fills scene bindings M ctx c els bs r)
-                    (first-binds image read (crossedPath (h .derefs) (pathOf place)) x) (g .fill ctx c els place r root ready s e);
+                    (first-binds image read (crossedPath (h .derefs) (placePath place)) x) (g .fill ctx c els place r root ready s e);
               };
         }
     bound (Pat.Record h fields args v) f there of =
@@ -188,7 +187,7 @@ module _ (scene : Scene) (word : ℕ) (bindings : List ℕ) (M : Mir) (holds : v
     bound (Pat.Bind h b s how annotation) f there of =
         let image = scene .image in
         let pat = Pat.Bind h b s how annotation in
-        let own : BoundAt = record { binding = b; ty = h .ty; left = none } in
+        let own : BoundAt = record { binding = b; ty = h .ty; lengthLeft = none } in
         let c = bound? s (and-right (bindOnce image (own ∷ boundIn? image s)) (bindingsFit? image s) f) (local-right bindings (own ∷ []) (boundIn? image s) there) of in
         record {
           fills = λ t w fits match value.

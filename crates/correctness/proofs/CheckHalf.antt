@@ -20,10 +20,8 @@ use Rattle.pattern_matching.specs.Patterns.{patternMatchInner}
 use Rattle.meaning.specs.Values.{Value}
 use Rattle.meaning.specs.Running.{Env, Scene}
 use Rattle.meaning.specs.Matching.{matches, Bound}
-use Rattle.meaning.specs.Fitting.{typesFit}
-use Rattle.meaning.specs.Fit.{bindingsFit}
-use Rattle.meaning.specs.Fits.{fits, nothingRefused, localsDiffer}
-use Rattle.correctness.specs.Demand2.{pathOf, Handed, Fitting, Comes}
+use Rattle.meaning.specs.Fit.{typesFit, bindingsFit, fits, nothingRefused, localsDiffer}
+use Rattle.correctness.specs.Demand2.{placePath, Handed, Fitting, Comes}
 use Rattle.correctness.proofs.Trails.{distinct-of}
 use Rattle.correctness.proofs.Walking.{rest, Walked, Lands}
 use Rattle.correctness.proofs.Standing.{Rooted, Stands, stands-start}
@@ -32,7 +30,7 @@ use Rattle.correctness.proofs.Checked.{checks}
 
 -- a place handed in, and the value that lies there
 abbrev pub sceneOf : List ℕ → Place → Value → Scene
-sceneOf image place v = record { image = image; root = pathOf place; here = v }
+sceneOf image place v = record { image = image; root = placePath place; here = v }
 
 -- the word of its local's type
 abbrev pub rootWord : Ctx → Place → ℕ

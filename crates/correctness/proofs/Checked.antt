@@ -22,7 +22,7 @@ use Rattle.growth.proofs.Growing.{grows, grows?}
 use Rattle.meaning.specs.Values.{Value}
 use Rattle.meaning.specs.Running.{Scene}
 use Rattle.meaning.specs.Matching.{crossed, matches, matchers, matchAny, matches?}
-use Rattle.meaning.specs.Fitting.{typesFit, fitting, typesFit?}
+use Rattle.meaning.specs.Fit.{typesFit, fitting, typesFit?}
 use Rattle.meaning.proofs.Cutting.{Bytes}
 use Rattle.meaning.proofs.Constants.{literal-worth, type-sized}
 use Rattle.meaning.proofs.Crossing.{fits-crossed}

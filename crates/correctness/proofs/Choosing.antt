@@ -26,7 +26,7 @@ use Rattle.growth.proofs.Walks.{ok-is, walked, Grows, AllGrow}
 use Rattle.growth.proofs.Alternating.{good-alternative, LeftFrom, Tried, tried, tried-one, tried-ready, tried-all}
 use Rattle.meaning.specs.Running.{Env, Scene, Run}
 use Rattle.meaning.specs.Matching.{Bound}
-use Rattle.correctness.specs.Demand2.{after}
+use Rattle.correctness.specs.Demand2.{heldAfter}
 use Rattle.correctness.proofs.Trails.{Landing, trail-one}
 use Rattle.correctness.proofs.Walking.{rest, hop, worked-locals, Walked, Lands, on, off, walked-here, walked-seq, walked-later, walked-enter}
 use Rattle.correctness.proofs.Doing.{terminator-is}
@@ -85,7 +85,7 @@ module _ {scene : Scene} {bindings : List ℕ} {M : Mir} {ctx : Ctx} {c : BasicB
       GoesOn (mirOf (ctx₁ .state)) (mirOf (ctx₂ .state)) → GoesOn (mirOf (ctx₂ .state)) M → rest (ctx₂ .state) M ≡ rest (ctx₁ .state) M →
       terminator (ctx₂ .state) (b .0) ≡ Terminator.Goto t → b .0 ≢ t .0 → Landing (ctx .state) (c .0) (ctx₂ .state) (t .0) →
       Walked scene bindings M ctx (c .0) env bs ctx₂ (t .0) (M .lines)
-  unfolding after
+  unfolding heldAfter
   walked-goto {bs} ctx₁ ctx₂ b t w s h f h₁ ib it x y er et ne o =
       let u : Walked scene bindings M ctx₁ (b .0) (w .env′) [] ctx₂ (t .0) (M .lines) =
       record {

@@ -26,10 +26,8 @@ use Rattle.meaning.specs.Values.{Value}
 use Rattle.meaning.specs.Running.{Env}
 use Rattle.meaning.specs.Matching.{matches}
 use Rattle.meaning.specs.Binding.{binds}
-use Rattle.meaning.specs.Fitting.{typesFit}
-use Rattle.meaning.specs.Fit.{bindingsFit}
-use Rattle.meaning.specs.Fits.{fits, nothingRefused, localsDiffer}
-use Rattle.correctness.specs.Demand2.{pathOf, Handed, Fitting, Stops, Comes}
+use Rattle.meaning.specs.Fit.{typesFit, bindingsFit, fits, nothingRefused, localsDiffer}
+use Rattle.correctness.specs.Demand2.{placePath, Handed, Fitting, Stops, Comes}
 use Rattle.correctness.proofs.Walking.{rest, Lands}
 use Rattle.correctness.proofs.Landing.{led-on, led-off, lands-bound}
 use Rattle.correctness.proofs.Arguments.{rooted-after}
@@ -58,7 +56,7 @@ module _ (image bindings : List ℕ) (pat : Pat) (ctx : Ctx) (current : BasicBlo
     (handed : Handed image bindings ctx current els place t) (of : OfImage image pat) (fitting : Fitting image bindings ctx place t pat v)
     (r : Out) (lowered : patternMatch image bindings pat ctx current els place ≡ ok r) (M : Mir) (onward : GoesOn (mirOf (r .ctx .state)) M) (env : Env) where
   -- the tests, and then the bindings where they led on
-  pub lands : Lands (sceneOf image place v) bindings M ctx (current .0) env (binds image pat (pathOf place) v) r (matches image pat v)
+  pub lands : Lands (sceneOf image place v) bindings M ctx (current .0) env (binds image pat (placePath place) v) r (matches image pat v)
   unfolding patternMatch
   lands =
       walked (patternMatchInner image bindings pat MatchingMode.Check ctx current els place) _ lowered (λ r₁ e₁ e₂.
@@ -77,15 +75,15 @@ module _ (image bindings : List ℕ) (pat : Pat) (ctx : Ctx) (current : BasicBlo
 
   -- a value that matches comes to the then block, with the bindings that the Reference says
   pub matching-comes : matches image pat v ≡ true →
-      Comes image bindings M place v ctx current env (binds image pat (pathOf place) v) (r .then .0) (drop (length (r .ctx .state .statements)) (M .lines))
+      Comes image bindings M place v ctx current env (binds image pat (placePath place) v) (r .then .0) (drop (length (r .ctx .state .statements)) (M .lines))
   unfolding rest
-  matching-comes e = comes (led-on (subst (Lands (sceneOf image place v) bindings M ctx (current .0) env (binds image pat (pathOf place) v) r) e lands))
+  matching-comes e = comes (led-on (subst (Lands (sceneOf image place v) bindings M ctx (current .0) env (binds image pat (placePath place) v) r) e lands))
 
   -- one that does not comes to the else, with no binding
   pub other-comes : matches image pat v ≡ false →
       (e : BasicBlockId) × (r .else ≡ OptBlock.Some e) × Comes image bindings M place v ctx current env [] (e .0) (M .lines)
   other-comes e =
-      let (b, i, w) = led-off (subst (Lands (sceneOf image place v) bindings M ctx (current .0) env (binds image pat (pathOf place) v) r) e lands) in
+      let (b, i, w) = led-off (subst (Lands (sceneOf image place v) bindings M ctx (current .0) env (binds image pat (placePath place) v) r) e lands) in
       (b, i, comes w)
 
 -- Demand 2, of the pattern p of an image, in every body that goes on from the lowered one.
@@ -97,7 +95,7 @@ module _ (image bindings : List ℕ) (p : ℕ) (ctx : Ctx) (current : BasicBlock
 
   -- "the blocks lead a value to the then block when the Reference says it matches, with the bindings it says"
   pub if-it-matches : matches image (tree image p) v ≡ true →
-      Comes image bindings M place v ctx current env (binds image (tree image p) (pathOf place) v) (r .then .0) (drop (length (r .ctx .state .statements)) (M .lines))
+      Comes image bindings M place v ctx current env (binds image (tree image p) (placePath place) v) (r .then .0) (drop (length (r .ctx .state .statements)) (M .lines))
   if-it-matches e = matching-comes image bindings (tree image p) ctx current els place t v handed drawn fitting r lowered M onward env e
 
   -- "and otherwise to the else block"

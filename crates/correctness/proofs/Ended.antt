@@ -27,7 +27,7 @@ use Rattle.meaning.specs.Executing.{atThen, atElse, isElse}
 use Rattle.meaning.specs.Matching.{matches}
 use Rattle.meaning.specs.Binding.{binds}
 use Rattle.meaning.proofs.Agreeing.{standing}
-use Rattle.correctness.specs.Demand2.{pathOf, Handed, Fitting, Comes, Ends}
+use Rattle.correctness.specs.Demand2.{placePath, Handed, Fitting, Comes, Ends}
 use Rattle.correctness.proofs.Trails.{all-map₂, distinct-of}
 use Rattle.correctness.proofs.Walking.{rest, rest-is, Lands}
 use Rattle.correctness.proofs.Landing.{led-on, led-off}
@@ -65,17 +65,17 @@ module _ (image bindings : List ℕ) (p : ℕ) (ctx : Ctx) (current : BasicBlock
   left : Leaves (ctx .state) current els r
   left = match-leaves image bindings (tree image p) ctx current els place r (handed .starts) lowered
 
-  landed : Lands (sceneOf image place v) bindings m ctx (current .0) env (binds image (tree image p) (pathOf place) v) r (matches image (tree image p) v)
+  landed : Lands (sceneOf image place v) bindings m ctx (current .0) env (binds image (tree image p) (placePath place) v) r (matches image (tree image p) v)
   landed =
       lands image bindings (tree image p) ctx current els place t v handed (tree-drawn image (fitting .image-valid) (fitting .image-bytes) p there) fitting r lowered m (goes-on-refl m) env
 
   -- on a value that matches it ends at the end of then
   pub matching-ends : matches image (tree image p) v ≡ true →
-      (c : Comes image bindings m place v ctx current env (binds image (tree image p) (pathOf place) v) (r .then .0) (drop (length (r .ctx .state .statements)) (m .lines)))
+      (c : Comes image bindings m place v ctx current env (binds image (tree image p) (placePath place) v) (r .then .0) (drop (length (r .ctx .state .statements)) (m .lines)))
       × Ends image m place v ctx current env (r .then) (r .else) (r .then .0) (drop (length (r .ctx .state .statements)) (m .lines)) (c .stops) atThen
   unfolding rest comes
   matching-ends e =
-      let w = led-on (subst (Lands (sceneOf image place v) bindings m ctx (current .0) env (binds image (tree image p) (pathOf place) v) r) e landed) in
+      let w = led-on (subst (Lands (sceneOf image place v) bindings m ctx (current .0) env (binds image (tree image p) (placePath place) v) r) e landed) in
       let empty = rest-is (r .ctx .state) m [] (sym (append-nil (m .lines))) in
       let others = all-map₂ (λ c. c ≢ r .then .0 → Closed (terminator (r .ctx .state) c)) (λ c. From (ctx .state) (r .then .0) c) (λ c. isElse (r .else) c ≡ false) (w .entered)
       (λ c. not-else (ctx .state) (r .ctx .state) current (r .then) els (r .else) c (handed .starts .else) (left .else) (left .ready .else)) (w .trail .closed .1) (w .trail .newer) in
@@ -91,7 +91,7 @@ module _ (image bindings : List ℕ) (p : ℕ) (ctx : Ctx) (current : BasicBlock
       × Ends image m place v ctx current env (r .then) (r .else) (e .0) (m .lines) (c .stops) atElse
   unfolding rest comes
   other-ends q =
-      let (e, i, w) = led-off (subst (Lands (sceneOf image place v) bindings m ctx (current .0) env (binds image (tree image p) (pathOf place) v) r) q landed) in
+      let (e, i, w) = led-off (subst (Lands (sceneOf image place v) bindings m ctx (current .0) env (binds image (tree image p) (placePath place) v) r) q landed) in
       let apart = start-apart (ctx .state) (r .ctx .state) current els (r .else) e (handed .starts .inside) (handed .starts .else) (left .else) i in
       let l = leads-to-else (sceneOf image place v) m (r .then .0) (r .else) (left .ready .opened) (w .run) i apart (distinct-of (w .entered) (w .trail .distinct .1)) refl [] in
       (e, i, comes w, record { enough = l .enough; ends = l .leads })

@@ -19,7 +19,7 @@ use Rattle.refusals.specs.Refusals.{ok, refused}
 use Rattle.mir.specs.declared.rvalues.Constant.{Constant}
 use Rattle.literals.specs.Literals.{constantOf, stringConstant, integerConstant, literalBy, lowerLiteralToOperand, lowerConstToOperand, literalOrConstBy, lowerLiteralOrConstToOperand}
 use Rattle.views.proofs.ReadBack.{Small}
-use Rattle.meaning.specs.Fitting.{literalFits, endFits}
+use Rattle.meaning.specs.Fit.{literalFits, endFits}
 use Rattle.meaning.proofs.Cutting.{Bytes, little-small, size-some}
 use Rattle.meaning.proofs.Constants.{Lies, Sized}
 

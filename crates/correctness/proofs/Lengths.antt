@@ -35,7 +35,7 @@ use Rattle.growth.proofs.Opening.{opens-block, opens-else, adds-temp, adds-stat
 use Rattle.growth.proofs.Testing.{good-length, good-discriminant}
 use Rattle.meaning.specs.Values.{Value, Int, partsOf, placeIn}
 use Rattle.meaning.specs.Running.{Held, value, Env, update, valueOf, constantValue, scalarOf, compared, discriminantOf, Scene, partBehind, read, ofPlaceValue, leftValue, rvalueValue, execute, switchNumber}
-use Rattle.correctness.specs.Demand2.{pathOf}
+use Rattle.correctness.specs.Demand2.{placePath}
 use Rattle.correctness.proofs.Walking.{Lands}
 use Rattle.correctness.proofs.Standing.{Rooted, Stands, stands-read, stepped}
 use Rattle.correctness.proofs.Doing.{Does, does-seq, does-block, does-else, does-line, does-temp, update-same, update-other, opens-locals, adds-locals}
@@ -54,7 +54,7 @@ number-switched m low high = refl
 
 -- a length against a local that holds another
 length-compared : (scene : Scene) (env : Env) (n len l : ℕ) → scene .root .local < l → env l ≡ value (Int (pos len)) →
-    compared BinOp.Le (leftValue (Left.Constant (lengthConstant n)) scene env) (read scene env (pathOf (localPlace (record { 0 = l })))) ≡ leb n len
+    compared BinOp.Le (leftValue (Left.Constant (lengthConstant n)) scene env) (read scene env (placePath (localPlace (record { 0 = l })))) ≡ leb n len
 unfolding compared leftValue constantValue lengthConstant read partBehind localPlace projectionOf placeIn scalarOf valueOf
 length-compared scene env n len l h e =
     let plain : n + 18446744073709551616 * 0 ≡ n = omega arith in
@@ -71,7 +71,7 @@ low-half d = omega arith
 
 -- what the length's statement does
 abbrev measured : Scene → Place → ℕ → Env → Env
-measured scene place l env = update env l (value (Int (pos (length (partsOf (read scene env (pathOf place)))))))
+measured scene place l env = update env l (value (Int (pos (length (partsOf (read scene env (placePath place)))))))
 
 module _ {scene : Scene} {bindings : List ℕ} {M : Mir} {word : ℕ} {place : Place} {ty : PlaceTy} {w : Value} (p : ℕ) (ctx : Ctx) (c : BasicBlockId) (els : OptBlock) where
   -- the end of a length's test, by the rest
@@ -82,25 +82,25 @@ module _ {scene : Scene} {bindings : List ℕ} {M : Mir} {word : ℕ} {place : P
   unfolding lengthCompared longTested lengthConstant localPlace
   length-end RestOf.none n t e r h root s small d new more is q x env =
       let l = length (ctx .state .locals) in
-      let told : length (partsOf (read scene env (pathOf place))) ≡ length (partsOf w) = ap (λ (y : Value). length (partsOf y)) (stands-read env s) in
+      let told : length (partsOf (read scene env (placePath place))) ≡ length (partsOf w) = ap (λ (y : Value). length (partsOf y)) (stands-read env s) in
       let plain : n + 18446744073709551616 * 0 ≡ n = omega arith in
-      let len = length (partsOf (read scene env (pathOf place))) in
+      let len = length (partsOf (read scene env (placePath place))) in
       lands-switch ctx c els (nextLocal (ctx .state)) n 0 t e (ctx .visits) r h d new small (omega arith) is q x env
       (λ k i. update-other env l (value (Int (pos len))) k (omega arith)) (eqb (length (partsOf w)) n)
       (ap (λ (y : Held). eqb (switchNumber (scalarOf (valueOf y))) (n + 18446744073709551616 * 0)) (update-same env l (value (Int (pos len)))) ∙ number-switched len n 0
       ∙ ap₂ (λ (a b : ℕ). eqb a b) told plain)
   length-end (RestOf.binds z b how) n t e r h root s small d new more is q x env =
       let l = length (ctx .state .locals) in
-      let told : length (partsOf (read scene env (pathOf place))) ≡ length (partsOf w) = ap (λ (y : Value). length (partsOf y)) (stands-read env s) in
-      let len = length (partsOf (read scene env (pathOf place))) in
+      let told : length (partsOf (read scene env (placePath place))) ≡ length (partsOf w) = ap (λ (y : Value). length (partsOf y)) (stands-read env s) in
+      let len = length (partsOf (read scene env (placePath place))) in
       subst (λ (y : Bool). Lands scene bindings M ctx (c .0) env [] r y)
       (length-compared scene (measured scene place l env) n len l (root .there) (update-same env l (value (Int (pos len)))) ∙ ap (leb n) told)
       (lands-compare (scene .image) p BinOp.Le (Left.Constant (lengthConstant n)) (localPlace (nextLocal (ctx .state))) ctx c els t e r h d new more (small, omega arith) (omega arith) refl is q x env
       (λ k i. update-other env l (value (Int (pos len))) k (omega arith)))
   length-end RestOf.ignores n t e r h root s small d new more is q x env =
       let l = length (ctx .state .locals) in
-      let told : length (partsOf (read scene env (pathOf place))) ≡ length (partsOf w) = ap (λ (y : Value). length (partsOf y)) (stands-read env s) in
-      let len = length (partsOf (read scene env (pathOf place))) in
+      let told : length (partsOf (read scene env (placePath place))) ≡ length (partsOf w) = ap (λ (y : Value). length (partsOf y)) (stands-read env s) in
+      let len = length (partsOf (read scene env (placePath place))) in
       subst (λ (y : Bool). Lands scene bindings M ctx (c .0) env [] r y)
       (length-compared scene (measured scene place l env) n len l (root .there) (update-same env l (value (Int (pos len)))) ∙ ap (leb n) told)
       (lands-compare (scene .image) p BinOp.Le (Left.Constant (lengthConstant n)) (localPlace (nextLocal (ctx .state))) ctx c els t e r h d new more (small, omega arith) (omega arith) refl is q x env
@@ -123,7 +123,7 @@ module _ {scene : Scene} {bindings : List ℕ} {M : Mir} {word : ℕ} {place : P
       let o₃ = opens-else st₂ st₃ (c .0) els e₃ in
       length-end rest n (nextBlock st₃) (elseBlock st₂ els) r h root s small
       (does-seq (does-seq (does-temp (scene .image) st st₁ usizeWord c e₁)
-      (does-line (c .0) st₁ st₂ (placeRvalueRow c (nextLocal st) PlaceRvalue.Len place) (puts (length (st .locals)) (ofPlace PlaceRvalue.Len (pathOf place)))
+      (does-line (c .0) st₁ st₂ (placeRvalueRow c (nextLocal st) PlaceRvalue.Len place) (puts (length (st .locals)) (ofPlace PlaceRvalue.Len (placePath place)))
       (place-rvalue-back c (nextLocal st) PlaceRvalue.Len place (s .within) (s .elements)) e₂))
       (does-seq (does-else (c .0) st₂ st₃ els e₃) (does-block (c .0) st₃ st₄ e₄)))
       (le-trans (a₁ .opens .blocks) (le-trans (a₂ .opens .blocks) (o₃ .blocks)))
@@ -146,10 +146,10 @@ module _ {scene : Scene} {bindings : List ℕ} {M : Mir} {word : ℕ} {place : P
       stepped p (elseState st₃ els) _ is₃ (λ st₄ e₄ is₄.
       let a₁ = adds-temp (scene .image) st st₁ 258 c e₁ in
       let a₂ = adds-statement st₁ st₂ (c .0) (placeRvalueRow c l PlaceRvalue.Discr place) (place-block c l PlaceRvalue.Discr place) e₂ in
-      let m = discriminantOf (scene .image) (read scene env (pathOf place)) in
+      let m = discriminantOf (scene .image) (read scene env (placePath place)) in
       lands-switch ctx c els l (D % 18446744073709551616) (D / 18446744073709551616) (nextBlock st₂) (elseBlock st₃ els) (ctx .visits) r h
       (does-seq (does-seq (does-temp (scene .image) st st₁ 258 c e₁)
-      (does-line (c .0) st₁ st₂ (placeRvalueRow c l PlaceRvalue.Discr place) (puts (l .0) (ofPlace PlaceRvalue.Discr (pathOf place)))
+      (does-line (c .0) st₁ st₂ (placeRvalueRow c l PlaceRvalue.Discr place) (puts (l .0) (ofPlace PlaceRvalue.Discr (placePath place)))
       (place-rvalue-back c l PlaceRvalue.Discr place (s .within) (s .elements)) e₂))
       (does-seq (does-block (c .0) st₂ st₃ e₃) (does-else (c .0) st₃ st₄ els e₄)))
       (le-trans (a₁ .opens .blocks) (a₂ .opens .blocks)) (low-half D) small is₄ q x env

@@ -24,8 +24,8 @@ use Rattle.growth.proofs.Walks.{not-ok}
 use Rattle.meaning.specs.Values.{Value, partsOf}
 use Rattle.meaning.specs.Running.{Env, Scene}
 use Rattle.meaning.specs.Matching.{isVariant, pathMatches, matchRow, matchFields, longEnough, matchAll}
-use Rattle.meaning.specs.Typing.{TypeNumber, elementType, itemsFit, variantFields, discriminantsDiffer}
-use Rattle.meaning.specs.Fitting.{endFits?, pathFits, rowFits, byFieldsFit, itemsAllFit}
+use Rattle.meaning.specs.Typing.{TypeNumber, elementType, variantFields}
+use Rattle.meaning.specs.Fit.{itemsFit, discriminantsDiffer, endFits?, pathFits, rowFits, byFieldsFit, itemsAllFit}
 use Rattle.meaning.proofs.Cutting.{Bytes}
 use Rattle.meaning.proofs.Constants.{constant-worth, end-worth, type-sized}
 use Rattle.correctness.proofs.Walking.{Lands, on, off}

@@ -30,12 +30,12 @@ use Rattle.pattern_matching.specs.Patterns.{passing, orPattern, endOp, rangePat
 use Rattle.growth.specs.Opened.{Ready, Leaves}
 use Rattle.growth.proofs.Walks.{not-ok, walked}
 use Rattle.growth.proofs.Testing.{good-range-end}
+use Rattle.counting.specs.Cases.{referent, tupleFields}
 use Rattle.meaning.specs.Values.{Value, partsOf, partAt, valueFits}
 use Rattle.meaning.specs.Running.{Env, Scene, constantValue, sameValue, both, scalarOf, notAbove, compared}
 use Rattle.meaning.specs.Matching.{operandValue, operandValue?, fromStart, toEnd, matchRow, matchFields, isVariant}
-use Rattle.meaning.specs.Typing.{TypeNumber, referent, tupleFields, discriminantsDiffer}
-use Rattle.meaning.specs.Typing.{variantFields as fieldsOfVariant}
-use Rattle.meaning.specs.Fitting.{rowFits, byFieldsFit, itemsAllFit}
+use Rattle.meaning.specs.Typing.{TypeNumber, variantFields as fieldsOfVariant}
+use Rattle.meaning.specs.Fit.{discriminantsDiffer, rowFits, byFieldsFit, itemsAllFit}
 use Rattle.meaning.proofs.Parts.{fields-length, fits-tuple}
 use Rattle.meaning.proofs.Typed.{variant-fields}
 use Rattle.meaning.proofs.Children.{tuple-valued, deref-valued}

@@ -26,8 +26,8 @@ use Rattle.growth.proofs.Walks.{not-ok}
 use Rattle.meaning.specs.Values.{Value, partsOf}
 use Rattle.meaning.specs.Running.{Env, Scene}
 use Rattle.meaning.specs.Matching.{matchRow, matchFields}
-use Rattle.meaning.specs.Typing.{TypeNumber, argumentsFit}
-use Rattle.meaning.specs.Fitting.{eachFits, rowFits, byFieldsFit}
+use Rattle.meaning.specs.Typing.{TypeNumber}
+use Rattle.meaning.specs.Fit.{argumentsFit, rowFits, byFieldsFit, eachFits}
 use Rattle.meaning.proofs.Children.{Placed, ellipsisPlace, row-placed, record-placed}
 use Rattle.correctness.proofs.Walking.{Lands}
 use Rattle.correctness.proofs.Standing.{Rooted, Stands}

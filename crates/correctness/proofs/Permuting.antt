@@ -13,7 +13,7 @@ use Rattle.views.specs.Views.{Path}
 use Rattle.meaning.specs.Values.{Value, partAt}
 use Rattle.meaning.specs.Running.{Held}
 use Rattle.meaning.specs.Matching.{onto, Bound, bindAll}
-use Rattle.correctness.specs.Demand2.{after}
+use Rattle.correctness.specs.Demand2.{heldAfter}
 use Rattle.correctness.proofs.Walking.{after-append}
 
 -- what holds of each binding
@@ -73,18 +73,18 @@ each-bound P (b ∷ bs) (elem ∷ elems) path v h =
 module _ (bindings : List ℕ) where
   -- the same after the one bindings as after the others
   pub record Same (bs cs : List Bound) : Type 0 where
-    pub same : (l : ℕ) (held : Held) → after bindings bs l held ≡ after bindings cs l held
+    pub same : (l : ℕ) (held : Held) → heldAfter bindings bs l held ≡ heldAfter bindings cs l held
 
   -- the locals of the first all differ from those of the second
   abbrev pub Disjoint : List Bound → List Bound → Type 0
   Disjoint bs cs = Each (λ b. Each (λ c. localOf bindings b ≢ localOf bindings c) cs) bs
 
   -- a local that none of the bindings has is left as it was
-  pub after-untouched : (bs : List Bound) (l : ℕ) (held : Held) → Each (λ b. l ≢ localOf bindings b) bs → after bindings bs l held ≡ held
-  unfolding after
+  pub after-untouched : (bs : List Bound) (l : ℕ) (held : Held) → Each (λ b. l ≢ localOf bindings b) bs → heldAfter bindings bs l held ≡ held
+  unfolding heldAfter
   after-untouched [] l held h = refl
   after-untouched (b ∷ bs) l held h =
-      ap (λ (t : Bool). after bindings bs l (cond t (b .what) held)) (ne-eqb l (localOf bindings b) (h .0)) ∙ after-untouched bs l held (h .1)
+      ap (λ (t : Bool). heldAfter bindings bs l (cond t (b .what) held)) (ne-eqb l (localOf bindings b) (h .0)) ∙ after-untouched bs l held (h .1)
 
   -- a local is that of a binding, or of none
   touched : (P : Bound → Type 0) (bs : List Bound) (l : ℕ) → Each P bs → Each (λ b. l ≢ localOf bindings b) bs ⊎ ((b : Bound) × P b × (l ≡ localOf bindings b))
@@ -106,12 +106,12 @@ module _ (bindings : List ℕ) where
       }
     where
       by : (l : ℕ) (held : Held) → Each (λ b. l ≢ localOf bindings b) bs ⊎ ((b : Bound) × Each (λ c. localOf bindings b ≢ localOf bindings c) cs × (l ≡ localOf bindings b)) →
-          after bindings cs l (after bindings bs l held) ≡ after bindings bs l (after bindings cs l held)
-      by l held (inl u) = ap (after bindings cs l) (after-untouched bs l held u) ∙ sym (after-untouched bs l (after bindings cs l held) u)
+          heldAfter bindings cs l (heldAfter bindings bs l held) ≡ heldAfter bindings bs l (heldAfter bindings cs l held)
+      by l held (inl u) = ap (heldAfter bindings cs l) (after-untouched bs l held u) ∙ sym (after-untouched bs l (heldAfter bindings cs l held) u)
       by l held (inr (b, k, e)) =
           let u : Each (λ c. l ≢ localOf bindings c) cs =
           each-map (λ c. localOf bindings b ≢ localOf bindings c) (λ c. l ≢ localOf bindings c) cs (λ c n q. n (sym e ∙ q)) k in
-          after-untouched cs l (after bindings bs l held) u ∙ ap (after bindings bs l) (sym (after-untouched cs l held u))
+          after-untouched cs l (heldAfter bindings bs l held) u ∙ ap (heldAfter bindings bs l) (sym (after-untouched cs l held u))
 
   -- of the same bindings
   pub same-refl : (bs : List Bound) → Same bs bs
@@ -127,17 +127,17 @@ module _ (bindings : List ℕ) where
 
   -- of equal lists
   pub same-is : {bs cs : List Bound} → bs ≡ cs → Same bs cs
-  same-is e = record { same = λ l held. ap (λ (bs : List Bound). after bindings bs l held) e }
+  same-is e = record { same = λ l held. ap (λ (bs : List Bound). heldAfter bindings bs l held) e }
 
   -- before or behind others
   pub same-before : {bs cs : List Bound} (ds : List Bound) → Same bs cs → Same (bs ++ ds) (cs ++ ds)
   same-before {bs} {cs} ds f =
-      record { same = λ l held. after-append bindings bs ds l held ∙ ap (after bindings ds l) (f .same l held) ∙ sym (after-append bindings cs ds l held) }
+      record { same = λ l held. after-append bindings bs ds l held ∙ ap (heldAfter bindings ds l) (f .same l held) ∙ sym (after-append bindings cs ds l held) }
 
   -- behind others
   pub same-behind : (ds : List Bound) {bs cs : List Bound} → Same bs cs → Same (ds ++ bs) (ds ++ cs)
   same-behind ds {bs} {cs} f =
-      record { same = λ l held. after-append bindings ds bs l held ∙ f .same l (after bindings ds l held) ∙ sym (after-append bindings ds cs l held) }
+      record { same = λ l held. after-append bindings ds bs l held ∙ f .same l (heldAfter bindings ds l held) ∙ sym (after-append bindings ds cs l held) }
 
   module _ (path : Path) (v : Value) where
     -- what each of the binders binds has other locals than what those behind it bind

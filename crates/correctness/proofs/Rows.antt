@@ -16,10 +16,9 @@ use Rattle.image.specs.Lists.{upFrom}
 use Rattle.image.proofs.Bools.{and-right}
 use Rattle.place.specs.declared.elems.ProjectionElem.{ProjectionElem}
 use Rattle.pattern_matching.specs.Variants.{fieldsUpTo, resolved}
-use Rattle.meaning.specs.Values.{Value, nothing, partsOf, partAt}
+use Rattle.meaning.specs.Values.{Value, unitValue, partsOf, partAt}
 use Rattle.meaning.specs.Matching.{matchAll, matchRow, matchFields, recordFields, lastItems}
-use Rattle.meaning.specs.Typing.{argumentsFit}
-use Rattle.meaning.specs.Fits.{fieldsThere}
+use Rattle.meaning.specs.Fit.{argumentsFit, fieldsThere}
 use Rattle.meaning.proofs.Children.{ellipsisPlace, from-append, length-from, fields-resolved}
 
 -- nothing is not something
@@ -70,17 +69,17 @@ zip-reverse (elem ∷ elems) more (m ∷ ms) others w e =
     zip-reverse elems (elem ∷ more) ms (m ∷ others) w (omega arith) ∙ and-swap (zipMatch elems ms w) (m (partAt elem w)) (zipMatch more others w)
 
 -- parts from the number a on, by elements that lead to them by number
-pub zip-numbered : (elem : ℕ → ProjectionElem) (a n : ℕ) (ms : List (Value → Bool)) (w : Value) → ((i : ℕ) → partAt (elem i) w ≡ getD (partsOf w) i nothing) → length ms ≤ n →
+pub zip-numbered : (elem : ℕ → ProjectionElem) (a n : ℕ) (ms : List (Value → Bool)) (w : Value) → ((i : ℕ) → partAt (elem i) w ≡ getD (partsOf w) i unitValue) → length ms ≤ n →
     a + length ms ≤ length (partsOf w) → zipMatch (map elem (upFrom a n)) ms w ≡ matchAll ms (drop a (partsOf w))
 unfolding zipMatch matchAll upFrom
 zip-numbered elem a n [] w is few there = zip-none (map elem (upFrom a n)) w
 zip-numbered elem a zero (m ∷ ms) w is few there = absurd (omega arith)
 zip-numbered elem a (suc n) (m ∷ ms) w is few there =
     ap₂ (λ (x y : Bool). x && y) (ap m (is a)) (zip-numbered elem (a + 1) n ms w is (omega arith) (omega arith) ∙ ap (λ (k : ℕ). matchAll ms (drop k (partsOf w))) (add-one a))
-    ∙ ap (matchAll (m ∷ ms)) (sym (drop-cons (partsOf w) a nothing (omega arith)))
+    ∙ ap (matchAll (m ∷ ms)) (sym (drop-cons (partsOf w) a unitValue (omega arith)))
 
 -- a field is a part by its number
-field-is : (w : Value) (i : ℕ) → partAt (ProjectionElem.Field i) w ≡ getD (partsOf w) i nothing
+field-is : (w : Value) (i : ℕ) → partAt (ProjectionElem.Field i) w ≡ getD (partsOf w) i unitValue
 unfolding partAt
 field-is w i = refl
 
@@ -122,8 +121,8 @@ zip-items (m ∷ ms) w there =
     let k = length ms in
     let here : n - 1 - k ≡ n - suc k = omega arith in
     let onward : n - k ≡ suc (n - suc k) = omega arith in
-    ap₂ (λ (x y : Bool). x && y) (ap (λ (i : ℕ). m (getD (partsOf w) i nothing)) here) (zip-items ms w (omega arith) ∙ ap (λ (i : ℕ). matchAll ms (drop i (partsOf w))) onward)
-    ∙ ap (matchAll (m ∷ ms)) (sym (drop-cons (partsOf w) (n - suc k) nothing (omega arith)))
+    ap₂ (λ (x y : Bool). x && y) (ap (λ (i : ℕ). m (getD (partsOf w) i unitValue)) here) (zip-items ms w (omega arith) ∙ ap (λ (i : ℕ). matchAll ms (drop i (partsOf w))) onward)
+    ∙ ap (matchAll (m ∷ ms)) (sym (drop-cons (partsOf w) (n - suc k) unitValue (omega arith)))
 
 -- as the lowering finds them
 pub zip-end : (ms : List (Value → Bool)) (w : Value) → length ms ≤ length (partsOf w) → zipMatch (suffixItems (length ms)) ms w ≡ matchAll ms (drop (length (partsOf w) - length ms) (partsOf w))
@@ -160,7 +159,7 @@ zip-fields [] count ms w e = refl
 zip-fields (none ∷ fields) count ms w e = absurd (false≢true e)
 zip-fields (some i ∷ fields) count [] w e = refl
 zip-fields (some i ∷ fields) count (m ∷ ms) w e =
-    ap (λ (b : Bool). m (getD (partsOf w) i nothing) && b) (zip-fields fields count ms w (and-right (ltb i count) (fieldsThere fields count) e))
+    ap (λ (b : Bool). m (getD (partsOf w) i unitValue) && b) (zip-fields fields count ms w (and-right (ltb i count) (fieldsThere fields count) e))
 
 -- fields that are not all there are not resolved
 fields-missing : (count : ℕ) (fields : List (Option ℕ)) → fieldsThere fields count ≡ false → resolved count fields ≡ none

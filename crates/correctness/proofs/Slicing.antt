@@ -28,11 +28,11 @@ use Rattle.growth.specs.Opened.{Ready, Leaves}
 use Rattle.growth.proofs.Walks.{not-ok, walked}
 use Rattle.growth.proofs.Testing.{good-length}
 use Rattle.growth.proofs.Fields.{grows-adt, grows-items}
-use Rattle.meaning.specs.Values.{Value, Values, Array, Slice, items, nothing, partsOf, partAt, valueFits}
+use Rattle.meaning.specs.Values.{Value, Values, Array, Slice, items, unitValue, partsOf, partAt, valueFits}
 use Rattle.meaning.specs.Running.{Env, Scene}
 use Rattle.meaning.specs.Matching.{matchAll, longEnough}
-use Rattle.meaning.specs.Typing.{TypeNumber, itemsFit, elementType}
-use Rattle.meaning.specs.Fitting.{itemsAllFit}
+use Rattle.meaning.specs.Typing.{TypeNumber, elementType}
+use Rattle.meaning.specs.Fit.{itemsFit, itemsAllFit}
 use Rattle.meaning.proofs.Parts.{fits-array}
 use Rattle.meaning.proofs.Children.{items-placed, index-valued, end-valued}
 use Rattle.correctness.proofs.Walking.{Lands}
@@ -51,7 +51,7 @@ rest-check RestOf.ignores bindings p front end ctx c els place = refl
 rest-check (RestOf.binds q b how) bindings p front end ctx c els place = refl
 
 -- an element is a part by its number
-pub index-is : (w : Value) (i : ℕ) → partAt (ProjectionElem.Index i) w ≡ getD (partsOf w) i nothing
+pub index-is : (w : Value) (i : ℕ) → partAt (ProjectionElem.Index i) w ≡ getD (partsOf w) i unitValue
 unfolding partAt
 index-is w i = refl
 

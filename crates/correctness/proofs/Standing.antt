@@ -31,9 +31,9 @@ use Rattle.growth.proofs.Walks.{not-ok}
 use Rattle.meaning.specs.Values.{Value, partAt, placeIn}
 use Rattle.meaning.specs.Running.{Env, Scene, read}
 use Rattle.meaning.specs.Matching.{crossed}
-use Rattle.meaning.specs.Typing.{behind}
+use Rattle.meaning.specs.Fit.{behind}
 use Rattle.meaning.proofs.Crossing.{below, read-below, place-append, behind-first}
-use Rattle.correctness.specs.Demand2.{pathOf}
+use Rattle.correctness.specs.Demand2.{placePath}
 
 -- the local of the place handed in is one of the state's, and its type's word is this
 pub record Rooted (scene : Scene) (word : ℕ) (st : State) : Type 0 where
@@ -54,13 +54,13 @@ pub record Stands (scene : Scene) (word : ℕ) (place : Place) (ty : PlaceTy) (w
   pub elements : length (place .elems) ≡ 16
   pub within : place .len ≤ 16
   pub behind : List ProjectionElem
-  pub path : pathOf place ≡ below scene behind
+  pub path : placePath place ≡ below scene behind
   pub value : placeIn behind (scene .here) ≡ w
   pub typed : multiProjectionTy (scene .image) (localTy word) (projectionOf place) ≡ ty
   pub named : Named (scene .image) ty
 
 -- what lies there
-pub stands-read : {scene : Scene} {word : ℕ} {place : Place} {ty : PlaceTy} {w : Value} (env : Env) → Stands scene word place ty w → read scene env (pathOf place) ≡ w
+pub stands-read : {scene : Scene} {word : ℕ} {place : Place} {ty : PlaceTy} {w : Value} (env : Env) → Stands scene word place ty w → read scene env (placePath place) ≡ w
 stands-read {scene} env s = ap (read scene env) (s .path) ∙ read-below scene env (s .behind) ∙ s .value
 
 -- its type in a state
@@ -140,7 +140,7 @@ pub stands-as : {scene : Scene} {word : ℕ} {place : Place} {ty ty′ : PlaceTy
 stands-as {scene} {word} {place} {w} e s = subst (λ (x : PlaceTy). Stands scene word place x w) e s
 
 -- the place handed in
-pub stands-start : (scene : Scene) (word : ℕ) (place : Place) (st : State) (t : ℕ) → scene .root ≡ pathOf place → getD (st .locals) (place .local .0) 0 ≡ word →
+pub stands-start : (scene : Scene) (word : ℕ) (place : Place) (st : State) (t : ℕ) → scene .root ≡ placePath place → getD (st .locals) (place .local .0) 0 ≡ word →
     length (place .elems) ≡ 16 → place .len ≤ 16 → placeTy (scene .image) st place ≡ PlaceTy.Ty t → Named (scene .image) (PlaceTy.Ty t) → Stands scene word place (PlaceTy.Ty t) (scene .here)
 unfolding placeIn placeTy
 stands-start scene word place st t root is n h placed named =

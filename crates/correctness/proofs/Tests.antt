@@ -31,7 +31,7 @@ use Rattle.growth.proofs.Leaving.{result}
 use Rattle.growth.proofs.Walks.{ok-is}
 use Rattle.meaning.specs.Values.{Bool′}
 use Rattle.meaning.specs.Running.{Held, value, Env, update, valueOf, scalarOf, compared, Scene, read, leftValue, rvalueValue, execute, switchNumber, switched, Run}
-use Rattle.correctness.specs.Demand2.{pathOf, after}
+use Rattle.correctness.specs.Demand2.{placePath, heldAfter}
 use Rattle.correctness.proofs.Trails.{Landing, trail-one}
 use Rattle.correctness.proofs.Walking.{rest, chain, fork, Lands, on, off, walked-enter}
 use Rattle.correctness.proofs.Landing.{landing-else}
@@ -52,7 +52,7 @@ module _ {scene : Scene} {bindings : List ℕ} {M : Mir} (ctx : Ctx) (c : BasicB
       (env : Env) → ((k : ℕ) → k < length (ctx .state .locals) → f env k ≡ env k) →
       (b : Bool) → eqb (switchNumber (scalarOf (valueOf (f env (l .0))))) (low + 18446744073709551616 * high) ≡ b →
       Lands scene bindings M ctx (c .0) env [] r b
-  unfolding switched after setTerminator mirOf rest
+  unfolding switched heldAfter setTerminator mirOf rest
   lands-switch {st₁} {f} l low high t e v r h p new small small′ is q x env kept b tested =
       subst (λ (y : Out). Leaves (ctx .state) c els y → GoesOn (mirOf (y .ctx .state)) M → Lands scene bindings M ctx (c .0) env [] y b) (ok-is is) (λ q x. by b tested q x) q x
     where
@@ -106,23 +106,23 @@ module _ {scene : Scene} {bindings : List ℕ} {M : Mir} (ctx : Ctx) (c : BasicB
 
 -- what an operator's test adds to what was done before it
 abbrev pub comparing : Scene → BinOp → Left → Place → ℕ → (Env → Env) → Env → Env
-comparing scene op left place l f env = update (f env) l (value (Bool′ (compared op (leftValue left scene (f env)) (read scene (f env) (pathOf place)))))
+comparing scene op left place l f env = update (f env) l (value (Bool′ (compared op (leftValue left scene (f env)) (read scene (f env) (placePath place)))))
 
 module _ {scene : Scene} {bindings : List ℕ} {M : Mir} (image : List ℕ) (p : ℕ) (op : BinOp) (left : Left) (place : Place) (ctx : Ctx) (c : BasicBlockId) (els : OptBlock) where
   -- an operator's test, behind what was done before it
   pub lands-compare : {st : State} {f : Env → Env} (t e : BasicBlockId) (r : Out) → Ready (ctx .state) c els → Does scene (ctx .state) (c .0) st f → count (ctx .state) ≤ t .0 →
       length (ctx .state .locals) ≤ length (st .locals) → SmallLeft left → place .len ≤ 16 → length (place .elems) ≡ 16 → compare image p op left place ctx st c t e ≡ ok r →
       Leaves (ctx .state) c els r → GoesOn (mirOf (r .ctx .state)) M → (env : Env) → ((k : ℕ) → k < length (ctx .state .locals) → f env k ≡ env k) →
-      Lands scene bindings M ctx (c .0) env [] r (compared op (leftValue left scene (f env)) (read scene (f env) (pathOf place)))
+      Lands scene bindings M ctx (c .0) env [] r (compared op (leftValue left scene (f env)) (read scene (f env) (placePath place)))
   unfolding compare execute rvalueValue
   lands-compare {st} {f} t e r h p₀ new more small len elems is q x env kept =
       stepped p (temp image st boolWord c) _ is (λ st₁ e₁ is₁.
       stepped p (tryStatement st₁ (binaryRow c (nextLocal st) op left place)) _ is₁ (λ st₂ e₂ is₂.
-      let b = compared op (leftValue left scene (f env)) (read scene (f env) (pathOf place)) in
+      let b = compared op (leftValue left scene (f env)) (read scene (f env) (placePath place)) in
       let l = length (st .locals) in
       lands-switch ctx c els {f = comparing scene op left place l f} (nextLocal st) 1 0 t e (ctx .visits) r h
       (does-seq (does-seq p₀ (does-temp image st st₁ boolWord c e₁))
-      (does-line (c .0) st₁ st₂ (binaryRow c (nextLocal st) op left place) (puts l (binary op left (pathOf place))) (binary-back c (nextLocal st) op left place small len elems) e₂))
+      (does-line (c .0) st₁ st₂ (binaryRow c (nextLocal st) op left place) (puts l (binary op left (placePath place))) (binary-back c (nextLocal st) op left place small len elems) e₂))
       new (omega arith) (omega arith) is₂ q x env
       (λ k i. update-other (f env) l (value (Bool′ b)) k (omega arith) ∙ kept k i) b
       (ap (λ (w : Held). eqb (switchNumber (scalarOf (valueOf w))) (1 + 18446744073709551616 * 0)) (update-same (f env) l (value (Bool′ b))) ∙ bool-switched b)))

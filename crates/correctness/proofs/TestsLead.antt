@@ -34,7 +34,7 @@ use Rattle.growth.proofs.Opening.{opens-block, opens-else, adds-temp, adds-stat
 use Rattle.growth.proofs.Testing.{good-const, grows-constant, good-range-end}
 use Rattle.meaning.specs.Values.{Value, Bool′}
 use Rattle.meaning.specs.Running.{Held, value, Env, update, valueOf, constantValue, scalarOf, compared, Scene, read, leftValue, rvalueValue, execute, switchNumber}
-use Rattle.correctness.specs.Demand2.{pathOf}
+use Rattle.correctness.specs.Demand2.{placePath}
 use Rattle.correctness.proofs.Walking.{Lands}
 use Rattle.correctness.proofs.Standing.{Stands, stands-read, stepped}
 use Rattle.correctness.proofs.Doing.{does-seq, does-block, does-else, does-line, does-temp, temp-locals, update-same, update-other, opens-locals, adds-locals}
@@ -65,7 +65,7 @@ module _ {scene : Scene} {bindings : List ℕ} {M : Mir} {word : ℕ} {place : P
       stepped p (elseState (ctx .state) els) _ is₀ (λ st₁ e₁ is₁.
       stepped p (tryBlock st₁) _ is₁ (λ st₂ e₂ is₂.
       subst (λ (y : Value). Lands scene bindings M ctx (c .0) env [] r (compared op v y)) (stands-read env s)
-      (subst (λ (y : Value). Lands scene bindings M ctx (c .0) env [] r (compared op y (read scene env (pathOf place)))) (worth k e₀ .0)
+      (subst (λ (y : Value). Lands scene bindings M ctx (c .0) env [] r (compared op y (read scene env (placePath place)))) (worth k e₀ .0)
       (lands-compare (scene .image) p op (Left.Constant k) place ctx c els (nextBlock st₁) (elseBlock (ctx .state) els) r h
       (does-seq (does-else (c .0) (ctx .state) st₁ els e₁) (does-block (c .0) st₁ st₂ e₂)) (opens-else (ctx .state) st₁ (c .0) els e₁ .blocks)
       (le-trans (opens-locals (opens-else (ctx .state) st₁ (c .0) els e₁)) (opens-locals (opens-block st₁ st₂ (c .0) e₂))) (worth k e₀ .1) (s .within) (s .elements) is₂ q x env (λ k i. refl))))))
@@ -90,16 +90,16 @@ module _ {scene : Scene} {bindings : List ℕ} {M : Mir} {word : ℕ} {place : P
       let m = length (st₂ .locals) in
       let more : suc n ≤ m = omega (arith, temp-locals (scene .image) st st₁ t c e₁, adds-locals (adds-statement st₁ st₂ (c .0) (constantRow c (nextLocal st) k) (constant-block c (nextLocal st) k) e₂)) in
       let env₁ : Env = update env n (value (constantValue (scene .image) k)) in
-      let b = compared BinOp.Eq (valueOf (env₁ n)) (read scene env₁ (pathOf place)) in
+      let b = compared BinOp.Eq (valueOf (env₁ n)) (read scene env₁ (placePath place)) in
       let env₂ : Env = update env₁ m (value (Bool′ b)) in
       let told : b ≡ compared BinOp.Eq v w = ap₂ (λ (y z : Value). compared BinOp.Eq y z) (ap valueOf (update-same env n (value (constantValue (scene .image) k))) ∙ worth) (stands-read env₁ s) in
       subst (λ (y : Bool). Lands scene bindings M ctx (c .0) env [] r y) told
-      (lands-switch ctx c els {f = λ (e : Env). update (update e n (value (constantValue (scene .image) k))) m (value (Bool′ (compared BinOp.Eq (valueOf (update e n (value (constantValue (scene .image) k)) n)) (read scene (update e n (value (constantValue (scene .image) k))) (pathOf place)))))}
+      (lands-switch ctx c els {f = λ (e : Env). update (update e n (value (constantValue (scene .image) k))) m (value (Bool′ (compared BinOp.Eq (valueOf (update e n (value (constantValue (scene .image) k)) n)) (read scene (update e n (value (constantValue (scene .image) k))) (placePath place)))))}
       (nextLocal st₂) 1 0 (nextBlock st₄) (elseBlock st₅ els) (ctx .visits) r h
       (does-seq (does-seq (does-temp (scene .image) st st₁ t c e₁)
       (does-line (c .0) st₁ st₂ (constantRow c (nextLocal st) k) (puts n (ofConstant k)) (constant-back c (nextLocal st) k small) e₂))
       (does-seq (does-seq (does-temp (scene .image) st₂ st₃ boolWord c e₃)
-      (does-line (c .0) st₃ st₄ (binaryRow c (nextLocal st₂) BinOp.Eq (Left.Local (nextLocal st)) place) (puts m (binary BinOp.Eq (Left.Local (nextLocal st)) (pathOf place)))
+      (does-line (c .0) st₃ st₄ (binaryRow c (nextLocal st₂) BinOp.Eq (Left.Local (nextLocal st)) place) (puts m (binary BinOp.Eq (Left.Local (nextLocal st)) (placePath place)))
       (binary-back c (nextLocal st₂) BinOp.Eq (Left.Local (nextLocal st)) place tt (s .within) (s .elements)) e₄))
       (does-seq (does-block (c .0) st₄ st₅ e₅) (does-else (c .0) st₅ st₆ els e₆))))
       (later st st₁ st₂ st₃ st₄ k e₁ e₂ e₃ e₄) (omega arith) (omega arith) is₆ q x env

@@ -26,10 +26,10 @@ use Rattle.growth.specs.Opened.{Ready, Leaves}
 use Rattle.growth.proofs.Walks.{not-ok, walked}
 use Rattle.growth.proofs.Testing.{good-discriminant}
 use Rattle.growth.proofs.Fields.{ShapeGrows, grows-fields}
-use Rattle.meaning.specs.Values.{Value, Values, Variant, items, partsOf, partAt, valueFits, fieldsFit}
+use Rattle.meaning.specs.Values.{Value, Values, Adt, items, partsOf, partAt, valueFits, fieldsFit}
 use Rattle.meaning.specs.Running.{Env, Scene, discriminantOf}
 use Rattle.meaning.specs.Matching.{isVariant}
-use Rattle.meaning.specs.Typing.{discriminantsDiffer}
+use Rattle.meaning.specs.Fit.{discriminantsDiffer}
 use Rattle.meaning.proofs.Parts.{fields-length, fits-adt}
 use Rattle.meaning.proofs.Typed.{enum-choice, struct-one}
 use Rattle.meaning.proofs.Children.{struct-valued, enum-valued}
@@ -90,17 +90,17 @@ discriminant-tells g v x xs d mv mx = by (eqb v x) refl
     by false q = ne-eqb (g x) (g v) (λ e. eqb-false v x q (sym (told-apart g x v xs d mx mv e)))
 
 -- whether a value is of a variant
-variant-is : (v x : ℕ) (vs : Values) (w : Value) → w ≡ Variant x vs → isVariant (some v) w ≡ eqb v x
+variant-is : (v x : ℕ) (vs : Values) (w : Value) → w ≡ Adt x vs → isVariant (some v) w ≡ eqb v x
 unfolding isVariant
 variant-is v x vs w q = rw q
 
 -- its discriminant
-discriminant-is : (image : List ℕ) (x : ℕ) (vs : Values) (w : Value) → w ≡ Variant x vs → discriminantOf image w ≡ variantOf image x .discriminant
+discriminant-is : (image : List ℕ) (x : ℕ) (vs : Values) (w : Value) → w ≡ Adt x vs → discriminantOf image w ≡ variantOf image x .discriminant
 unfolding discriminantOf
 discriminant-is image x vs w q = rw q
 
 -- its fields
-parts-are : (x : ℕ) (vs : Values) (w : Value) → w ≡ Variant x vs → partsOf w ≡ items vs
+parts-are : (x : ℕ) (vs : Values) (w : Value) → w ≡ Adt x vs → partsOf w ≡ items vs
 unfolding partsOf
 parts-are x vs w q = rw q
 
@@ -124,7 +124,7 @@ module _ {scene : Scene} {bindings : List ℕ} {M : Mir} {word : ℕ} (p v t : �
       let (y, vs, q, hv, my, ff) = fits-adt (scene .image) w t AdtKind.Struct variants e fits in
       let one = struct-one (scene .image) t variants v holds (s .named) e m in
       let same : y ≡ v = sym (struct-one (scene .image) t variants y holds (s .named) e my) ∙ one in
-      let is-v : w ≡ Variant v vs = q ∙ ap (λ (k : ℕ). Variant k vs) same in
+      let is-v : w ≡ Adt v vs = q ∙ ap (λ (k : ℕ). Adt k vs) same in
       let ff-v : fieldsFit (scene .image) vs (variantOf (scene .image) v .fields) ≡ true = subst (λ (k : ℕ). fieldsFit (scene .image) vs (variantOf (scene .image) k .fields) ≡ true) same ff in
       subst (λ (b : Bool). Lands scene bindings M ctx (c .0) env [] r (b && inner)) (sym (variant-is v v vs w is-v ∙ eq-eqb v v refl))
       (fields ctx c els place (PlaceTy.Ty t) (λ i k. (struct-valued (scene .image) t w v vs variants e one is-v ff-v i k, tt))
@@ -150,7 +150,7 @@ module _ {scene : Scene} {bindings : List ℕ} {M : Mir} {word : ℕ} (p v t : �
       (subst (λ (b : Bool). Lands scene bindings M ctx (c .0) env [] r₁ b) told (lands-discriminant p ctx c els v r₁ h s small e₁ (before r₁ r k k′ x) env))
       (λ env b.
       let same : v ≡ y = eqb-true v y (sym (variant-is v y vs w q) ∙ b) in
-      let is-v : w ≡ Variant v vs = q ∙ ap (λ (n : ℕ). Variant n vs) (sym same) in
+      let is-v : w ≡ Adt v vs = q ∙ ap (λ (n : ℕ). Adt n vs) (sym same) in
       let ff-v : fieldsFit (scene .image) vs (variantOf (scene .image) v .fields) ≡ true = subst (λ (n : ℕ). fieldsFit (scene .image) vs (variantOf (scene .image) n .fields) ≡ true) (sym same) ff in
       fields (r₁ .ctx) (r₁ .then) (r₁ .else) place′ (PlaceTy.Variant t v) (λ i j. (enum-valued (scene .image) t w v vs is-v ff-v i j, tt))
       (ap length (parts-are v vs w is-v) ∙ fields-length (scene .image) vs (variantOf (scene .image) v .fields) ff-v) (rooted-after r₁ k root)

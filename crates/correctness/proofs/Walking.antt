@@ -19,7 +19,7 @@ use Rattle.pattern_matching.specs.Walking.{Ctx, Out}
 use Rattle.growth.specs.Opened.{count, terminator, lines, From, Worked}
 use Rattle.meaning.specs.Running.{Held, Env, Scene, switched, Run, here, skip, step, jump, branch}
 use Rattle.meaning.specs.Matching.{Bound}
-use Rattle.correctness.specs.Demand2.{after}
+use Rattle.correctness.specs.Demand2.{heldAfter}
 use Rattle.correctness.proofs.Trails.{Trail, Landing, trail-here, trail-later, trail-seq}
 
 -- the lines of M that came after st
@@ -46,8 +46,8 @@ unfolding rest
 rest-same st st₁ M e = ap (λ (rows : List (List ℕ)). drop (length rows) (M .lines)) e
 
 -- bindings, and then more
-pub after-append : (bindings : List ℕ) (bs cs : List Bound) (l : ℕ) (held : Held) → after bindings (bs ++ cs) l held ≡ after bindings cs l (after bindings bs l held)
-unfolding after
+pub after-append : (bindings : List ℕ) (bs cs : List Bound) (l : ℕ) (held : Held) → heldAfter bindings (bs ++ cs) l held ≡ heldAfter bindings cs l (heldAfter bindings bs l held)
+unfolding heldAfter
 after-append bindings [] cs l held = refl
 after-append bindings (b ∷ bs) cs l held = after-append bindings bs cs l _
 
@@ -115,7 +115,7 @@ pub record Walked (scene : Scene) (bindings : List ℕ) (M : Mir) (ctx : Ctx) (c
   pub env′ : Env
   pub entered : List ℕ
   pub run : Run scene M current (rest (ctx .state) M) env b left env′ entered
-  pub locals : (l : ℕ) → l < length (ctx .state .locals) → env′ l ≡ after bindings bs l (env l)
+  pub locals : (l : ℕ) → l < length (ctx .state .locals) → env′ l ≡ heldAfter bindings bs l (env l)
   pub trail : Trail (ctx .state) (ctx₁ .state) current entered b
 
 -- with true: to the block that goes on, behind its lines, with the bindings bs; with false: to the else, on reaching it
@@ -126,7 +126,7 @@ pub data Lands (scene : Scene) (bindings : List ℕ) (M : Mir) (ctx : Ctx) (curr
 module _ {scene : Scene} {bindings : List ℕ} {M : Mir} where
   -- nothing done
   pub walked-here : (ctx : Ctx) (current : ℕ) (env : Env) → current < count (ctx .state) → Walked scene bindings M ctx current env [] ctx current (rest (ctx .state) M)
-  unfolding after
+  unfolding heldAfter
   walked-here ctx current env h = record { env′ = env; entered = []; run = here; locals = λ l i. refl; trail = trail-here h }
 
   module _ {ctx ctx₁ ctx₂ : Ctx} {current b₁ : ℕ} {env : Env} {bs : List Bound} where
@@ -140,7 +140,7 @@ module _ {scene : Scene} {bindings : List ℕ} {M : Mir} where
           env′ = u .env′;
           entered = w .entered ++ u .entered;
           run = chain (w .run) (u .run);
-          locals = λ l i. u .locals l (lt-of-lt-of-le i s) ∙ ap (after bindings bs′ l) (w .locals l i) ∙ sym (after-append bindings bs bs′ l (env l));
+          locals = λ l i. u .locals l (lt-of-lt-of-le i s) ∙ ap (heldAfter bindings bs′ l) (w .locals l i) ∙ sym (after-append bindings bs bs′ l (env l));
           trail = trail-seq (w .trail) (u .trail) x h₁ h₂ o f;
         }
 

@@ -22,11 +22,11 @@ use Rattle.meaning.specs.Values.{Value, valueFits}
 use Rattle.meaning.specs.Running.{Held, Env, Run}
 use Rattle.meaning.specs.Executing.{Position, Ending, runs}
 use Rattle.meaning.specs.Matching.{Bound}
-use Rattle.meaning.specs.Fits.{fits}
+use Rattle.meaning.specs.Fit.{fits}
 
 -- a place of the lowering, as MIR has it
-abbrev pub pathOf : Place → Path
-pathOf place = record { local = place .local .0; elems = projectionOf place }
+abbrev pub placePath : Place → Path
+placePath place = record { local = place .local .0; elems = projectionOf place }
 
 -- what a call of `pattern_match` is handed that number 2 does not refuse, on a place of the type t
 pub record Handed (image bindings : List ℕ) (ctx : Ctx) (current : BasicBlockId) (els : OptBlock) (place : Place) (t : ℕ) : Type 0 where
@@ -47,9 +47,9 @@ pub record Fitting (image bindings : List ℕ) (ctx : Ctx) (place : Place) (t : 
   pub value : valueFits image v t ≡ true
 
 -- what a local holds after some bindings, if it held `held` before: what is bound to it last
-unfoldable pub after : List ℕ → List Bound → ℕ → Held → Held
-after bindings [] l held = held
-after bindings (b ∷ bs) l held = after bindings bs l (cond (eqb l (getD bindings (b .binding) 65535)) (b .what) held)
+unfoldable pub heldAfter : List ℕ → List Bound → ℕ → Held → Held
+heldAfter bindings [] l held = held
+heldAfter bindings (b ∷ bs) l held = heldAfter bindings bs l (cond (eqb l (getD bindings (b .binding) 65535)) (b .what) held)
 
 -- b stands nowhere in the list
 abbrev pub NoneIs : ℕ → List ℕ → Type 0
@@ -61,25 +61,25 @@ abbrev pub Distinct : List ℕ → Type 0
 Distinct [] = Unit
 Distinct (x ∷ xs) = NoneIs x xs × Distinct xs
 
--- a run in the body M on a value, from the block current behind the lines that there were in ctx, comes to the block b with `left` still to be looked at, and
+-- a run in the body M on a value, from the block current behind the lines that there were in ctx, comes to the block b with `lines` still to be looked at, and
 -- enters no block twice
-pub record Stops (image : List ℕ) (M : Mir) (place : Place) (v : Value) (ctx : Ctx) (current : BasicBlockId) (env : Env) (b : ℕ) (left : List Line) : Type 0 where
+pub record Stops (image : List ℕ) (M : Mir) (place : Place) (v : Value) (ctx : Ctx) (current : BasicBlockId) (env : Env) (b : ℕ) (lines : List Line) : Type 0 where
   -- what the locals hold then
   pub env′ : Env
   pub entered : List ℕ
-  pub run : Run (record { image = image; root = pathOf place; here = v }) M (current .0) (drop (length (ctx .state .statements)) (M .lines)) env b left env′ entered
+  pub run : Run (record { image = image; root = placePath place; here = v }) M (current .0) (drop (length (ctx .state .statements)) (M .lines)) env b lines env′ entered
   pub once : Distinct (current .0 ∷ entered)
 
 -- such a run, after which every local handed in holds what the bindings say or what it held
-pub record Comes (image bindings : List ℕ) (M : Mir) (place : Place) (v : Value) (ctx : Ctx) (current : BasicBlockId) (env : Env) (bs : List Bound) (b : ℕ) (left : List Line) : Type 0 where
-  pub stops : Stops image M place v ctx current env b left
-  pub locals : (l : ℕ) → l < length (ctx .state .locals) → stops .env′ l ≡ after bindings bs l (env l)
+pub record Comes (image bindings : List ℕ) (M : Mir) (place : Place) (v : Value) (ctx : Ctx) (current : BasicBlockId) (env : Env) (bs : List Bound) (b : ℕ) (lines : List Line) : Type 0 where
+  pub stops : Stops image M place v ctx current env b lines
+  pub locals : (l : ℕ) → l < length (ctx .state .locals) → stops .env′ l ≡ heldAfter bindings bs l (env l)
 
 -- The run as a function, in the body m that the call hands out, ends where a run as a relation comes to, with as many steps as it takes: `at` is `atThen`, at the
 -- end of then, or `atElse`, on reaching the else.
-pub record Ends (image : List ℕ) (m : Mir) (place : Place) (v : Value) (ctx : Ctx) (current : BasicBlockId) (env : Env) (then : BasicBlockId) (else : OptBlock) (b : ℕ) (left : List Line)
-    (stops : Stops image m place v ctx current env b left) (at : Position → Ending) : Type 0 where
+pub record Ends (image : List ℕ) (m : Mir) (place : Place) (v : Value) (ctx : Ctx) (current : BasicBlockId) (env : Env) (then : BasicBlockId) (else : OptBlock) (b : ℕ) (lines : List Line)
+    (stops : Stops image m place v ctx current env b lines) (at : Position → Ending) : Type 0 where
   pub enough : ℕ
-  pub ends : runs (record { image = image; root = pathOf place; here = v }) m (then .0) else enough
+  pub ends : runs (record { image = image; root = placePath place; here = v }) m (then .0) else enough
       (record { block = current .0; lines = drop (length (ctx .state .statements)) (m .lines); env = env; entered = [] })
-      ≡ at (record { block = b; lines = left; env = stops .env′; entered = stops .entered })
+      ≡ at (record { block = b; lines = lines; env = stops .env′; entered = stops .entered })

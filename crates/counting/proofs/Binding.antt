@@ -27,8 +27,9 @@ use Rattle.pattern_matching.specs.Tests.{bindingRvalue, patternMatchBinding}
 use Rattle.pattern_matching.specs.Variants.{patternMatchAdt}
 use Rattle.pattern_matching.specs.Slices.{RestOf, lengthTest, restBound, sliceItems, sliceOn, suffixItems}
 use Rattle.pattern_matching.specs.Patterns.{bindPattern}
-use Rattle.counting.specs.Reaching.{Argument, zip, items, someArgument, isSliceShape, lengthStatements, restBinding, binding, Reaching, Reached, throughArguments}
+use Rattle.counting.specs.Reaching.{Argument, zip, sliceArguments, someArgument, isSliceShape, binding, Reaching, Reached, throughArguments}
 use Rattle.counting.specs.Counting.{bindStatements}
+use Rattle.counting.proofs.Rests.{statementsBy, bindingBy}
 use Rattle.counting.proofs.Holding.{Holds, holds, refuses, holds-next, holds-step, holds-as}
 use Rattle.counting.proofs.Going.{built-on, built-none, went-built, nothing, made}
 use Rattle.counting.proofs.Building.{gives-live, gives-statement}
@@ -84,8 +85,8 @@ holds-bind bindings h b how subpattern pass c current els place fails k f rs bel
 
 -- a rest that binds is filled in Bind
 holds-rest : (rest : RestOf) (bindings : List ℕ) (p front end : ℕ) (pass : Pass) (c : Ctx) (current : BasicBlockId) (els : OptBlock) (place : Place) →
-    Holds (λ r. Steps c els r false nothing (made 0 (lateIn pass (bindStatements (restBinding rest))))) (restBound rest bindings p front end (modeOf pass) c current els place)
-unfolding restBound restBinding
+    Holds (λ r. Steps c els r false nothing (made 0 (lateIn pass (bindStatements (bindingBy rest))))) (restBound rest bindings p front end (modeOf pass) c current els place)
+unfolding restBound bindingBy
 holds-rest RestOf.none bindings p front end checks c current els place = holds (λ r. Steps c els r false nothing (made 0 0)) _ (steps-none c current els)
 holds-rest RestOf.none bindings p front end binds c current els place = holds (λ r. Steps c els r false nothing (made 0 0)) _ (steps-none c current els)
 holds-rest RestOf.ignores bindings p front end checks c current els place = holds (λ r. Steps c els r false nothing (made 0 0)) _ (steps-none c current els)
@@ -127,15 +128,15 @@ module _ {image : List ℕ} {ls ls′ : List Lowering} {fs fs′ : List (PlaceTy
 
   -- the items in front, the rest, and the items at the end, behind the pattern's own visit
   holds-items : (fails : Bool) (t s : ℕ) (r : Out) → After pass c els fails k f (binding h k f t s none ∷ []) r → On image (r .ctx) place ty →
-      Holds (After pass c els (fails || someArgument image ty (items fs fs′)) k f (binding h k f t s (restBinding rest) ∷ throughArguments image ty k (items rs rs′)))
+      Holds (After pass c els (fails || someArgument image ty (sliceArguments fs fs′)) k f (binding h k f t s (bindingBy rest) ∷ throughArguments image ty k (sliceArguments rs rs′)))
       (sliceItems bindings (h .number) ls rest ls′ (modeOf pass) (r .ctx) (r .then) (r .else) place)
-  unfolding sliceItems items
+  unfolding sliceItems sliceArguments
   holds-items fails t s r a o =
       holds-next (patternMatchAdt (h .number) (map (λ i. ProjectionElem.Index i) (upFrom 0 (length ls))) ls (modeOf pass) (r .ctx) (r .then) (r .else) place) k₁
       (holds-indexed (h .number) (λ n i. ProjectionElem.Index i) (λ n i. tt) front pass (r .ctx) (r .then) (r .else) place ty k o) (λ r₁ a₁.
       holds-next (restBound rest bindings (h .number) (length ls) (length ls′) (modeOf pass) (r₁ .ctx) (r₁ .then) (r₁ .else) place) k₂
       (holds-rest rest bindings (h .number) (length ls) (length ls′) pass (r₁ .ctx) (r₁ .then) (r₁ .else) place) (λ r₂ s₂.
-      let x = after-late h t s (restBinding rest) (after-more a a₁) s₂ in
+      let x = after-late h t s (bindingBy rest) (after-more a a₁) s₂ in
       holds-as (λ r₃ a₃. whole r₃ (after-more x a₃))
       (holds-indexed (h .number) (λ n i. ProjectionElem.IndexFromEnd (n - 1 - i)) (λ n i. tt) back pass (r₂ .ctx) (r₂ .then) (r₂ .else) place ty k (on-went (s₂ .went) (on-after a₁ o)))))
     where
@@ -147,32 +148,32 @@ module _ {image : List ℕ} {ls ls′ : List Lowering} {fs fs′ : List (PlaceTy
 
       whole : (r₃ : Out) →
           After pass c els (fails || someArgument image ty (frontOf fs) || someArgument image ty (backOf fs′)) k f
-          (binding h k f t s (restBinding rest) ∷ (throughArguments image ty k (frontOf rs) ++ throughArguments image ty k (backOf rs′))) r₃ →
-          After pass c els (fails || someArgument image ty (frontOf fs ++ backOf fs′)) k f (binding h k f t s (restBinding rest) ∷ throughArguments image ty k (frontOf rs ++ backOf rs′)) r₃
+          (binding h k f t s (bindingBy rest) ∷ (throughArguments image ty k (frontOf rs) ++ throughArguments image ty k (backOf rs′))) r₃ →
+          After pass c els (fails || someArgument image ty (frontOf fs ++ backOf fs′)) k f (binding h k f t s (bindingBy rest) ∷ throughArguments image ty k (frontOf rs ++ backOf rs′)) r₃
       whole r₃ a₃ =
-          subst (λ (l : List Reached). After pass c els (fails || someArgument image ty (frontOf fs ++ backOf fs′)) k f (binding h k f t s (restBinding rest) ∷ l) r₃) (sym (through-append image ty k (frontOf rs) (backOf rs′)))
-          (subst (λ (x : Bool). After pass c els x k f (binding h k f t s (restBinding rest) ∷ (throughArguments image ty k (frontOf rs) ++ throughArguments image ty k (backOf rs′))) r₃)
+          subst (λ (l : List Reached). After pass c els (fails || someArgument image ty (frontOf fs ++ backOf fs′)) k f (binding h k f t s (bindingBy rest) ∷ l) r₃) (sym (through-append image ty k (frontOf rs) (backOf rs′)))
+          (subst (λ (x : Bool). After pass c els x k f (binding h k f t s (bindingBy rest) ∷ (throughArguments image ty k (frontOf rs) ++ throughArguments image ty k (backOf rs′))) r₃)
           (or-assoc fails (someArgument image ty (frontOf fs)) (someArgument image ty (backOf fs′)) ∙ ap (λ (x : Bool). fails || x) (sym (some-argument-append image ty (frontOf fs) (backOf fs′)))) a₃)
 
   -- what a Slice adds, its length tested or not
   abbrev Slices : Bool → Out → Type 0
   Slices tested r =
-      After pass c els (tested || someArgument image ty (items fs fs′)) k f
-      (binding h k f (cond tested 1 0) (cond tested (lengthStatements rest) 0) (restBinding rest) ∷ throughArguments image ty k (items rs rs′)) r
+      After pass c els (tested || someArgument image ty (sliceArguments fs fs′)) k f
+      (binding h k f (cond tested 1 0) (cond tested (statementsBy rest) 0) (bindingBy rest) ∷ throughArguments image ty k (sliceArguments rs rs′)) r
 
   -- the test of a slice's length
-  length-tested : (current : BasicBlockId) (n : ℕ) → Holds (After pass c els true k f (binding h k f 1 (lengthStatements rest) none ∷ []))
+  length-tested : (current : BasicBlockId) (n : ℕ) → Holds (After pass c els true k f (binding h k f 1 (statementsBy rest) none ∷ []))
       (inCheck (modeOf pass) (lengthTest rest image (h .number) n (visited c (h .number)) current els place) (out (visited c (h .number)) current els))
-  unfolding lengthStatements
+  unfolding statementsBy
   length-tested current n = by pass
     where
-      few : (rest : RestOf) → lengthStatements rest ≤ 4
+      few : (rest : RestOf) → statementsBy rest ≤ 4
       few RestOf.none = omega arith
       few (RestOf.binds q b how) = omega arith
       few RestOf.ignores = omega arith
 
       x : Reached
-      x = binding h k f 1 (lengthStatements rest) none
+      x = binding h k f 1 (statementsBy rest) none
 
       small : Small x
       small = record { tests = omega arith; testStatements = few rest }
@@ -196,5 +197,5 @@ module _ {image : List ℕ} {ls ls′ : List Lowering} {fs fs′ : List (PlaceTy
   holds-slice (slice t) current o =
       holds-next (inCheck (modeOf pass) (lengthTest rest image (h .number) (length ls + length ls′) (visited c (h .number)) current els place) (out (visited c (h .number)) current els))
       (λ r. sliceItems bindings (h .number) ls rest ls′ (modeOf pass) (r .ctx) (r .then) (r .else) place) (length-tested current (length ls + length ls′)) (λ r a.
-      holds-items true 1 (lengthStatements rest) r a (on-after a (on-unvisited (h .number) o)))
+      holds-items true 1 (statementsBy rest) r a (on-after a (on-unvisited (h .number) o)))
   holds-slice unknown current o = refuses (Slices false) (MirLowerError.TypeError 2) (h .number)

@@ -17,6 +17,7 @@ use Rattle.lower.specs.declared.merging.OptBlock.{OptBlock}
 use Rattle.pattern_matching.specs.Walking.{Ctx, Out, Lowering, project, visited, entered}
 use Rattle.pattern_matching.specs.Variants.{placeTy, shapeOf, needed, tupleOn, tuplePattern, refOn, refPattern}
 use Rattle.pattern_matching.specs.Patterns.{refusing, passing}
+use Rattle.counting.specs.Cases.{tupleFields}
 use Rattle.counting.specs.Reaching.{behindDerefs, inARow, fieldCount, someArgument, Reaching, testing, throughArguments}
 use Rattle.counting.proofs.Holding.{Holds, holds, refuses, holds-step, holds-as}
 use Rattle.counting.proofs.Going.{visit}
@@ -51,7 +52,7 @@ inside-refused image h e fails reach = record { goes = λ pass c current els pla
 pub inside-tuple : {image : List ℕ} {ls : List Lowering} {fs : List (PlaceTy → Bool)} {rs : List Reaching} (h : Head) (ellipsis : Option ℕ) → Each image ls fs rs →
     Inside image h (tuplePattern image (h .number) ls ellipsis) (λ ty. someArgument image ty (inARow ellipsis (fieldCount (shapeOf image ty)) fs))
     (λ ty k f. testing h k f 0 0 ∷ throughArguments image ty k (inARow ellipsis (fieldCount (shapeOf image ty)) rs))
-unfolding tuplePattern tupleOn fieldCount
+unfolding tuplePattern tupleOn fieldCount tupleFields
 inside-tuple {image = image} {ls = ls} {fs = fs} {rs = rs} h ellipsis e =
     record {
       goes = λ pass c current els place ty k f o.

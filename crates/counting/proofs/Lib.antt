@@ -4,6 +4,7 @@ pub mod Building
 pub mod Stepping
 pub mod Passing
 pub mod Typed
+pub mod Rests
 mod Testing
 pub mod Arguments
 pub mod Rows

@@ -30,7 +30,7 @@ use Rattle.place.specs.declared.place_ty.PlaceTy.{PlaceTy}
 use Rattle.place.specs.PlaceTypes.{projectionTy, multiProjectionTy}
 use Rattle.pattern_matching.specs.Variants.{shapeOf, fieldsUpTo}
 use Rattle.pattern_matching.specs.Slices.{suffixItems}
-use Rattle.counting.specs.Reaching.{behindDerefs, Argument, zip, inARow, byFields, fieldCount, isEnum, downcast, ofVariant, items, failing, Reached, anOr, Reaching, pathReached, throughArguments, throughAlternatives, reached, reachings, reaching?}
+use Rattle.counting.specs.Reaching.{behindDerefs, Argument, zip, inARow, byFields, fieldCount, isEnum, downcast, ofVariant, sliceArguments, failing, Reached, anOr, Reaching, pathReached, throughArguments, throughAlternatives, reached, reachings, reaching?}
 use Rattle.counting.specs.Counting.{reachedFrom, visitsOf, IsReached}
 use Rattle.counting.proofs.Tallies.{hit-or}
 use Rattle.counting.proofs.Once.{visited-exactly, never-visited}
@@ -108,8 +108,8 @@ module _ {n : ℕ} where
   args-by-fields (some i ∷ fields) each-none = args-none
   args-by-fields (some i ∷ fields) (each-more u e) = args-more u (args-by-fields fields e)
 
-  args-items : {rs rs′ : List Reaching} → Each n rs → Each n rs′ → Args n (items rs rs′)
-  unfolding items
+  args-items : {rs rs′ : List Reaching} → Each n rs → Each n rs′ → Args n (sliceArguments rs rs′)
+  unfolding sliceArguments
   args-items {rs = rs} {rs′ = rs′} e e′ =
       args-append (args-zip (map (λ i. ProjectionElem.Index i) (upFrom 0 (length rs))) e) (args-zip (suffixItems (length rs′)) e′)
 

@@ -26,9 +26,10 @@ use Rattle.pattern_matching.specs.Walking.{Ctx, Out, Walk, step, out, withState
 use Rattle.pattern_matching.specs.Tests.{boolWord, usizeWord, ifTrue, compare, patternMatchConst, constantPath, rangeEnd, rangeEnd?}
 use Rattle.pattern_matching.specs.Variants.{discriminantTest}
 use Rattle.pattern_matching.specs.Slices.{RestOf, lengthConstant, lengthCompared, lengthTest}
-use Rattle.counting.specs.Reaching.{endCount, positive, lengthStatements}
+use Rattle.counting.specs.Reaching.{endCount, positive}
 use Rattle.counting.specs.Counting.{elseMade}
 use Rattle.counting.specs.Demand3.{ElseIs}
+use Rattle.counting.proofs.Rests.{statementsBy}
 use Rattle.counting.proofs.Holding.{Holds, holds, Gives, holds-step}
 use Rattle.counting.proofs.Going.{What, block, statement, visit, Built, built-on, built-none, went-built, went-as, nothing, made}
 use Rattle.counting.proofs.Building.{built-terminator, gives-block, gives-statement, gives-temp, gives-else}
@@ -206,8 +207,8 @@ holds-discriminant image p v c current els place =
 
 -- a slice's length: one block, and two statements, or four with a rest
 pub holds-length : (rest : RestOf) (image : List ℕ) (p n : ℕ) (c : Ctx) (current : BasicBlockId) (els : OptBlock) (place : Place) →
-    Holds (λ r. Steps c els r true nothing (made 1 (lengthStatements rest))) (lengthTest rest image p n c current els place)
-unfolding lengthTest lengthCompared lengthStatements
+    Holds (λ r. Steps c els r true nothing (made 1 (statementsBy rest))) (lengthTest rest image p n c current els place)
+unfolding lengthTest lengthCompared statementsBy
 holds-length rest image p n c current els place =
     holds-step p (temp image (c .state) usizeWord current) k₁ (gives-temp image (c .state) usizeWord current) (λ st₁ g₁.
     holds-step p (tryStatement st₁ row) k₂ (gives-statement st₁ row) (λ st₂ g₂.
@@ -225,7 +226,7 @@ holds-length rest image p n c current els place =
         (omega (arith, g₁ .blocks, g₂ .blocks)) (omega (arith, g₃ .blocks, g₄ .blocks, g₅ .blocks)))
 
     by : (rest : RestOf) (st₁ st₂ st₃ st₄ : State) → Built (c .state) st₁ 0 1 → Built st₁ st₂ 0 1 → Built st₂ st₃ (elseMade true els) 0 → Built st₃ st₄ 1 0 →
-        Holds (λ r. Steps c els r true nothing (made 1 (lengthStatements rest))) (lengthCompared rest image p n c (c .state) st₄ current (nextBlock st₃) (elseBlock st₂ els))
+        Holds (λ r. Steps c els r true nothing (made 1 (statementsBy rest))) (lengthCompared rest image p n c (c .state) st₄ current (nextBlock st₃) (elseBlock st₂ els))
     by RestOf.none st₁ st₂ st₃ st₄ g₁ g₂ g₃ g₄ =
         let t = Terminator.Switch (nextLocal (c .state)) n 0 (nextBlock st₃) (elseBlock st₂ els) in
         let end = built-terminator st₄ current t in

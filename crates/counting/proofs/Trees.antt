@@ -1,6 +1,7 @@
 -- Every pattern adds what is counted of the patterns reached from it: by induction over the tree. Assumes nothing.
 use mathlib.Core.Bool.{Bool, false, cond, _||_}
 use mathlib.Core.Option.{some}
+use mathlib.Core.Path.{sym}
 use mathlib.Core.List.{List, [], _∷_}
 use Prim.Native.Nat.{ℕ}
 use Rattle.image.specs.declared.kinds.BindingMode.{BindingMode}
@@ -12,9 +13,10 @@ use Rattle.place.specs.declared.place_ty.PlaceTy.{PlaceTy}
 use Rattle.mir.specs.declared.BasicBlockId.{BasicBlockId}
 use Rattle.lower.specs.declared.merging.OptBlock.{OptBlock}
 use Rattle.pattern_matching.specs.Walking.{Ctx, Lowering, visited}
-use Rattle.pattern_matching.specs.Slices.{RestOf, sliceOn}
+use Rattle.pattern_matching.specs.Slices.{sliceOn}
 use Rattle.pattern_matching.specs.Patterns.{bindPattern, orPattern, restOf, patternMatchInner, lowerings, lowering?}
-use Rattle.counting.specs.Reaching.{isSliceShape, items, someArgument, allAlternatives, canFail, failing, canFail?, Reaching, binding, anOr, lengthStatements, restBinding, throughArguments, throughAlternatives, reached, reachings, reaching?}
+use Rattle.counting.specs.Reaching.{isSliceShape, sliceArguments, someArgument, allAlternatives, canFail, failing, canFail?, Reaching, binding, anOr, lengthStatements, restBinding, throughArguments, throughAlternatives, reached, reachings, reaching?}
+use Rattle.counting.proofs.Rests.{statements-of, binding-of}
 use Rattle.counting.proofs.Holding.{Holds, holds}
 use Rattle.counting.proofs.Passing.{Pass, modeOf, After, after-none}
 use Rattle.counting.proofs.Typed.{On}
@@ -41,11 +43,14 @@ inside-bind {l = l} {fails = fails} {reach = reach} bindings h b how below =
     }
 
 -- a Slice
-inside-slice : {image : List ℕ} {ls ls′ : List Lowering} {fs fs′ : List (PlaceTy → Bool)} {rs rs′ : List Reaching} (bindings : List ℕ) (h : Head) (rest : RestOf) → Each image ls fs rs → Each image ls′ fs′ rs′ →
-    Inside image h (sliceOn (tyOf image (h .ty) .shape) image bindings (h .number) ls rest ls′) (λ ty. isSliceShape (tyOf image (h .ty) .shape) || someArgument image ty (items fs fs′))
-    (λ ty k f. binding h k f (cond (isSliceShape (tyOf image (h .ty) .shape)) 1 0) (cond (isSliceShape (tyOf image (h .ty) .shape)) (lengthStatements rest) 0) (restBinding rest) ∷ throughArguments image ty k (items rs rs′))
+inside-slice : {image : List ℕ} {ls ls′ : List Lowering} {fs fs′ : List (PlaceTy → Bool)} {rs rs′ : List Reaching} (bindings : List ℕ) (h : Head) (rest : PatOpt) → Each image ls fs rs → Each image ls′ fs′ rs′ →
+    Inside image h (sliceOn (tyOf image (h .ty) .shape) image bindings (h .number) ls (restOf rest) ls′) (λ ty. isSliceShape (tyOf image (h .ty) .shape) || someArgument image ty (sliceArguments fs fs′))
+    (λ ty k f. binding h k f (cond (isSliceShape (tyOf image (h .ty) .shape)) 1 0) (cond (isSliceShape (tyOf image (h .ty) .shape)) (lengthStatements rest) 0) (restBinding rest) ∷ throughArguments image ty k (sliceArguments rs rs′))
 inside-slice {image = image} bindings h rest front back =
-    record { goes = λ pass c current els place ty k f o. holds-slice front back bindings h rest pass c els place ty k f (tyOf image (h .ty) .shape) current o }
+    record {
+      goes = λ pass c current els place ty k f o.
+          rw (sym (statements-of rest), sym (binding-of rest)) (holds-slice front back bindings h (restOf rest) pass c els place ty k f (tyOf image (h .ty) .shape) current o);
+    }
 
 -- an Or
 inside-or : {image : List ℕ} {ls : List Lowering} {fs : List (PlaceTy → Bool)} {rs : List Reaching} (h : Head) → Each image ls fs rs →
@@ -66,7 +71,7 @@ module _ (image bindings : List ℕ) where
     counts (Pat.Or h alts) = counts-entered (inside-or h (each alts))
     counts (Pat.Record h fields args v) = counts-entered (inside-variant h v (fielded-record fields (each args)))
     counts (Pat.Range h start end halfOpen) = counts-entered (inside-range image h start end halfOpen)
-    counts (Pat.Slice h prefix rest suffix) = counts-entered (inside-slice bindings h (restOf rest) (each prefix) (each suffix))
+    counts (Pat.Slice h prefix rest suffix) = counts-entered (inside-slice bindings h rest (each prefix) (each suffix))
     counts (Pat.Path h target) = counts-entered (inside-path image bindings h target)
     counts (Pat.Lit h operand) = counts-entered (inside-lit image h operand)
     counts (Pat.Bind h b s how annotation) = counts-entered (inside-bind bindings h b how (below s))

@@ -14,7 +14,7 @@ use Rattle.place.specs.declared.place_ty.PlaceTy.{PlaceTy}
 use Rattle.place.specs.PlaceTypes.{projectionTy, multiProjectionTy}
 use Rattle.pattern_matching.specs.Variants.{shapeOf, fieldsUpTo}
 use Rattle.pattern_matching.specs.Slices.{suffixItems}
-use Rattle.counting.specs.Reaching.{behindDerefs, Argument, zip, inARow, byFields, fieldCount, isEnum, downcast, ofVariant, items, failing, Reached, Reaching, pathReached, throughArguments, throughAlternatives, reached, reachings, reaching?}
+use Rattle.counting.specs.Reaching.{behindDerefs, Argument, zip, inARow, byFields, fieldCount, isEnum, downcast, ofVariant, sliceArguments, failing, Reached, Reaching, pathReached, throughArguments, throughAlternatives, reached, reachings, reaching?}
 use Rattle.counting.specs.Counting.{total}
 use Rattle.counting.proofs.Passing.{total-append}
 use Rattle.counting.proofs.Tallies.{hit}
@@ -95,8 +95,8 @@ module _ {n : ℕ} where
   args-by-fields (some i ∷ fields) row-none = args-none
   args-by-fields (some i ∷ fields) (row-more w row le) = args-more w (args-by-fields fields row) le
 
-  args-items : {rs rs′ : List Reaching} {a b : ℕ} → Row n rs a → Row n rs′ b → Args n (items rs rs′) (a + b)
-  unfolding items
+  args-items : {rs rs′ : List Reaching} {a b : ℕ} → Row n rs a → Row n rs′ b → Args n (sliceArguments rs rs′) (a + b)
+  unfolding sliceArguments
   args-items {rs = rs} {rs′ = rs′} row row′ =
       args-append (args-zip (map (λ i. ProjectionElem.Index i) (upFrom 0 (length rs))) row) (args-zip (suffixItems (length rs′)) row′) (omega arith)
 

@@ -1,3 +1,4 @@
+pub mod Cases
 pub mod Reaching
 pub mod Counting
 pub mod Demand3

@@ -6,14 +6,14 @@ use mathlib.Core.List.{List, [], _∷_, _++_, map, reverse}
 use lib.ListN.{length, take, drop}
 use Rattle.image.specs.declared.kinds.AdtKind.{AdtKind}
 use Rattle.image.specs.Lists.{upFrom}
-use Rattle.image.specs.Types.{Shape, integer, bool, char, str, tuple, adt, reference, array, slice, unknown, tyOf, variantOf, Operand}
+use Rattle.image.specs.Types.{Shape, tyOf, variantOf, Operand}
 use Rattle.image.specs.Tree.{Head, Target, unresolved, variant, local, constant, other, Pat, Pats, nil, cons, PatOpt, no, sub}
 use Rattle.place.specs.declared.elems.ProjectionElem.{ProjectionElem}
 use Rattle.place.specs.declared.place_ty.PlaceTy.{PlaceTy}
 use Rattle.place.specs.PlaceTypes.{projectionTy, multiProjectionTy}
 use Rattle.pattern_matching.specs.Variants.{shapeOf, fieldsUpTo}
-use Rattle.pattern_matching.specs.Slices.{RestOf, suffixItems}
-use Rattle.pattern_matching.specs.Patterns.{restOf}
+use Rattle.pattern_matching.specs.Slices.{suffixItems}
+use Rattle.counting.specs.Cases.{ifThere, tupleFields, ifAdt, ifSlice, ifBind}
 
 -- the type of a place behind so many references
 unfoldable pub behindDerefs : List ℕ → PlaceTy → ℕ → PlaceTy
@@ -45,17 +45,7 @@ byFields (some i ∷ fields) (x ∷ xs) = record { elems = ProjectionElem.Field 
 
 -- how many fields a tuple has
 unfoldable pub fieldCount : Option Shape → ℕ
-fieldCount none = 0
-fieldCount (some (integer size signed)) = 0
-fieldCount (some bool) = 0
-fieldCount (some char) = 0
-fieldCount (some str) = 0
-fieldCount (some (tuple fields)) = length fields
-fieldCount (some (adt kind variants)) = 0
-fieldCount (some (reference t)) = 0
-fieldCount (some (array t n)) = 0
-fieldCount (some (slice t)) = 0
-fieldCount (some unknown) = 0
+fieldCount shape = ifThere shape (λ s. length (tupleFields s)) 0
 
 abbrev pub isEnumKind : AdtKind → Bool
 isEnumKind AdtKind.Struct = false
@@ -65,30 +55,11 @@ isEnumKind AdtKind.Unknown = false
 
 -- the type at the place is an enum
 unfoldable pub isEnum : Option Shape → Bool
-isEnum none = false
-isEnum (some (integer size signed)) = false
-isEnum (some bool) = false
-isEnum (some char) = false
-isEnum (some str) = false
-isEnum (some (tuple fields)) = false
-isEnum (some (adt kind variants)) = isEnumKind kind
-isEnum (some (reference t)) = false
-isEnum (some (array t n)) = false
-isEnum (some (slice t)) = false
-isEnum (some unknown) = false
+isEnum shape = ifThere shape (λ s. ifAdt s (λ kind variants. isEnumKind kind) false) false
 
 -- a pattern's own type is a slice
 unfoldable pub isSliceShape : Shape → Bool
-isSliceShape (integer size signed) = false
-isSliceShape bool = false
-isSliceShape char = false
-isSliceShape str = false
-isSliceShape (tuple fields) = false
-isSliceShape (adt kind variants) = false
-isSliceShape (reference t) = false
-isSliceShape (array t n) = false
-isSliceShape (slice t) = true
-isSliceShape unknown = false
+isSliceShape shape = ifSlice shape (λ t. true) false
 
 -- the fields of an enum's variant lie behind a Downcast
 unfoldable pub downcast : {A : Type 0} → Bool → ℕ → List (Argument A) → List (Argument A)
@@ -101,8 +72,8 @@ ofVariant image ty none args = []
 ofVariant image ty (some v) args = downcast (isEnum (shapeOf image ty)) v (args (length (variantOf image v .fields)))
 
 -- the items of a Slice pattern
-unfoldable pub items : {A : Type 0} → List A → List A → List (Argument A)
-items prefix suffix =
+unfoldable pub sliceArguments : {A : Type 0} → List A → List A → List (Argument A)
+sliceArguments prefix suffix =
     zip (map (λ i. ProjectionElem.Index i) (upFrom 0 (length prefix))) prefix
     ++ zip (suffixItems (length suffix)) suffix
 
@@ -150,7 +121,7 @@ module _ (image : List ℕ) where
         isEnum (shapeOf image here) || someArgument image here (ofVariant image here v (λ n. byFields fields (failing args)))
     canFail (Pat.Range h start end halfOpen) ty = positive (endCount start + endCount end)
     canFail (Pat.Slice h prefix rest suffix) ty =
-        isSliceShape (tyOf image (h .ty) .shape) || someArgument image (behindDerefs image ty (h .derefs)) (items (failing prefix) (failing suffix))
+        isSliceShape (tyOf image (h .ty) .shape) || someArgument image (behindDerefs image ty (h .derefs)) (sliceArguments (failing prefix) (failing suffix))
     canFail (Pat.Path h target) ty = positive (pathTests image (behindDerefs image ty (h .derefs)) target)
     canFail (Pat.Lit h operand) ty = true
     canFail (Pat.Bind h b s how annotation) ty = canFail? s (behindDerefs image ty (h .derefs))
@@ -188,16 +159,7 @@ testing h k f tests statements =
 
 -- one that names a variant: on an enum it has a test, which makes two statements
 abbrev pub naming : Head → ℕ → Bool → Bool → Reached
-naming h k f enum =
-    record {
-      number = h .number;
-      ors = k;
-      tests = cond enum 1 0;
-      testStatements = cond enum 2 0;
-      failingAlternative = f;
-      isOr = false;
-      bound = none;
-    }
+naming h k f enum = testing h k f (cond enum 1 0) (cond enum 2 0)
 
 -- one that may bind
 abbrev pub binding : Head → ℕ → Bool → ℕ → ℕ → Option ℕ → Reached
@@ -208,16 +170,14 @@ abbrev pub anOr : Head → ℕ → Bool → Reached
 anOr h k f = record { number = h .number; ors = k; tests = 0; testStatements = 0; failingAlternative = f; isOr = true; bound = none }
 
 -- "a test makes 2, but .. of a Slice with a rest 4"
-unfoldable pub lengthStatements : RestOf → ℕ
-lengthStatements RestOf.none = 2
-lengthStatements (RestOf.binds q b how) = 4
-lengthStatements RestOf.ignores = 4
+unfoldable pub lengthStatements : PatOpt → ℕ
+lengthStatements no = 2
+lengthStatements (sub rest) = 4
 
 -- the binding of a Slice's rest that is one
-unfoldable pub restBinding : RestOf → Option ℕ
-restBinding RestOf.none = none
-restBinding (RestOf.binds q b how) = some b
-restBinding RestOf.ignores = none
+unfoldable pub restBinding : PatOpt → Option ℕ
+restBinding no = none
+restBinding (sub rest) = ifBind rest (λ h b s how. some b) none
 
 unfoldable pub pathReached : List ℕ → PlaceTy → Target → Head → ℕ → Bool → Reached
 pathReached image ty unresolved h k f = testing h k f 0 0
@@ -262,8 +222,8 @@ module _ (image : List ℕ) where
         testing h k f ends (ends + ends) ∷ []
     reached (Pat.Slice h prefix rest suffix) ty k f =
         let tested = isSliceShape (tyOf image (h .ty) .shape) in
-        binding h k f (cond tested 1 0) (cond tested (lengthStatements (restOf rest)) 0) (restBinding (restOf rest))
-        ∷ throughArguments image (behindDerefs image ty (h .derefs)) k (items (reachings prefix) (reachings suffix))
+        binding h k f (cond tested 1 0) (cond tested (lengthStatements rest) 0) (restBinding rest)
+        ∷ throughArguments image (behindDerefs image ty (h .derefs)) k (sliceArguments (reachings prefix) (reachings suffix))
     reached (Pat.Path h target) ty k f = pathReached image (behindDerefs image ty (h .derefs)) target h k f ∷ []
     reached (Pat.Lit h operand) ty k f = testing h k f 1 2 ∷ []
     reached (Pat.Bind h b s how annotation) ty k f = binding h k f 0 0 (some b) ∷ reaching? s (behindDerefs image ty (h .derefs)) k false

@@ -16,9 +16,7 @@ use Rattle.image.proofs.Bools.{and-left, and-right}
 use Rattle.read_image.specs.declared.Read.{Read}
 use Rattle.read_image.specs.Read.{readOf}
 use Rattle.lower_calls.proofs.Prologue.{read-valid, read-refused, whole-of}
-use Rattle.meaning.specs.Fitting.{typesFit}
-use Rattle.meaning.specs.Fit.{bindingsFit}
-use Rattle.meaning.specs.Fits.{nothingRefused, localsDiffer, fits}
+use Rattle.meaning.specs.Fit.{typesFit, bindingsFit, nothingRefused, localsDiffer, fits}
 use Rattle.fit_reached.specs.Taking.{FitsSomewhere}
 use Rattle.fit.specs.declared.FitCall.{FitCall}
 use Rattle.fit.specs.Calls.{handed, fitCall, Gives}

@@ -10,7 +10,7 @@ use Rattle.refusals.specs.Refusals.{Refusal, breaksARule, namesNothing}
 use Rattle.image.specs.Tables.{typeCount, patternCount, bindingCount}
 use Rattle.image.specs.Tree.{tree}
 use Rattle.image.specs.Valid.{valid}
-use Rattle.meaning.specs.Fits.{fits}
+use Rattle.meaning.specs.Fit.{fits}
 use Rattle.fit.specs.declared.FitCall.{FitCall}
 
 -- what a call gives: the image breaks a rule, a number of the call names nothing, or "a yes or no tells the fit"

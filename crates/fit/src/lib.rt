@@ -18,7 +18,7 @@ ghost use lib.ListN.{length};
 ghost use Rattle.image.specs.Tables.{Whole, typeCount, patternCount, bindingCount};
 ghost use Rattle.image.specs.Tree.{tree};
 ghost use Rattle.image.specs.Valid.{valid};
-ghost use Rattle.meaning.specs.Fits.{fits};
+ghost use Rattle.meaning.specs.Fit.{fits};
 ghost use Rattle.fit.specs.Calls.{handed, fitCall, Gives};
 
 // The pattern fits the place, or does not; or a number of the call names nothing, or the image breaks a rule.

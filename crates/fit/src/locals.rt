@@ -3,7 +3,7 @@ use place::LocalId;
 ghost use mathlib.Core.Path.{_≡_};
 ghost use lib.ListN.{drop};
 ghost use Rattle.image.specs.Lists.{member, distinct};
-ghost use Rattle.meaning.specs.Fits.{present, localsDiffer};
+ghost use Rattle.meaning.specs.Fit.{present, localsDiffer};
 
 // The local l is that of a binding, from the binding `from` on.
 fn stands_from(bindings: &[u16], from: usize, l: u16) -> bool

@@ -19,7 +19,7 @@ use Rattle.image.specs.Types.{shapeBy, tyOf}
 use Rattle.image.specs.Tree.{Head, Pat, no, sub, trees, tree?, tree, node}
 use Rattle.image.specs.Valid.{valid}
 use Rattle.image.proofs.Trees.{tree-node}
-use Rattle.meaning.specs.Fit.{BoundAt, restTy, restBound, restBound?, patCount, boundIn, boundInAll, boundInFirst, boundIn?}
+use Rattle.meaning.specs.Fit.{BoundAt, restTy, restBound?, patCount, boundIn, boundInAll, boundInFirst, boundIn?}
 use Rattle.fit_bindings.specs.declared.nodes.Own.{Own}
 use Rattle.fit_bindings.specs.Nodes.{numberAt, numbers, restOfType, restByKind, restOwn, nodeBy, nodeOf, firstOnly, tellingOf}
 use Rattle.fit_bindings.specs.Bound.{owned, anyOf, allOf, boundInRow}
@@ -53,8 +53,8 @@ module _ (image : List ℕ) where
 
   -- a rest, by its kind
   rest-by-kind : (k : PatKind) (g : ℕ → Pat) (h : Head) (row : PatRow) (t items : ℕ) →
-      owned (restByKind k image (row .a) t items) ≡ restBound (Rattle.image.specs.Tree.nodeBy k g image h row) (tyOf image t .shape) t items
-  unfolding owned restByKind restBound Rattle.image.specs.Tree.nodeBy tyOf
+      owned (restByKind k image (row .a) t items) ≡ restBound? (sub (Rattle.image.specs.Tree.nodeBy k g image h row)) (tyOf image t .shape) t items
+  unfolding owned restByKind restBound? Rattle.image.specs.Tree.nodeBy tyOf
   rest-by-kind PatKind.Missing g h row t items = refl
   rest-by-kind PatKind.Rest g h row t items = refl
   rest-by-kind PatKind.NotNull g h row t items = refl
@@ -84,7 +84,7 @@ module _ (image : List ℕ) where
           owned (cond b Own.None (restByKind (patKind (patAt image d .kind)) image (patAt image d .a) t items)) ≡ restBound? (cond b no (sub (tree image d))) (tyOf image t .shape) t items
       by true e = refl
       by false e =
-          subst (λ (q : Pat). owned (restByKind (patKind (patAt image d .kind)) image (patAt image d .a) t items) ≡ restBound q (tyOf image t .shape) t items)
+          subst (λ (q : Pat). owned (restByKind (patKind (patAt image d .kind)) image (patAt image d .a) t items) ≡ restBound? (sub q) (tyOf image t .shape) t items)
           (sym (tree-node image d v (ltb-true d (patternCount image) e)))
           (unfold node in rest-by-kind (patKind (patAt image d .kind)) (tree image) (headOf d (patAt image d)) (patAt image d) t items)
 
@@ -147,7 +147,7 @@ module _ (image : List ℕ) where
   split-by PatKind.Bind p row r = record {
     front = [];
     back = boundInAll image (trees (tree image) (numbers image 0 (row .b) (cond (eqb (row .b) absent) 0 1)));
-    whole-is = ap (λ (zs : List BoundAt). record { binding = row .a; ty = row .ty; left = none } ∷ zs) (bound-present (tree image) (row .b));
+    whole-is = ap (λ (zs : List BoundAt). record { binding = row .a; ty = row .ty; lengthLeft = none } ∷ zs) (bound-present (tree image) (row .b));
     rest-is = refl;
   }
   split-by PatKind.TupleStruct p row r = split-none (ap (λ (xs : List ℕ). boundInAll image (trees (tree image) xs)) (sym (numbers-listed image 0 (row .a) (row .b))))

@@ -30,13 +30,13 @@ boundInRow image row = boundInAll image (rowTrees image row)
 -- the binding that stands in a pattern itself
 unfoldable pub owned : Own → List BoundAt
 owned Own.None = []
-owned (Own.At b t) = record { binding = b; ty = t; left = none } ∷ []
-owned (Own.Rest b t n) = record { binding = b; ty = t; left = some n } ∷ []
+owned (Own.At b t) = record { binding = b; ty = t; lengthLeft = none } ∷ []
+owned (Own.Rest b t n) = record { binding = b; ty = t; lengthLeft = some n } ∷ []
 
 -- a binding at a type, or a binding at any type
 unfoldable pub meets : Wanted → BoundAt → Bool
-meets (Wanted.At b t) y = eqb b (y .binding) && eqb t (y .ty) && sameCount none (y .left)
-meets (Wanted.Rest b t n) y = eqb b (y .binding) && eqb t (y .ty) && sameCount (some n) (y .left)
+meets (Wanted.At b t) y = eqb b (y .binding) && eqb t (y .ty) && sameCount none (y .lengthLeft)
+meets (Wanted.Rest b t n) y = eqb b (y .binding) && eqb t (y .ty) && sameCount (some n) (y .lengthLeft)
 meets (Wanted.Binding b) y = eqb b (y .binding)
 
 -- a binding stands among others at the same type, or does not stand among them at any type

@@ -23,8 +23,7 @@ use Rattle.image.specs.Rules.{absent}
 use Rattle.image.specs.Tree.{operand?}
 use Rattle.image.specs.Types.{Shape, bool, shapeBy, tyOf, operandOf}
 use Rattle.literals.proofs.Operands.{int-bytes, uint-bytes}
-use Rattle.meaning.specs.Typing.{integerFits}
-use Rattle.meaning.specs.Fitting.{constantFits, literalFits, endFits, endFits?, isThere}
+use Rattle.meaning.specs.Fit.{integerFits, constantFits, literalFits, endFits, endFits?, isThere}
 use Rattle.fit_literals.proofs.Shapes.{shape-of}
 
 -- the row of the type t

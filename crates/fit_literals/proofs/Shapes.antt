@@ -18,8 +18,9 @@ use Rattle.image.specs.Valid.{valid}
 use Rattle.image.proofs.Bools.{and-left}
 use Rattle.image.proofs.Known.{shape-holds}
 use Rattle.image.proofs.kinds.TypeKind as type-kind
-use Rattle.meaning.specs.Values.{kindNumber}
-use Rattle.meaning.specs.Typing.{integerFits, refersToStr}
+use Rattle.counting.specs.Cases.{kindNumber, referent}
+use Rattle.meaning.specs.Fit.{integerFits, refersToStr}
+use Rattle.meaning.specs.Values.{intFits}
 
 -- the number of the kind of a row that holds
 row-kind : (image : List ℕ) (k : ℕ) (row : TypeRow) → typeShapeHolds (typeKind k) image row ≡ true → kindNumber (shapeBy (typeKind k) image row) ≡ k
@@ -73,7 +74,7 @@ integer-sized image row e h = and-left (isIntegerSize (row .a)) (isFlag (row .b)
 
 -- what is no reference refers to no str
 pub refers-not : (image : List ℕ) (s : Shape) → (kindNumber s ≡ 7 → ⊥) → refersToStr image s ≡ false
-unfolding kindNumber refersToStr
+unfolding kindNumber refersToStr referent
 refers-not image (integer size signed) h = refl
 refers-not image bool h = refl
 refers-not image char h = refl
@@ -88,7 +89,7 @@ refers-not image unknown h = refl
 -- what is no integer type has no integers
 pub not-integer : (image : List ℕ) (row : TypeRow) (kind : TypeKind) → OneOf (1 ∷ 2 ∷ 3 ∷ 4 ∷ 5 ∷ 6 ∷ 7 ∷ 8 ∷ 9 ∷ []) (Declared.tagOf type-kind.the-type kind)
     → (negative : Bool) (bytes : List ℕ) → false ≡ integerFits (shapeBy kind image row) negative bytes
-unfolding shapeBy integerFits
+unfolding shapeBy integerFits intFits
 not-integer image row TypeKind.Integer h negative bytes = absurd (miss (1 ∷ 2 ∷ 3 ∷ 4 ∷ 5 ∷ 6 ∷ 7 ∷ 8 ∷ 9 ∷ []) 0 tt h)
 not-integer image row TypeKind.Bool h negative bytes = refl
 not-integer image row TypeKind.Char h negative bytes = refl

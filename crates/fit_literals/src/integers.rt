@@ -10,7 +10,7 @@ ghost use lib.ListN.{length};
 ghost use Rattle.image.specs.Integers.{inRange, integerValue};
 ghost use Rattle.image.specs.Rules.{isIntegerSize, typeShapeHolds};
 ghost use Rattle.image.specs.Types.{shapeBy};
-ghost use Rattle.meaning.specs.Typing.{integerFits};
+ghost use Rattle.meaning.specs.Fit.{integerFits};
 
 // The number of 16 bytes, which are two's complement where it may be negative.
 fn in_range(size: u16, signed: bool, negative: bool, bytes: &[u8]) -> bool

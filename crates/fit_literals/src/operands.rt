@@ -20,8 +20,7 @@ ghost use Rattle.image.specs.Patterns.{operandOrAbsent};
 ghost use Rattle.image.specs.Tree.{operand?};
 ghost use Rattle.image.specs.Types.{shapeBy, tyOf, operandOf};
 ghost use Rattle.image.specs.Valid.{valid};
-ghost use Rattle.meaning.specs.Typing.{refersToStr};
-ghost use Rattle.meaning.specs.Fitting.{constantFits, literalFits, endFits, endFits?, isThere};
+ghost use Rattle.meaning.specs.Fit.{refersToStr, constantFits, literalFits, endFits, endFits?, isThere};
 
 // Bytes that are as many as the type of a row has, and a value of it.
 pub fn bytes_fit(image: &[u8], row: TypeRow, kind: TypeKind, bytes: &[u8]) -> bool

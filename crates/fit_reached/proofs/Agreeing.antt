@@ -15,11 +15,10 @@ use Rattle.place.specs.declared.place_ty.PlaceTy.{PlaceTy}
 use Rattle.place.specs.PlaceTypes.{projectionTy, multiProjectionTy}
 use Rattle.pattern_matching.specs.Variants.{fieldsUpTo}
 use Rattle.pattern_matching.specs.Slices.{suffixItems}
-use Rattle.counting.specs.Reaching.{Argument, zip, inARow, byFields, items, someArgument}
-use Rattle.meaning.specs.Typing.{TypeNumber, argumentsFit}
+use Rattle.counting.specs.Reaching.{Argument, zip, inARow, byFields, sliceArguments, someArgument}
 use Rattle.meaning.specs.Matching.{recordFields}
-use Rattle.meaning.specs.Fitting.{rowFits, itemsAllFit}
-use Rattle.meaning.specs.Fits.{fieldsThere}
+use Rattle.meaning.specs.Typing.{TypeNumber}
+use Rattle.meaning.specs.Fit.{argumentsFit, rowFits, itemsAllFit, fieldsThere}
 use Rattle.meaning.proofs.Children.{Placed, length-from, row-counted, row-placed, items-placed}
 use Rattle.fit_reached.specs.Failing.{someTrue}
 
@@ -139,8 +138,8 @@ module _ (image : List ℕ) (ty : PlaceTy) where
   -- the items of a Slice, all of one type
   pub items-some : (u : ℕ) {cs cs′ : List (PlaceTy → Bool)} {fs fs′ : List (TypeNumber → Bool)} {bs bs′ : List Bool} → Each image cs fs bs → Each image cs′ fs′ bs′
       → ((i : ℕ) → Leads image ty (ProjectionElem.Index i) u) → ((i : ℕ) → Leads image ty (ProjectionElem.IndexFromEnd i) u) → itemsAllFit fs (some u) ≡ true → itemsAllFit fs′ (some u) ≡ true
-      → someArgument image ty (items cs cs′) ≡ someTrue bs || someTrue bs′
-  unfolding items
+      → someArgument image ty (sliceArguments cs cs′) ≡ someTrue bs || someTrue bs′
+  unfolding sliceArguments
   items-some u {cs} {cs′} {fs} {fs′} e e′ at at′ fits fits′ =
       let front = map (λ i. ProjectionElem.Index i) (upFrom 0 (length cs)) in
       let back = suffixItems (length cs′) in

@@ -20,11 +20,10 @@ use Rattle.place.specs.declared.elems.ProjectionElem.{ProjectionElem}
 use Rattle.place.specs.declared.place_ty.PlaceTy.{PlaceTy}
 use Rattle.place.specs.PlaceTypes.{Named}
 use Rattle.place.proofs.Named.{named-projection}
-use Rattle.meaning.specs.Values.{kindNumber, hasValues}
-use Rattle.meaning.specs.Typing.{TypeNumber, referent, tupleFields, variantFields, argumentsFit, elementType}
-use Rattle.meaning.specs.Fitting.{eachFits, rowFits, fieldType, byFieldsFit, itemsAllFit, typesFit, fitting, typesFit?}
-use Rattle.meaning.specs.Fit.{patCount}
-use Rattle.meaning.specs.Fits.{hasVariant, fieldsThere, ellipsisWithin, hasLocal, restTaken?, nothingRefused, noneRefused, noneReachedRefused, nothingRefused?}
+use Rattle.counting.specs.Cases.{kindNumber, referent, tupleFields}
+use Rattle.meaning.specs.Values.{hasValues, hasVariant}
+use Rattle.meaning.specs.Typing.{TypeNumber, variantFields, elementType, fieldType}
+use Rattle.meaning.specs.Fit.{argumentsFit, rowFits, byFieldsFit, itemsAllFit, typesFit, fitting, typesFit?, patCount, fieldsThere, ellipsisWithin, hasLocal, restTaken?, nothingRefused, noneRefused, noneReachedRefused, nothingRefused?, eachFits}
 use Rattle.meaning.proofs.Typed.{headOf, no-type, tuple-fits, or-fits, record-fits, slice-fits, bind-fits, tuple-struct-fits, ref-fits, struct-field, enum-choice, enum-field, deref-type, index-type, variant-fields, has-variant, struct-one}
 use Rattle.fit_reached.specs.Taking.{takenBy, allTaken, fieldsTaken, reachedTaken, takenBy?}
 use Rattle.fit_reached.proofs.OwnTypes.{only-tuple, only-reference, only-items, in-table, head-there, tuple-leads, fails}

@@ -6,7 +6,7 @@ use mathlib.Core.Option.{some}
 use mathlib.Core.List.{List}
 use Rattle.image.specs.Tree.{tree}
 use Rattle.image.specs.Valid.{valid}
-use Rattle.meaning.specs.Fits.{nothingRefused}
+use Rattle.meaning.specs.Fit.{nothingRefused}
 use Rattle.fit_reached.specs.declared.Reached.{Reached}
 use Rattle.fit_reached.specs.Failing.{failsBy}
 use Rattle.fit_reached.specs.Taking.{takenBy, FitsSomewhere}

@@ -19,10 +19,8 @@ use Rattle.image.specs.Types.{Shape, tyOf, operandOf}
 use Rattle.image.specs.Tree.{nodeBy, trees, tree?, tree, word?, operand?, target}
 use Rattle.place.proofs.Fields.{length-listed}
 use Rattle.counting.specs.Reaching.{isEnum, isSliceShape}
-use Rattle.meaning.specs.Values.{kindNumber}
-use Rattle.meaning.specs.Fit.{patCount}
-use Rattle.meaning.specs.Fitting.{isThere}
-use Rattle.meaning.specs.Fits.{hasLocal, pathTaken}
+use Rattle.counting.specs.Cases.{kindNumber}
+use Rattle.meaning.specs.Fit.{patCount, isThere, hasLocal, pathTaken}
 use Rattle.fit_types.specs.Parts.{Node}
 use Rattle.fit_types.proofs.Nodes.{headOf, node-of}
 use Rattle.fit_reached.specs.declared.Reached.{Reached}

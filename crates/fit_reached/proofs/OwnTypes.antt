@@ -18,12 +18,11 @@ use Rattle.place.specs.declared.place_ty.PlaceTy.{PlaceTy}
 use Rattle.place.specs.PlaceTypes.{projectionTy, Named}
 use Rattle.place.proofs.Named.{named-projection}
 use Rattle.pattern_matching.specs.Variants.{shapeOf}
-use Rattle.counting.specs.Reaching.{Argument, behindDerefs, inARow, byFields, fieldCount, isEnumKind, isEnum, isSliceShape, downcast, ofVariant, items, someArgument, allAlternatives, endCount, pathTests, positive, canFail, failing, canFail?}
-use Rattle.meaning.specs.Values.{kindNumber, hasValues}
-use Rattle.meaning.specs.Typing.{TypeNumber, referent, tupleFields, variantFields, elementType}
-use Rattle.meaning.specs.Fitting.{isThere, rowFits, itemsAllFit, typesFit, fitting, typesFit?}
-use Rattle.meaning.specs.Fit.{patCount}
-use Rattle.meaning.specs.Fits.{hasVariant, fieldsThere, ellipsisWithin, hasLocal, restTaken?, nothingRefused, noneRefused, noneReachedRefused, nothingRefused?}
+use Rattle.counting.specs.Reaching.{Argument, behindDerefs, inARow, byFields, fieldCount, isEnumKind, isEnum, isSliceShape, downcast, ofVariant, sliceArguments, someArgument, allAlternatives, endCount, pathTests, positive, canFail, failing, canFail?}
+use Rattle.counting.specs.Cases.{kindNumber, referent, tupleFields}
+use Rattle.meaning.specs.Values.{hasValues, hasVariant}
+use Rattle.meaning.specs.Typing.{TypeNumber, variantFields, elementType}
+use Rattle.meaning.specs.Fit.{isThere, rowFits, itemsAllFit, typesFit, fitting, typesFit?, patCount, fieldsThere, ellipsisWithin, hasLocal, restTaken?, nothingRefused, noneRefused, noneReachedRefused, nothingRefused?}
 use Rattle.meaning.proofs.Children.{record-placed}
 use Rattle.meaning.proofs.Typed.{headOf, tuple-fits, or-fits, record-fits, slice-fits, bind-fits, tuple-struct-fits, ref-fits, type-here, tuple-field, struct-field, deref-type, index-type, end-index-type, variant-fields, has-variant, struct-one}
 use Rattle.fit_reached.specs.Failing.{someTrue, pathFails, failsBy, failures, failsBy?}
@@ -168,7 +167,7 @@ module _ (image bindings : List ℕ) (valid-image : valid image ≡ true) where
   -- the items of a Slice
   inside-slice : (t : ℕ) (prefix suffix : Pats) → t < typeCount image → leb 8 (kindNumber (tyOf image t .shape)) ≡ true → Each image (failing image prefix) (fitting image prefix) (failures image prefix)
       → Each image (failing image suffix) (fitting image suffix) (failures image suffix) → itemsAllFit (fitting image prefix) (elementType (tyOf image t .shape)) ≡ true → itemsAllFit (fitting image suffix) (elementType (tyOf image t .shape)) ≡ true
-      → someArgument image (PlaceTy.Ty t) (items (failing image prefix) (failing image suffix)) ≡ someTrue (failures image prefix) || someTrue (failures image suffix)
+      → someArgument image (PlaceTy.Ty t) (sliceArguments (failing image prefix) (failing image suffix)) ≡ someTrue (failures image prefix) || someTrue (failures image suffix)
   inside-slice t prefix suffix here kind front back first last =
       let (u, s) = only-items (tyOf image t .shape) kind in
       items-some image (PlaceTy.Ty t) u front back (λ i. let q = index-type image t i s in (q, in-table (PlaceTy.Ty t) (ProjectionElem.Index i) here q))
@@ -209,7 +208,7 @@ module _ (image bindings : List ℕ) (valid-image : valid image ≡ true) where
         let shape = tyOf image (h .ty) .shape in
         let (kind, has, front, back) = four (leb 8 (kindNumber shape)) (restTaken? bindings rest) (noneRefused image bindings prefix) (noneRefused image bindings suffix) taken in
         let (_, _, _, first, last) = slice-fits image h (some t) prefix rest suffix fits in
-        ap (λ (x : PlaceTy). isSliceShape shape || someArgument image x (items (failing image prefix) (failing image suffix))) (type-here image (Pat.Slice h prefix rest suffix) t fits)
+        ap (λ (x : PlaceTy). isSliceShape shape || someArgument image x (sliceArguments (failing image prefix) (failing image suffix))) (type-here image (Pat.Slice h prefix rest suffix) t fits)
         ∙ ap (λ (b : Bool). isSliceShape shape || b) (inside-slice (h .ty) prefix suffix (head-there (Pat.Slice h prefix rest suffix) t here fits) kind (each prefix front) (each suffix back) first last)
     fails (Pat.Path h target) t here fits taken =
         ap (λ (x : PlaceTy). positive (pathTests image x target)) (type-here image (Pat.Path h target) t fits) ∙ path-fails image (h .ty) target

@@ -20,16 +20,17 @@ use Rattle.image.specs.Rows.{typeAt, patAt, listAt}
 use Rattle.image.specs.Rules.{absent, listed}
 use Rattle.image.specs.Patterns.{patternShapeHolds}
 use Rattle.image.specs.Types.{Shape, integer, bool, char, str, tuple, adt, reference, array, slice, unknown, tyOf}
-use Rattle.image.specs.Tree.{Head, Pat, nodeBy, tree?, tree, word?}
+use Rattle.image.specs.Tree.{Head, Pat, sub, nodeBy, tree?, tree, word?}
 use Rattle.image.specs.Valid.{valid}
 use Rattle.image.proofs.Bools.{and-left}
 use Rattle.image.proofs.Known.{pattern-holds}
 use Rattle.marks.proofs.Takes.{listed-next, listed-none}
 use Rattle.marks.proofs.Shapes.{pattern-shape}
 use Rattle.place.proofs.Fields.{length-listed}
-use Rattle.meaning.specs.Values.{kindNumber, hasValues}
-use Rattle.meaning.specs.Typing.{variantsOf}
-use Rattle.meaning.specs.Fits.{hasVariant, fieldsThere, ellipsisWithin, hasLocal, restTaken, restTaken?}
+use Rattle.counting.specs.Cases.{kindNumber}
+use Rattle.meaning.specs.Values.{hasValues, hasVariant}
+use Rattle.meaning.specs.Typing.{adtVariants}
+use Rattle.meaning.specs.Fit.{fieldsThere, ellipsisWithin, hasLocal, restTaken?}
 use Rattle.fit_literals.proofs.Shapes.{kind-of}
 use Rattle.fit_types.specs.declared.fields.Fields.{Fields}
 use Rattle.fit_types.specs.Numbers.{FieldsOf}
@@ -64,8 +65,8 @@ module _ (image : List ℕ) (t : ℕ) {row : TypeRow} (at : row ≡ typeAt image
   values-by is told e = e ∙ rw (adt-of image t at is, told)
 
 -- a variant, in two parts
-variant-parts : (s : Shape) (v : ℕ) → hasVariant s (some v) ≡ valued s && member v (variantsOf s)
-unfolding hasVariant valued variantsOf
+variant-parts : (s : Shape) (v : ℕ) → hasVariant s (some v) ≡ valued s && member v (adtVariants s)
+unfolding hasVariant valued adtVariants
 variant-parts (integer size signed) v = refl
 variant-parts bool v = refl
 variant-parts char v = refl
@@ -96,7 +97,7 @@ module _ (s : Shape) (v : ℕ) where
     pub not-valued : r ≡ false → false ≡ hasVariant s (some v)
     not-valued e = sym (variant-parts s v ∙ rw (sym values ∙ e))
 
-    pub is-valued : r ≡ true → {b : Bool} → b ≡ member v (variantsOf s) → b ≡ hasVariant s (some v)
+    pub is-valued : r ≡ true → {b : Bool} → b ≡ member v (adtVariants s) → b ≡ hasVariant s (some v)
     is-valued e h = h ∙ sym (variant-parts s v ∙ rw (sym values ∙ e))
 
   -- `variant_taken`
@@ -147,8 +148,8 @@ pub local-read : (bindings : List ℕ) (b : ℕ) → b < length bindings → not
 local-read bindings b h = ap (λ (l : ℕ). not (eqb l 65535)) (read-within bindings b 0 65535 h)
 
 -- the kind of a rest says whether its binding has a local
-rest-node : (bindings : List ℕ) (k : PatKind) (g : ℕ → Pat) (image : List ℕ) (h : Head) (row : PatRow) → restKindTaken bindings k (row .a) ≡ restTaken bindings (nodeBy k g image h row)
-unfolding nodeBy restTaken
+rest-node : (bindings : List ℕ) (k : PatKind) (g : ℕ → Pat) (image : List ℕ) (h : Head) (row : PatRow) → restKindTaken bindings k (row .a) ≡ restTaken? bindings (sub (nodeBy k g image h row))
+unfolding nodeBy
 rest-node bindings PatKind.Missing g image h row = refl
 rest-node bindings PatKind.Rest g image h row = refl
 rest-node bindings PatKind.NotNull g image h row = refl

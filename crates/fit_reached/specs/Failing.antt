@@ -8,7 +8,7 @@ use Rattle.image.specs.Lists.{allTrue}
 use Rattle.image.specs.Types.{Shape, tyOf}
 use Rattle.image.specs.Tree.{Target, unresolved, variant, local, constant, other, Pat, Pats, nil, cons, PatOpt, no, sub}
 use Rattle.counting.specs.Reaching.{isEnum, isSliceShape}
-use Rattle.meaning.specs.Fitting.{isThere}
+use Rattle.meaning.specs.Fit.{isThere}
 
 -- one of them is true
 unfoldable pub someTrue : List Bool → Bool

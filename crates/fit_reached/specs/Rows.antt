@@ -16,10 +16,10 @@ use Rattle.image.specs.Rules.{listed}
 use Rattle.image.specs.Types.{Shape, integer, bool, char, str, tuple, adt, reference, array, slice, unknown, tyOf}
 use Rattle.image.specs.Tree.{trees, tree?, tree, word?, operand?, target}
 use Rattle.counting.specs.Reaching.{isEnum, isSliceShape}
-use Rattle.meaning.specs.Values.{kindNumber, hasValues}
+use Rattle.counting.specs.Cases.{kindNumber}
+use Rattle.meaning.specs.Values.{hasValues, hasVariant}
 use Rattle.meaning.specs.Typing.{variantFields}
-use Rattle.meaning.specs.Fitting.{isThere}
-use Rattle.meaning.specs.Fits.{hasVariant, fieldsThere, ellipsisWithin, hasLocal, pathTaken, restTaken?}
+use Rattle.meaning.specs.Fit.{isThere, fieldsThere, ellipsisWithin, hasLocal, pathTaken, restTaken?}
 use Rattle.fit_types.specs.Parts.{Node}
 use Rattle.fit_reached.specs.declared.Reached.{Reached}
 use Rattle.fit_reached.specs.Failing.{someTrue, failures}

@@ -9,11 +9,10 @@ use lib.ListN.{length}
 use Rattle.image.specs.Tables.{typeCount}
 use Rattle.image.specs.Types.{tyOf}
 use Rattle.image.specs.Tree.{Pat, Pats, nil, cons, PatOpt, no, sub, tree}
-use Rattle.meaning.specs.Values.{kindNumber}
+use Rattle.counting.specs.Cases.{kindNumber}
+use Rattle.meaning.specs.Values.{hasVariant}
 use Rattle.meaning.specs.Typing.{variantFields}
-use Rattle.meaning.specs.Fitting.{typesFit}
-use Rattle.meaning.specs.Fit.{patCount}
-use Rattle.meaning.specs.Fits.{hasVariant, fieldsThere, ellipsisWithin, hasLocal, pathTaken, restTaken?, nothingRefused}
+use Rattle.meaning.specs.Fit.{typesFit, patCount, fieldsThere, ellipsisWithin, hasLocal, pathTaken, restTaken?, nothingRefused}
 use Rattle.fit_reached.specs.Failing.{failsBy}
 
 module _ (image bindings : List ℕ) where

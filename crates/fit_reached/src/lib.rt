@@ -13,7 +13,7 @@ ghost use lib.ListN.{length};
 ghost use Rattle.image.specs.Tables.{Whole, patternCount, bindingCount};
 ghost use Rattle.image.specs.Tree.{tree};
 ghost use Rattle.image.specs.Valid.{valid};
-ghost use Rattle.meaning.specs.Fits.{nothingRefused};
+ghost use Rattle.meaning.specs.Fit.{nothingRefused};
 ghost use Rattle.fit_reached.specs.Taking.{FitsSomewhere};
 
 // What is found where patterns are reached: one is refused, or none is, and they cannot fail, or can.

@@ -23,8 +23,9 @@ ghost use Rattle.image.specs.Types.{tyOf};
 ghost use Rattle.image.specs.Tree.{tree, tree?, word?, target};
 ghost use Rattle.image.specs.Valid.{valid};
 ghost use Rattle.counting.specs.Reaching.{isEnum, isEnumKind};
-ghost use Rattle.meaning.specs.Values.{kindNumber, hasValues};
-ghost use Rattle.meaning.specs.Fits.{hasVariant, fieldsThere, ellipsisWithin, hasLocal, pathTaken, restTaken?};
+ghost use Rattle.counting.specs.Cases.{kindNumber};
+ghost use Rattle.meaning.specs.Values.{hasValues, hasVariant};
+ghost use Rattle.meaning.specs.Fit.{fieldsThere, ellipsisWithin, hasLocal, pathTaken, restTaken?};
 ghost use Rattle.fit_types.specs.Slices.{patternOrAbsent};
 ghost use Rattle.fit_reached.specs.Rows.{valued, pathKindFails, restKindTaken, RestNamed};
 

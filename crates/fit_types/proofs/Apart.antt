@@ -24,7 +24,7 @@ use Rattle.image.specs.Valid.{valid}
 use Rattle.image.proofs.Bools.{and-right}
 use Rattle.image.proofs.Known.{variant-holds}
 use Rattle.marks.proofs.Takes.{up-from-next, up-from-none}
-use Rattle.meaning.specs.Typing.{discriminantsDiffer}
+use Rattle.meaning.specs.Fit.{discriminantsDiffer}
 use Rattle.meaning.proofs.Cutting.{little-split}
 use Rattle.fit_types.specs.declared.discriminants.Discriminant.{Discriminant}
 use Rattle.fit_types.specs.Discriminants.{discriminantNumber, discriminants}

@@ -22,8 +22,9 @@ use Rattle.image.proofs.Known.{variant-holds}
 use Rattle.marks.proofs.Takes.{listed-next, listed-none}
 use Rattle.place.proofs.Fields.{length-listed, listed-at}
 use Rattle.place.proofs.Ranges.{before-range, past-range, in-range}
-use Rattle.meaning.specs.Typing.{tupleFields, variantsOf, variantFields, fieldNumbers}
-use Rattle.meaning.specs.Fitting.{fieldType}
+use Rattle.counting.specs.Cases.{tupleFields}
+use Rattle.meaning.specs.Typing.{adtVariants, variantFields, fieldType}
+use Rattle.meaning.specs.Fit.{fieldNumbers}
 use Rattle.fit_types.specs.declared.TypeNumber.{TypeNumber}
 use Rattle.fit_types.specs.Numbers.{Numbers, TypesAt, FieldsOf, standsAgain}
 use Rattle.fit_types.proofs.Shaped.{tuple-of, adt-of, no-fields, no-variants, tuple-listed}
@@ -69,19 +70,19 @@ module _ (image : List ℕ) where
     tuple-here e = fields-of-some (row .a) (row .b) (ap tupleFields (tuple-of image t at e)) (tuple-listed image t at holds inside e)
 
     -- `has_variant`
-    pub variant-other : (v : ℕ) → (row .kind ≡ 6 → ⊥) → false ≡ member v (variantsOf (tyOf image t .shape))
+    pub variant-other : (v : ℕ) → (row .kind ≡ 6 → ⊥) → false ≡ member v (adtVariants (tyOf image t .shape))
     unfolding member
     variant-other v h = rw (no-variants image t at holds inside h)
 
   module _ (t v : ℕ) {row : TypeRow} (at : row ≡ typeAt image t) (adt : row .kind ≡ 6) where
-    variants-are : variantsOf (tyOf image t .shape) ≡ upFrom (row .a) (row .b)
-    unfolding variantsOf
-    variants-are = ap variantsOf (adt-of image t at adt)
+    variants-are : adtVariants (tyOf image t .shape) ≡ upFrom (row .a) (row .b)
+    unfolding adtVariants
+    variants-are = ap adtVariants (adt-of image t at adt)
 
-    pub variant-before : v < row .a → false ≡ member v (variantsOf (tyOf image t .shape))
+    pub variant-before : v < row .a → false ≡ member v (adtVariants (tyOf image t .shape))
     variant-before h = rw variants-are (sym (before-range v (row .a) (row .b) h))
 
-    pub variant-within : row .a ≤ v → ltb (v - row .a) (row .b) ≡ member v (variantsOf (tyOf image t .shape))
+    pub variant-within : row .a ≤ v → ltb (v - row .a) (row .b) ≡ member v (adtVariants (tyOf image t .shape))
     variant-within h = rw variants-are (go (ltb (v - row .a) (row .b)) refl)
       where
         go : (b : Bool) → ltb (v - row .a) (row .b) ≡ b → b ≡ member v (upFrom (row .a) (row .b))
@@ -98,11 +99,11 @@ module _ (image : List ℕ) where
     unfolding variantFields
     variant-absent e = fields-of-none (rw (word-absent v e))
 
-    pub variant-foreign : (v ≡ absent → ⊥) → {r : Bool} → r ≡ member v (variantsOf shape) → r ≡ false → FieldsOf image (record { from = 0; count = 0 }) (variantFields image shape (word? v))
+    pub variant-foreign : (v ≡ absent → ⊥) → {r : Bool} → r ≡ member v (adtVariants shape) → r ≡ false → FieldsOf image (record { from = 0; count = 0 }) (variantFields image shape (word? v))
     unfolding variantFields
     variant-foreign h has e = fields-of-none (rw (word-there v h, sym has ∙ e))
 
-    pub variant-own : (v ≡ absent → ⊥) → {r : Bool} → r ≡ member v (variantsOf shape) → r ≡ true → {row : VariantRow} → row ≡ variantAt image v → valid image ≡ true → v < variantCount image
+    pub variant-own : (v ≡ absent → ⊥) → {r : Bool} → r ≡ member v (adtVariants shape) → r ≡ true → {row : VariantRow} → row ≡ variantAt image v → valid image ≡ true → v < variantCount image
         → FieldsOf image (record { from = row .fields; count = row .count }) (variantFields image shape (word? v))
     unfolding variantFields variantOf variantHolds
     variant-own h has e {row} at holds inside =

@@ -19,7 +19,7 @@ use Rattle.image.specs.Types.{tyOf}
 use Rattle.image.specs.Tree.{Head, Pat, no, sub, tree?, nodeBy, tree}
 use Rattle.image.specs.Valid.{valid}
 use Rattle.image.proofs.Bools.{and-left}
-use Rattle.meaning.specs.Typing.{itemsFit, isRest, isRest?, restFits}
+use Rattle.meaning.specs.Fit.{itemsFit, isRest, isRest?, restFits}
 use Rattle.fit_types.specs.Slices.{patternOrAbsent, restKind}
 use Rattle.fit_types.proofs.Shaped.{array-of}
 use Rattle.fit_types.proofs.Nodes.{headOf, node-of, subs-below}

@@ -15,8 +15,8 @@ use Rattle.image.specs.Rules.{absent, namesType, listed}
 use Rattle.image.specs.Tree.{trees, tree, word?}
 use Rattle.image.proofs.Bools.{and-left, and-right, and-true}
 use Rattle.place.proofs.Fields.{length-listed}
-use Rattle.meaning.specs.Typing.{TypeNumber, argumentsFit}
-use Rattle.meaning.specs.Fitting.{eachFits, rowFits, typesFit, fitting}
+use Rattle.meaning.specs.Typing.{TypeNumber}
+use Rattle.meaning.specs.Fit.{argumentsFit, rowFits, typesFit, fitting, eachFits}
 use Rattle.fit_types.specs.Numbers.{TypesAt}
 use Rattle.fit_types.specs.Parts.{fittingAt, Items, Pairs}
 use Rattle.fit_types.proofs.Fielding.{word-absent, word-there}

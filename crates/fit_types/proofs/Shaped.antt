@@ -17,8 +17,9 @@ use Rattle.image.specs.Types.{Shape, integer, bool, char, str, tuple, adt, refe
 use Rattle.image.specs.Tree.{PatOpt}
 use Rattle.image.specs.Valid.{valid}
 use Rattle.image.proofs.Bools.{and-left}
-use Rattle.meaning.specs.Values.{kindNumber}
-use Rattle.meaning.specs.Typing.{referent, tupleFields, variantsOf, discriminantsDiffer, itemsFit, elementType}
+use Rattle.counting.specs.Cases.{kindNumber, referent, tupleFields}
+use Rattle.meaning.specs.Typing.{adtVariants, elementType}
+use Rattle.meaning.specs.Fit.{discriminantsDiffer, itemsFit}
 use Rattle.fit_literals.proofs.Shapes.{shape-of, holds-of, kind-of}
 
 referent-none : (s : Shape) → (kindNumber s ≡ 7 → ⊥) → referent s ≡ none
@@ -60,8 +61,8 @@ fields-none (array t n) h = refl
 fields-none (slice t) h = refl
 fields-none unknown h = refl
 
-variants-none : (s : Shape) → (kindNumber s ≡ 6 → ⊥) → variantsOf s ≡ []
-unfolding kindNumber variantsOf
+variants-none : (s : Shape) → (kindNumber s ≡ 6 → ⊥) → adtVariants s ≡ []
+unfolding kindNumber adtVariants
 variants-none (integer size signed) h = refl
 variants-none bool h = refl
 variants-none char h = refl
@@ -137,7 +138,7 @@ module _ (image : List ℕ) (t : ℕ) {row : TypeRow} (at : row ≡ typeAt image
     pub no-fields : (row .kind ≡ 5 → ⊥) → tupleFields shape ≡ []
     no-fields h = fields-none shape (other h)
 
-    pub no-variants : (row .kind ≡ 6 → ⊥) → variantsOf shape ≡ []
+    pub no-variants : (row .kind ≡ 6 → ⊥) → adtVariants shape ≡ []
     no-variants h = variants-none shape (other h)
 
     pub no-enum : (row .kind ≡ 6 → ⊥) → discriminantsDiffer image shape ≡ true

@@ -7,7 +7,7 @@ use mathlib.Core.List.{List}
 use Rattle.image.specs.Tables.{listCount}
 use Rattle.image.specs.Lists.{allIn, member}
 use Rattle.image.specs.Rules.{namesType, listed}
-use Rattle.meaning.specs.Typing.{fieldNumbers}
+use Rattle.meaning.specs.Fit.{fieldNumbers}
 use Rattle.fit_types.specs.declared.TypeNumber.{TypeNumber}
 use Rattle.fit_types.specs.declared.fields.Fields.{Fields}
 

@@ -16,8 +16,9 @@ use Rattle.image.specs.Rules.{listed}
 use Rattle.image.specs.Types.{tyOf, operandOf}
 use Rattle.image.specs.Tree.{trees, tree?, tree, word?, operand?, target}
 use Rattle.image.specs.Valid.{valid}
-use Rattle.meaning.specs.Typing.{TypeNumber, referent, tupleFields, variantFields, recordFieldsDiffer, discriminantsDiffer, itemsFit, elementType, restFits}
-use Rattle.meaning.specs.Fitting.{literalFits, endFits?, isThere, pathFits, rowFits, byFieldsFit, itemsAllFit, typesFit, typesFit?, fitting}
+use Rattle.counting.specs.Cases.{referent, tupleFields}
+use Rattle.meaning.specs.Typing.{TypeNumber, variantFields, elementType}
+use Rattle.meaning.specs.Fit.{recordFieldsDiffer, discriminantsDiffer, itemsFit, restFits, literalFits, endFits?, isThere, pathFits, rowFits, byFieldsFit, itemsAllFit, typesFit, typesFit?, fitting}
 
 -- the tests of the patterns that the list names from `at` on
 unfoldable pub fittingAt : List ℕ → ℕ → ℕ → ℕ → List (TypeNumber → Bool)

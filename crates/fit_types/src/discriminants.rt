@@ -13,7 +13,7 @@ ghost use Rattle.image.specs.Tables.{Whole, typeCount, variantCount};
 ghost use Rattle.image.specs.Lists.{member, distinct};
 ghost use Rattle.image.specs.Types.{tyOf, variantOf};
 ghost use Rattle.image.specs.Valid.{valid};
-ghost use Rattle.meaning.specs.Typing.{discriminantsDiffer};
+ghost use Rattle.meaning.specs.Fit.{discriminantsDiffer};
 ghost use Rattle.fit_types.specs.Discriminants.{discriminantNumber, discriminants};
 
 // A discriminant, as two halves.

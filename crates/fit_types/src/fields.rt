@@ -15,8 +15,9 @@ ghost use Rattle.image.specs.Patterns.{variantOrAbsent};
 ghost use Rattle.image.specs.Tree.{word?};
 ghost use Rattle.image.specs.Types.{tyOf};
 ghost use Rattle.image.specs.Valid.{valid};
-ghost use Rattle.meaning.specs.Typing.{tupleFields, variantsOf, variantFields, recordFieldsDiffer};
-ghost use Rattle.meaning.specs.Fitting.{fieldType};
+ghost use Rattle.counting.specs.Cases.{tupleFields};
+ghost use Rattle.meaning.specs.Typing.{adtVariants, variantFields, fieldType};
+ghost use Rattle.meaning.specs.Fit.{recordFieldsDiffer};
 ghost use Rattle.fit_types.specs.Numbers.{Numbers, TypesAt, FieldsOf, standsAgain};
 
 // Where the types of fields stand in the list.
@@ -43,7 +44,7 @@ pub fn tuple_fields(image: &[u8], tables: Tables, t: u16) -> Fields
 // The ADT t has the variant v.
 pub fn has_variant(image: &[u8], tables: Tables, t: u16, v: u16) -> bool
     requires { ⌜ (valid (now image) ≡ true) × Whole (now image) tables × (t < typeCount (now image)) ⌝ }
-    ensures { λ r. ⌜ r ≡ member v (variantsOf (tyOf (now (image .entry)) t .shape)) ⌝ }
+    ensures { λ r. ⌜ r ≡ member v (adtVariants (tyOf (now (image .entry)) t .shape)) ⌝ }
 {
     let row = type_at(image, tables, t);
     if row.kind != 6 {

@@ -11,7 +11,7 @@ ghost use Rattle.image.specs.Patterns.{pathHolds};
 ghost use Rattle.image.specs.Types.{tyOf};
 ghost use Rattle.image.specs.Tree.{target};
 ghost use Rattle.image.specs.Valid.{valid};
-ghost use Rattle.meaning.specs.Fitting.{pathFits};
+ghost use Rattle.meaning.specs.Fit.{pathFits};
 
 // A path of a kind, at the type t: a variant's enum, or a constant's bytes.
 pub fn path_fits(image: &[u8], tables: Tables, t: u16, kind: PathKind, b: u16) -> bool

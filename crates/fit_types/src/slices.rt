@@ -12,7 +12,7 @@ ghost use Rattle.image.specs.Tables.{Whole, typeCount};
 ghost use Rattle.image.specs.Types.{tyOf};
 ghost use Rattle.image.specs.Tree.{tree, tree?};
 ghost use Rattle.image.specs.Valid.{valid};
-ghost use Rattle.meaning.specs.Typing.{itemsFit, isRest?, restFits};
+ghost use Rattle.meaning.specs.Fit.{itemsFit, isRest?, restFits};
 ghost use Rattle.fit_types.specs.Slices.{restKind, patternOrAbsent};
 
 // The items of a slice pattern of the type t: as many as an array has, or no more where there is a rest.

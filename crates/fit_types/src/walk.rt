@@ -33,7 +33,7 @@ ghost use Rattle.image.specs.Rules.{listed};
 ghost use Rattle.image.specs.Subpatterns.{ifPresent};
 ghost use Rattle.image.specs.Tree.{tree, tree?, word?};
 ghost use Rattle.image.specs.Valid.{valid};
-ghost use Rattle.meaning.specs.Fitting.{typesFit, typesFit?, eachFits, rowFits, byFieldsFit, itemsAllFit};
+ghost use Rattle.meaning.specs.Fit.{typesFit, typesFit?, rowFits, byFieldsFit, itemsAllFit, eachFits};
 ghost use Rattle.fit_types.specs.Numbers.{typeNumber, namesType?, TypesAt};
 ghost use Rattle.fit_types.specs.Parts.{fittingAt, partsFit, Parent, Node, Items, Pairs};
 

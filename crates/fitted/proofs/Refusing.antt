@@ -33,11 +33,10 @@ use Rattle.counting.proofs.Holding.{holds-as}
 use Rattle.counting.proofs.Passing.{checks, binds}
 use Rattle.counting.proofs.Typed.{On}
 use Rattle.counting.proofs.Trees.{counts}
-use Rattle.meaning.specs.Values.{kindNumber}
-use Rattle.meaning.specs.Typing.{referent, tupleFields, variantFields}
-use Rattle.meaning.specs.Fitting.{pathFits, rowFits, itemsAllFit, typesFit, fitting, typesFit?}
-use Rattle.meaning.specs.Fit.{patCount, bindingsFit}
-use Rattle.meaning.specs.Fits.{fits, localsDiffer, hasVariant, fieldsThere, ellipsisWithin, hasLocal, pathTaken, restTaken, restTaken?, nothingRefused, noneRefused, noneReachedRefused, nothingRefused?}
+use Rattle.counting.specs.Cases.{kindNumber, referent, tupleFields}
+use Rattle.meaning.specs.Values.{hasVariant}
+use Rattle.meaning.specs.Typing.{variantFields}
+use Rattle.meaning.specs.Fit.{pathFits, rowFits, itemsAllFit, typesFit, fitting, typesFit?, patCount, bindingsFit, fits, localsDiffer, fieldsThere, ellipsisWithin, hasLocal, pathTaken, restTaken?, nothingRefused, noneRefused, noneReachedRefused, nothingRefused?}
 use Rattle.meaning.proofs.Typed.{headOf, tuple-fits, or-fits, record-fits, range-fits, slice-fits, path-fits, lit-fits, bind-fits, tuple-struct-fits, ref-fits, type-here, variant-fields, has-variant}
 use Rattle.meaning.proofs.Children.{lowerings-count}
 use Rattle.fitted.proofs.Stopping.{OnlyLimits, limit-numbers, Fine}
@@ -77,7 +76,7 @@ only-reference unknown e = absurd (false≢true e)
 
 -- a rest that is taken binds a binding that has a local, or none
 rest-has : (bindings : List ℕ) (rest : PatOpt) → restTaken? bindings rest ≡ true → RestHas bindings (restOf rest)
-unfolding restOf restBy restTaken
+unfolding restOf restBy
 rest-has bindings no e = tt
 rest-has bindings (sub (Pat.Missing h)) e = tt
 rest-has bindings (sub (Pat.Rest h)) e = tt

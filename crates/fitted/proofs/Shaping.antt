@@ -24,11 +24,11 @@ use Rattle.pattern_matching.specs.Variants.{patternMatchAdt, fieldsUpTo, patter
 use Rattle.pattern_matching.specs.Slices.{RestOf, lengthTest, restBound, sliceItems, sliceOn, suffixItems}
 use Rattle.pattern_matching.specs.Patterns.{bindPattern}
 use Rattle.counting.proofs.Passing.{modeOf}
-use Rattle.meaning.specs.Values.{kindNumber, hasValues}
+use Rattle.counting.specs.Cases.{kindNumber}
+use Rattle.meaning.specs.Values.{hasValues}
 use Rattle.meaning.specs.Matching.{recordFields as fieldElems}
 use Rattle.meaning.specs.Typing.{TypeNumber, elementType}
-use Rattle.meaning.specs.Fitting.{rowFits, byFieldsFit, itemsAllFit}
-use Rattle.meaning.specs.Fits.{fieldsThere, ellipsisWithin, hasLocal}
+use Rattle.meaning.specs.Fit.{rowFits, byFieldsFit, itemsAllFit, fieldsThere, ellipsisWithin, hasLocal}
 use Rattle.meaning.proofs.Typed.{tuple-field, struct-field, enum-choice, enum-field, deref-type, index-type, end-index-type, struct-one}
 use Rattle.meaning.proofs.Children.{Placed, ellipsisPlace, row-placed, record-placed, items-placed, fields-resolved}
 use Rattle.fitted.proofs.Stopping.{fine-ok, fine-step}

@@ -34,9 +34,8 @@ use Rattle.pattern_matching.specs.Variants.{discriminantTest}
 use Rattle.pattern_matching.specs.Slices.{RestOf, lengthCompared, lengthTest}
 use Rattle.pattern_matching.specs.Patterns.{endOp, rangePattern}
 use Rattle.place.specs.declared.place_ty.PlaceTy.{PlaceTy}
-use Rattle.meaning.specs.Typing.{integerFits}
-use Rattle.meaning.specs.Fitting.{constantFits, literalFits, endFits, endFits?}
-use Rattle.meaning.specs.Fits.{hasLocal}
+use Rattle.meaning.specs.Values.{intFits}
+use Rattle.meaning.specs.Fit.{integerFits, constantFits, literalFits, endFits, endFits?, hasLocal}
 use Rattle.fitted.proofs.Stopping.{Fine, Fair, fine-ok, fair-done, fine-step}
 use Rattle.fitted.proofs.Building.{Kept, kept-on, kept-terminator, fair-block, fair-statement, fair-live, fair-temp, no-slice, fair-else}
 use Rattle.fitted.proofs.Walks.{Stays, Good, fine-out, fine-walk, fine-check}
@@ -46,18 +45,18 @@ abbrev Any : {A : Type 0} → A → Type 0
 Any a = Unit {0}
 
 -- an integer literal at an integer type is taken
-fair-integer : (s : Shape) (t : ℕ) (negative : Bool) (bytes : List ℕ) → integerFits s negative bytes ≡ true → Fair Any (integerConstant s t bytes)
-unfolding integerFits integerConstant
-fair-integer (integer size signed) t negative bytes e = fair-done Any _ tt
-fair-integer bool t negative bytes e = absurd (false≢true e)
-fair-integer char t negative bytes e = absurd (false≢true e)
-fair-integer str t negative bytes e = absurd (false≢true e)
-fair-integer (tuple fields) t negative bytes e = absurd (false≢true e)
-fair-integer (adt kind variants) t negative bytes e = absurd (false≢true e)
-fair-integer (reference u) t negative bytes e = absurd (false≢true e)
-fair-integer (array u n) t negative bytes e = absurd (false≢true e)
-fair-integer (slice u) t negative bytes e = absurd (false≢true e)
-fair-integer unknown t negative bytes e = absurd (false≢true e)
+fair-integer : (s : Shape) (t : ℕ) (asSigned : Bool) (bytes : List ℕ) → integerFits s asSigned bytes ≡ true → Fair Any (integerConstant s t bytes)
+unfolding integerFits integerConstant intFits
+fair-integer (integer size signed) t asSigned bytes e = fair-done Any _ tt
+fair-integer bool t asSigned bytes e = absurd (false≢true e)
+fair-integer char t asSigned bytes e = absurd (false≢true e)
+fair-integer str t asSigned bytes e = absurd (false≢true e)
+fair-integer (tuple fields) t asSigned bytes e = absurd (false≢true e)
+fair-integer (adt kind variants) t asSigned bytes e = absurd (false≢true e)
+fair-integer (reference u) t asSigned bytes e = absurd (false≢true e)
+fair-integer (array u n) t asSigned bytes e = absurd (false≢true e)
+fair-integer (slice u) t asSigned bytes e = absurd (false≢true e)
+fair-integer unknown t asSigned bytes e = absurd (false≢true e)
 
 -- a literal that fits is taken
 fair-literal : (kind : OperandKind) (image : List ℕ) (t offset : ℕ) (bytes : List ℕ) → literalFits kind image (tyOf image t .shape) bytes ≡ true → Fair Any (literalBy kind image t offset bytes)

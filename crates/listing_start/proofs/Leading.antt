@@ -16,7 +16,9 @@ use Rattle.image.specs.Rules.{typeShapeHolds}
 use Rattle.image.specs.Types.{shapeBy, tyOf}
 use Rattle.image.specs.Valid.{valid}
 use Rattle.image.proofs.Known.{shape-holds}
-use Rattle.meaning.specs.Typing.{TypeNumber, referent, behind, isType}
+use Rattle.counting.specs.Cases.{referent}
+use Rattle.meaning.specs.Typing.{TypeNumber}
+use Rattle.meaning.specs.Fit.{behind, isType}
 use Rattle.meaning.proofs.Crossing.{behind-none}
 use Rattle.listing_start.specs.Started.{lastPattern, lowestType, startType}
 

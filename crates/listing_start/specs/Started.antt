@@ -10,7 +10,7 @@ use Rattle.image.specs.Rows.{patAt}
 use Rattle.image.specs.Lists.{upFrom}
 use Rattle.image.specs.Types.{bindingOf}
 use Rattle.state.specs.State.{State}
-use Rattle.meaning.specs.Typing.{behind, isType}
+use Rattle.meaning.specs.Fit.{behind, isType}
 
 -- the number of the last pattern
 abbrev pub lastPattern : List ℕ → ℕ

@@ -19,7 +19,7 @@ ghost use Rattle.image.specs.Lists.{upFrom};
 ghost use Rattle.image.specs.Valid.{valid};
 ghost use Rattle.state.specs.State.{body, encode, countsOf};
 ghost use Rattle.pattern_matching.specs.Walking.{localPlace};
-ghost use Rattle.meaning.specs.Typing.{behind, isType};
+ghost use Rattle.meaning.specs.Fit.{behind, isType};
 ghost use Rattle.listing_start.specs.Started.{startType, startState};
 ghost use Rattle.listing_start.specs.Sizes.{TablesSized, startTypeOf, IsType, localsFilled};
 

@@ -1,31 +1,32 @@
 -- What `read` gives, in plain terms: a part of the value handed in where the place lies behind the one handed in, and everywhere else what the locals hold.
 -- Assumes nothing.
 use Prim.Native.Nat.{ℕ}
-use mathlib.Core.Path.{_≡_, refl, sym, ap₂, _∙_}
+use mathlib.Core.Path.{_≡_, refl, sym, ap, ap₂, _∙_}
 use mathlib.Core.Logic.{_↔_}
-use mathlib.Core.Bool.{Bool, true, false, cond, _&&_}
+use mathlib.Core.Bool.{Bool, true, false, cond}
 use mathlib.Core.Option.{Option, none, some}
 use mathlib.Core.List.{List, [], _∷_, _++_}
 use native.Mathlib.Omega.{arith}
 use borrow.Author.Tests.{eqb-true}
 use lib.Dec.{eqb}
 use lib.ListN.{getD}
-use Rattle.image.proofs.Bools.{and-left, and-right}
 use Rattle.place.specs.declared.elems.ProjectionElem.{ProjectionElem}
 use Rattle.views.specs.Views.{Path}
 use Rattle.meaning.specs.Values.{Value, placeIn}
-use Rattle.meaning.specs.Running.{Env, valueOf, Scene, elemKind, elemFirst, elemSecond, sameElem, behindRoot, partBehind, read}
+use Rattle.meaning.specs.Running.{Env, valueOf, sameNumbers, Scene, elemNumbers, sameElem, behindRoot, partBehind, read}
+use Rattle.meaning.proofs.Numbers.{numbers-meet}
 use Rattle.meaning.proofs.Crossing.{below, elem-same}
 
--- the element of three numbers
-abbrev elemBy : ℕ → ℕ → ℕ → ProjectionElem
-elemBy kind a b =
+-- the element of such numbers
+abbrev elemBy : List ℕ → ProjectionElem
+elemBy ns =
     getD
-    (ProjectionElem.Deref ∷ ProjectionElem.Field a ∷ ProjectionElem.Index a ∷ ProjectionElem.IndexFromEnd a ∷ ProjectionElem.Subslice a b ∷ ProjectionElem.Downcast a ∷ [])
-    kind ProjectionElem.Unknown
+    (ProjectionElem.Deref ∷ ProjectionElem.Field (getD ns 1 0) ∷ ProjectionElem.Index (getD ns 1 0) ∷ ProjectionElem.IndexFromEnd (getD ns 1 0)
+    ∷ ProjectionElem.Subslice (getD ns 1 0) (getD ns 2 0) ∷ ProjectionElem.Downcast (getD ns 1 0) ∷ [])
+    (getD ns 0 0) ProjectionElem.Unknown
 
-numbers-tell : (e : ProjectionElem) → elemBy (elemKind e) (elemFirst e) (elemSecond e) ≡ e
-unfolding elemKind elemFirst elemSecond
+numbers-tell : (e : ProjectionElem) → elemBy (elemNumbers e) ≡ e
+unfolding elemNumbers
 numbers-tell ProjectionElem.Deref = refl
 numbers-tell (ProjectionElem.Field i) = refl
 numbers-tell (ProjectionElem.Index i) = refl
@@ -36,15 +37,7 @@ numbers-tell ProjectionElem.Unknown = refl
 
 elems-meet : (e f : ProjectionElem) → sameElem e f ≡ true → e ≡ f
 unfolding sameElem
-elems-meet e f h =
-    let kind = eqb (elemKind e) (elemKind f) in
-    let first = eqb (elemFirst e) (elemFirst f) in
-    let second = eqb (elemSecond e) (elemSecond f) in
-    let two = and-left (kind && first) second h in
-    let k = eqb-true (elemKind e) (elemKind f) (and-left kind first two) in
-    let a = eqb-true (elemFirst e) (elemFirst f) (and-right kind first two) in
-    let b = eqb-true (elemSecond e) (elemSecond f) (and-right (kind && first) second h) in
-    sym (numbers-tell e) ∙ rw (k, a, b) (numbers-tell f)
+elems-meet e f h = sym (numbers-tell e) ∙ ap elemBy (numbers-meet (elemNumbers e) (elemNumbers f) h) ∙ numbers-tell f
 
 -- elements are the same exactly when they are equal
 pub elems-same-exactly-when-equal : (e f : ProjectionElem) → sameElem e f ≡ true ↔ e ≡ f
@@ -83,5 +76,5 @@ read-elsewhere scene env path apart = by (eqb (path .local) (scene .root .local)
 pub another-field : (image : List ℕ) (v : Value) (env : Env) →
     read (record { image = image; root = record { local = 0; elems = ProjectionElem.Field 1 ∷ [] }; here = v }) env (record { local = 0; elems = ProjectionElem.Field 0 ∷ [] })
     ≡ placeIn (ProjectionElem.Field 0 ∷ []) (valueOf (env 0))
-unfolding read partBehind behindRoot sameElem elemKind elemFirst elemSecond
+unfolding read partBehind behindRoot sameElem elemNumbers sameNumbers
 another-field image v env = refl

@@ -22,13 +22,11 @@ use Rattle.place.specs.PlaceTypes.{projectionTy}
 use Rattle.pattern_matching.specs.Variants.{fieldsUpTo, resolved}
 use Rattle.pattern_matching.specs.Patterns.{lowerings}
 use Rattle.counting.specs.Reaching.{failing}
-use Rattle.meaning.specs.Values.{Value, Values, Variant, nothing, items, derefed, partsOf, partAt, valueFits, fieldsFit, eachFits as eachFitsType}
+use Rattle.meaning.specs.Values.{Value, Values, Adt, unitValue, items, derefed, partsOf, partAt, valueFits, fieldsFit, elementsFit}
 use Rattle.meaning.specs.Matching.{recordFields, matchers}
 use Rattle.meaning.specs.Binding.{binders}
-use Rattle.meaning.specs.Typing.{TypeNumber, argumentsFit, elementType}
-use Rattle.meaning.specs.Fitting.{fitting, eachFits, rowFits, fieldType, byFieldsFit, itemsAllFit}
-use Rattle.meaning.specs.Fit.{patCount}
-use Rattle.meaning.specs.Fits.{fieldsThere}
+use Rattle.meaning.specs.Typing.{TypeNumber, elementType, fieldType}
+use Rattle.meaning.specs.Fit.{argumentsFit, fitting, eachFits, rowFits, byFieldsFit, itemsAllFit, patCount, fieldsThere}
 use Rattle.meaning.proofs.Parts.{field-fits, item-fits, fits-tuple, fits-reference, fits-array, fits-slice}
 use Rattle.meaning.proofs.Crossing.{none-some}
 use Rattle.meaning.proofs.Typed.{tuple-field, struct-field, enum-field, deref-type, index-type, end-index-type}
@@ -229,18 +227,18 @@ module _ (image : List ℕ) (t : ℕ) (x : Value) where
       let (vs, q, each) = fits-tuple image x t ts e fits in
       (tuple-field image t ts i e h, rw q (field-fits image vs ts i each h))
 
-  variant-part : (v : ℕ) (vs : Values) → x ≡ Variant v vs → fieldsFit image vs (variantOf image v .fields) ≡ true → (i : ℕ) → i < length (variantOf image v .fields)
+  variant-part : (v : ℕ) (vs : Values) → x ≡ Adt v vs → fieldsFit image vs (variantOf image v .fields) ≡ true → (i : ℕ) → i < length (variantOf image v .fields)
       → valueFits image (partAt (ProjectionElem.Field i) x) (getD (variantOf image v .fields) i 0) ≡ true
   unfolding partAt partsOf
   variant-part v vs q each i h = rw q (field-fits image vs (variantOf image v .fields) i each h)
 
   -- of a struct, and of an enum's variant behind its choice
-  pub struct-valued : (v : ℕ) (vs : Values) (variants : List ℕ) → tyOf image t .shape ≡ adt AdtKind.Struct variants → getD variants 0 0 ≡ v → x ≡ Variant v vs
+  pub struct-valued : (v : ℕ) (vs : Values) (variants : List ℕ) → tyOf image t .shape ≡ adt AdtKind.Struct variants → getD variants 0 0 ≡ v → x ≡ Adt v vs
       → fieldsFit image vs (variantOf image v .fields) ≡ true → (i : ℕ) → i < length (variantOf image v .fields)
       → Valued image (PlaceTy.Ty t) x (ProjectionElem.Field i) (getD (variantOf image v .fields) i 0)
   struct-valued v vs variants e one q each i h = (struct-field image t v variants i e one h, variant-part v vs q each i h)
 
-  pub enum-valued : (v : ℕ) (vs : Values) → x ≡ Variant v vs → fieldsFit image vs (variantOf image v .fields) ≡ true → (i : ℕ) → i < length (variantOf image v .fields)
+  pub enum-valued : (v : ℕ) (vs : Values) → x ≡ Adt v vs → fieldsFit image vs (variantOf image v .fields) ≡ true → (i : ℕ) → i < length (variantOf image v .fields)
       → Valued image (PlaceTy.Variant t v) x (ProjectionElem.Field i) (getD (variantOf image v .fields) i 0)
   enum-valued v vs q each i h = (enum-field image t v i h, variant-part v vs q each i h)
 
@@ -249,11 +247,11 @@ module _ (image : List ℕ) (t : ℕ) (x : Value) where
   unfolding partAt derefed
   deref-valued u e fits = let (w, q, inner) = fits-reference image x t u e fits in (deref-type image t u e, rw q inner)
 
-  element-of : (vs : Values) (u i : ℕ) → partsOf x ≡ items vs → eachFitsType image vs u ≡ true → i < length (partsOf x) → valueFits image (getD (partsOf x) i nothing) u ≡ true
+  element-of : (vs : Values) (u i : ℕ) → partsOf x ≡ items vs → elementsFit image vs u ≡ true → i < length (partsOf x) → valueFits image (getD (partsOf x) i unitValue) u ≡ true
   element-of vs u i q each h = rw q (item-fits image vs u i each (rw q at h))
 
   -- the elements of an array or a slice fit
-  element-fits : (s : Shape) {u : ℕ} → tyOf image t .shape ≡ s → elementType s ≡ some u → valueFits image x t ≡ true → (i : ℕ) → i < length (partsOf x) → valueFits image (getD (partsOf x) i nothing) u ≡ true
+  element-fits : (s : Shape) {u : ℕ} → tyOf image t .shape ≡ s → elementType s ≡ some u → valueFits image x t ≡ true → (i : ℕ) → i < length (partsOf x) → valueFits image (getD (partsOf x) i unitValue) u ≡ true
   unfolding elementType
   element-fits (integer size signed) e here fits i h = absurd (none-some here)
   element-fits bool e here fits i h = absurd (none-some here)
@@ -265,11 +263,11 @@ module _ (image : List ℕ) (t : ℕ) (x : Value) where
   element-fits (array w n) {u} e here fits i h =
       let (vs, q, long, each) = fits-array image x t w n e fits in
       let same : w ≡ u = cc in
-      subst (λ (y : ℕ). valueFits image (getD (partsOf x) i nothing) y ≡ true) same (element-of vs w i (ap partsOf q ∙ (unfold partsOf in refl)) each h)
+      subst (λ (y : ℕ). valueFits image (getD (partsOf x) i unitValue) y ≡ true) same (element-of vs w i (ap partsOf q ∙ (unfold partsOf in refl)) each h)
   element-fits (slice w) {u} e here fits i h =
       let (vs, q, long, each) = fits-slice image x t w e fits in
       let same : w ≡ u = cc in
-      subst (λ (y : ℕ). valueFits image (getD (partsOf x) i nothing) y ≡ true) same (element-of vs w i (ap partsOf q ∙ (unfold partsOf in refl)) each h)
+      subst (λ (y : ℕ). valueFits image (getD (partsOf x) i unitValue) y ≡ true) same (element-of vs w i (ap partsOf q ∙ (unfold partsOf in refl)) each h)
   element-fits unknown e here fits i h = absurd (none-some here)
 
   -- of an array or a slice, from the front and from the end

@@ -10,7 +10,7 @@ use lib.ListN.{length, take, drop}
 use lib.Seq.{getD-drop}
 use Rattle.image.specs.declared.kinds.OperandKind.{OperandKind}
 use Rattle.image.specs.Bytes.{littleEndian}
-use Rattle.image.specs.Integers.{integerValue}
+use Rattle.image.specs.Integers.{integerValue, inRange}
 use Rattle.image.specs.Operands.{operandValueHolds, operandLies, operandHolds}
 use Rattle.image.specs.Rules.{isFlag, isIntegerSize, typeShapeHolds, withinLimits}
 use Rattle.image.specs.Types.{Shape, integer, bool, char, str, tuple, adt, reference, array, slice, unknown, shapeBy, tyOf, Operand, operandOf}
@@ -25,11 +25,11 @@ use Rattle.image.proofs.Known.{shape-holds}
 use Rattle.refusals.specs.Refusals.{Result, ok}
 use Rattle.mir.specs.declared.rvalues.Constant.{Constant}
 use Rattle.literals.specs.Literals.{constantOf, stringConstant, integerConstant, literalBy, lowerLiteralToOperand, lowerConstToOperand, literalOrConstBy, lowerLiteralOrConstToOperand}
-use Rattle.meaning.specs.Values.{Value, Int, Bool′, Char, Str, Reference, kindNumber}
+use Rattle.counting.specs.Cases.{kindNumber, referent}
+use Rattle.meaning.specs.Values.{Value, Int, Bool′, Char, Str, Reference, intFits}
 use Rattle.meaning.specs.Running.{dataBytes, signedNumber, constantNumber, constantBy, constantValue}
 use Rattle.meaning.specs.Matching.{evaluated, created, operandValue}
-use Rattle.meaning.specs.Typing.{integerFits, refersToStr}
-use Rattle.meaning.specs.Fitting.{constantFits, literalFits, endFits}
+use Rattle.meaning.specs.Fit.{integerFits, refersToStr, constantFits, literalFits, endFits}
 use Rattle.meaning.proofs.Cutting.{Bytes, little-split, cut, size-some}
 
 -- an operand that holds, and whose bytes are those of the data
@@ -81,7 +81,7 @@ only-bool (slice t) e = absurd (false≢true e)
 only-bool unknown e = absurd (false≢true e)
 
 only-reference : (image : List ℕ) (s : Shape) → refersToStr image s ≡ true → (u : ℕ) × (s ≡ reference u)
-unfolding refersToStr
+unfolding refersToStr referent
 only-reference image (integer size signed) e = absurd (false≢true e)
 only-reference image bool e = absurd (false≢true e)
 only-reference image char e = absurd (false≢true e)
@@ -100,27 +100,27 @@ module _ (image : List ℕ) (t : ℕ) (few : t < 256) where
   at-type c s d e = rw (d, lt-ltb t 256 few, e)
 
   -- an integer, cut to its type's size
-  integer-worth : (negative : Bool) (bytes : List ℕ) (s : Shape) → tyOf image t .shape ≡ s → ((size : ℕ) (signed : Bool) → s ≡ integer size signed → isIntegerSize size ≡ true)
-      → eqb (length bytes) 16 ≡ true → Bytes bytes → integerFits s negative bytes ≡ true → Worth image (integerConstant (tyOf image t .shape) t bytes) (Int (integerValue negative bytes))
-  unfolding integerFits integerConstant constantBy
-  integer-worth negative bytes (integer size signed) e sizes long small fits =
+  integer-worth : (asSigned : Bool) (bytes : List ℕ) (s : Shape) → tyOf image t .shape ≡ s → ((size : ℕ) (signed : Bool) → s ≡ integer size signed → isIntegerSize size ≡ true)
+      → eqb (length bytes) 16 ≡ true → Bytes bytes → integerFits s asSigned bytes ≡ true → Worth image (integerConstant (tyOf image t .shape) t bytes) (Int (integerValue asSigned bytes))
+  unfolding integerFits integerConstant constantBy inRange intFits
+  integer-worth asSigned bytes (integer size signed) e sizes long small fits =
       let sized = size-some size (sizes size signed refl) in
       record {
         constant = constantOf t (take size bytes);
         taken = rw e;
         worth = at-type (constantOf t (take size bytes)) (integer size signed) (unfold constantOf in refl) e
             ∙ ap (λ (n : ℕ). Int (signedNumber size signed n)) (constant-number t (take size bytes))
-            ∙ ap Int (cut bytes size negative signed small (sized .0) (omega (arith, eqb-true (length bytes) 16 long)) fits);
+            ∙ ap Int (cut bytes size asSigned signed small (sized .0) (omega (arith, eqb-true (length bytes) 16 long)) fits);
       }
-  integer-worth negative bytes bool e sizes long small fits = absurd (false≢true fits)
-  integer-worth negative bytes char e sizes long small fits = absurd (false≢true fits)
-  integer-worth negative bytes str e sizes long small fits = absurd (false≢true fits)
-  integer-worth negative bytes (tuple fields) e sizes long small fits = absurd (false≢true fits)
-  integer-worth negative bytes (adt kind variants) e sizes long small fits = absurd (false≢true fits)
-  integer-worth negative bytes (reference u) e sizes long small fits = absurd (false≢true fits)
-  integer-worth negative bytes (array u n) e sizes long small fits = absurd (false≢true fits)
-  integer-worth negative bytes (slice u) e sizes long small fits = absurd (false≢true fits)
-  integer-worth negative bytes unknown e sizes long small fits = absurd (false≢true fits)
+  integer-worth asSigned bytes bool e sizes long small fits = absurd (false≢true fits)
+  integer-worth asSigned bytes char e sizes long small fits = absurd (false≢true fits)
+  integer-worth asSigned bytes str e sizes long small fits = absurd (false≢true fits)
+  integer-worth asSigned bytes (tuple fields) e sizes long small fits = absurd (false≢true fits)
+  integer-worth asSigned bytes (adt kind variants) e sizes long small fits = absurd (false≢true fits)
+  integer-worth asSigned bytes (reference u) e sizes long small fits = absurd (false≢true fits)
+  integer-worth asSigned bytes (array u n) e sizes long small fits = absurd (false≢true fits)
+  integer-worth asSigned bytes (slice u) e sizes long small fits = absurd (false≢true fits)
+  integer-worth asSigned bytes unknown e sizes long small fits = absurd (false≢true fits)
 
   -- bytes as they are: what a constant of their number is worth
   bytes-worth : (bytes : List ℕ) (s : Shape) {v : Value} → tyOf image t .shape ≡ s → constantBy s image (constantOf t bytes) ≡ v → constantValue image (constantOf t bytes) ≡ v
@@ -143,7 +143,7 @@ module _ (image : List ℕ) (t : ℕ) (few : t < 256) where
       whole true = unfold signedNumber integerValue in refl
 
   string-by : (u offset : ℕ) (bytes : List ℕ) → bytes ≡ dataBytes image offset (length bytes) → constantBy (reference u) image (stringConstant t offset (length bytes)) ≡ Reference (Str bytes)
-  unfolding constantBy stringConstant
+  unfolding constantBy stringConstant referent
   string-by u offset bytes there = ap (λ (bs : List ℕ). Reference (Str bs)) (sym there)
 
   -- an evaluated constant, at what its type is

@@ -10,10 +10,13 @@ use lib.ListN.{replicate}
 use Rattle.image.specs.Types.{Shape, integer, bool, char, str, tuple, adt, reference, array, slice, unknown, tyOf}
 use Rattle.place.specs.declared.elems.ProjectionElem.{ProjectionElem}
 use Rattle.views.specs.Views.{Path}
+use Rattle.counting.specs.Cases.{referent}
 use Rattle.meaning.specs.Values.{Value, derefed, partAt, placeIn, valueFits}
-use Rattle.meaning.specs.Running.{Env, Scene, elemKind, elemFirst, elemSecond, sameElem, behindRoot, partBehind, read}
+use Rattle.meaning.specs.Running.{Env, Scene, elemNumbers, sameElem, behindRoot, partBehind, read}
 use Rattle.meaning.specs.Matching.{onto, crossed, crossedPath}
-use Rattle.meaning.specs.Typing.{TypeNumber, referent, behind}
+use Rattle.meaning.specs.Typing.{TypeNumber}
+use Rattle.meaning.specs.Fit.{behind}
+use Rattle.meaning.proofs.Numbers.{numbers-met}
 use Rattle.meaning.proofs.Parts.{fits-reference}
 
 -- what is absent is not there
@@ -85,7 +88,7 @@ onto-below scene rest elem = ap (λ (es : List ProjectionElem). record { local =
 -- an element is the same as itself
 pub elem-same : (e : ProjectionElem) → sameElem e e ≡ true
 unfolding sameElem
-elem-same e = rw (eq-eqb (elemKind e) (elemKind e) refl, eq-eqb (elemFirst e) (elemFirst e) refl, eq-eqb (elemSecond e) (elemSecond e) refl)
+elem-same e = numbers-met (elemNumbers e)
 
 -- behind the root lies what comes after its elements
 pub behind-root : (root rest : List ProjectionElem) → behindRoot root (root ++ rest) ≡ some rest

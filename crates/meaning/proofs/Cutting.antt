@@ -99,10 +99,10 @@ module _ (size low high : ℕ) (few : low < 256 ^ size) (pre : 0 < size) where
       rw (le-ltb low (256 ^ size / 2) (omega (arith, h .twice)), far)
 
 -- an integer in its type's range, of as many bytes or more, cut to the type's size and read at its sign, is the same
-pub cut : (bytes : List ℕ) (size : ℕ) (negative signed : Bool) → Bytes bytes → 0 < size → size ≤ length bytes → inRange size signed (integerValue negative bytes) ≡ true
-    → signedNumber size signed (littleEndian (take size bytes)) ≡ integerValue negative bytes
+pub cut : (bytes : List ℕ) (size : ℕ) (asSigned signed : Bool) → Bytes bytes → 0 < size → size ≤ length bytes → inRange size signed (integerValue asSigned bytes) ≡ true
+    → signedNumber size signed (littleEndian (take size bytes)) ≡ integerValue asSigned bytes
 unfolding integerValue
-cut bytes size negative signed small pre fits r = by negative r
+cut bytes size asSigned signed small pre fits r = by asSigned r
   where
     low : ℕ
     low = littleEndian (take size bytes)
@@ -125,7 +125,7 @@ cut bytes size negative signed small pre fits r = by negative r
     signs false q =
         cut-neg size low (littleEndian (drop size bytes)) few pre signed (256 ^ (length bytes - size)) (256 ^ length bytes - littleEndian bytes) (omega (arith, all, parts, split)) (omega (arith, all)) q
 
-    by : (negative : Bool) → inRange size signed (integerValue negative bytes) ≡ true → signedNumber size signed low ≡ integerValue negative bytes
+    by : (asSigned : Bool) → inRange size signed (integerValue asSigned bytes) ≡ true → signedNumber size signed low ≡ integerValue asSigned bytes
     by false q = cut-pos size low (littleEndian (drop size bytes)) few pre signed (littleEndian bytes) split q
     by true q = signs (ltb (littleEndian bytes) (256 ^ length bytes / 2)) q
 

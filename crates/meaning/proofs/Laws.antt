@@ -1,22 +1,23 @@
 -- What the definitions that matching and running share mean in plain terms: equal values, their order, the parts of a list, two's complement. Assumes nothing.
 use Prim.Native.Nat.{ℕ, _+_, _-_, _^_, _/_, _≤_, _<_}
-use mathlib.Core.Path.{_≡_, refl, sym, ap, ap₂, _∙_}
+use mathlib.Core.Path.{_≡_, refl, sym, ap, _∙_}
 use mathlib.Core.Logic.{_↔_}
 use mathlib.Core.Bool.{Bool, true, false, not, _&&_, _||_, false≢true}
 use mathlib.Core.Option.{none, some}
-use mathlib.Core.List.{List, [], _∷_, _++_}
+use mathlib.Core.List.{List, _++_}
 use native.Mathlib.Omega.{arith}
-use borrow.Author.Tests.{eqb-true, eq-eqb, leb-true, leb-false, le-leb, lt-ltb, le-ltb}
-use lib.Dec.{eqb, leb, ltb}
+use borrow.Author.Tests.{leb-true, leb-false, le-leb, lt-ltb, le-ltb}
+use lib.Dec.{leb, ltb}
 use lib.IntN.{ℤ, pos, negsuc, negℤ}
 use lib.ListN.{length, take, drop, take-append-drop, length-take, length-drop}
 use lib.Seq.{drop-drop}
 use lib.Signed.{leZ, ltZ}
-use Rattle.image.proofs.Bools.{and-left, and-right, and-true}
+use Rattle.image.proofs.Bools.{and-left, and-right}
 use Rattle.mir.specs.declared.rvalues.BinOp.{BinOp}
 use Rattle.meaning.specs.Values.{Value, Int, Bool′, Char, Str, Reference, Comparable, int, bool′, char′, string, derefed, middle}
-use Rattle.meaning.specs.Running.{signedNumber, scalarOf, bytesOf, sameBytes, sameValue, compared}
+use Rattle.meaning.specs.Running.{signedNumber, scalarOf, bytesOf, sameValue, compared}
 use Rattle.meaning.specs.Matching.{fromStart, toEnd}
+use Rattle.meaning.proofs.Numbers.{numbers-meet, numbers-met}
 
 -- an integer that is not above another, which is not above it, is the other
 integers-meet : (y z : ℤ) → leZ y z && leZ z y ≡ true → y ≡ z
@@ -40,19 +41,6 @@ or-false false = refl
 and-right-true : (b : Bool) → b && true ≡ b
 and-right-true true = refl
 and-right-true false = refl
-
--- the same bytes are the same list
-bytes-meet : (xs ys : List ℕ) → sameBytes xs ys ≡ true → xs ≡ ys
-unfolding sameBytes
-bytes-meet [] [] e = refl
-bytes-meet [] (y ∷ ys) e = absurd (false≢true e)
-bytes-meet (x ∷ xs) [] e = absurd (false≢true e)
-bytes-meet (x ∷ xs) (y ∷ ys) e = ap₂ _∷_ (eqb-true x y (and-left (eqb x y) (sameBytes xs ys) e)) (bytes-meet xs ys (and-right (eqb x y) (sameBytes xs ys) e))
-
-bytes-met : (xs : List ℕ) → sameBytes xs xs ≡ true
-unfolding sameBytes
-bytes-met [] = refl
-bytes-met (x ∷ xs) = and-true (eqb x x) (sameBytes xs xs) (eq-eqb x x refl) (bytes-met xs)
 
 bools-meet : (a b : Bool) → sameValue (Bool′ a) (Bool′ b) ≡ true → a ≡ b
 unfolding sameValue scalarOf bytesOf derefed
@@ -82,7 +70,7 @@ same-equal (char′ c) (string bytes) e = absurd (false≢true e)
 same-equal (string xs) (int z) e = absurd (false≢true e)
 same-equal (string xs) (bool′ b) e = absurd (false≢true e)
 same-equal (string xs) (char′ d) e = absurd (false≢true e)
-same-equal (string xs) (string ys) e = ap (λ (bs : List ℕ). Reference (Str bs)) (bytes-meet xs ys e)
+same-equal (string xs) (string ys) e = ap (λ (bs : List ℕ). Reference (Str bs)) (numbers-meet xs ys e)
 
 -- a value is the same as itself
 same-itself : {v : Value} → Comparable v → sameValue v v ≡ true
@@ -91,7 +79,7 @@ same-itself (int z) = rw (integer-met z)
 same-itself (bool′ true) = refl
 same-itself (bool′ false) = refl
 same-itself (char′ c) = rw (le-leb c c (omega arith))
-same-itself (string bytes) = bytes-met bytes
+same-itself (string bytes) = numbers-met bytes
 
 -- two values that tests compare are the same exactly when they are equal
 pub same-exactly-when-equal : (v w : Value) → Comparable v → Comparable w → sameValue v w ≡ true ↔ v ≡ w

@@ -8,3 +8,4 @@ pub mod Looking
 pub mod Agreeing
 pub mod Laws
 pub mod Behind
+pub mod Numbers

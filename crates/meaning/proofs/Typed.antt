@@ -27,11 +27,11 @@ use Rattle.place.specs.declared.elems.ProjectionElem.{ProjectionElem}
 use Rattle.place.specs.declared.place_ty.PlaceTy.{PlaceTy}
 use Rattle.place.specs.PlaceTypes.{fieldOf, derefTy, adtFieldTy, fieldTy, elementTy, adtDowncastTy, downcastTy, tyProjection, variantProjection, projectionTy}
 use Rattle.counting.specs.Reaching.{behindDerefs}
-use Rattle.meaning.specs.Values.{Value, hasValues, valueFits}
+use Rattle.counting.specs.Cases.{referent, tupleFields}
+use Rattle.meaning.specs.Values.{Value, hasValues, valueFits, hasVariant}
 use Rattle.meaning.specs.Matching.{crossed}
-use Rattle.meaning.specs.Typing.{TypeNumber, referent, behind, isType, typeIsThePlaces, tupleFields, variantsOf, variantFields, recordFieldsDiffer, discriminantsDiffer, itemsFit, elementType, restFits}
-use Rattle.meaning.specs.Fitting.{literalFits, endFits?, isThere, pathFits, rowFits, byFieldsFit, itemsAllFit, typesFit, fitting, typesFit?}
-use Rattle.meaning.specs.Fits.{hasVariant}
+use Rattle.meaning.specs.Typing.{TypeNumber, adtVariants, variantFields, elementType}
+use Rattle.meaning.specs.Fit.{behind, isType, typeIsThePlaces, recordFieldsDiffer, discriminantsDiffer, itemsFit, restFits, literalFits, endFits?, isThere, pathFits, rowFits, byFieldsFit, itemsAllFit, typesFit, fitting, typesFit?}
 use Rattle.meaning.proofs.Crossing.{none-some, behind-none, behind-first, fits-crossed}
 
 -- what every pattern has
@@ -226,7 +226,7 @@ module _ (image : List ℕ) where
 
   -- the fields of a variant that an ADT has
   pub variant-fields : (v : ℕ) (kind : AdtKind) (variants : List ℕ) (s : Shape) → s ≡ adt kind variants → member v variants ≡ true → variantFields image s (some v) ≡ variantOf image v .fields
-  unfolding variantFields variantsOf
+  unfolding variantFields adtVariants
   variant-fields v kind variants s e m = rw (e, m)
 
 -- a struct or an enum that has the variant

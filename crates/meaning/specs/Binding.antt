@@ -9,33 +9,16 @@ use Rattle.image.specs.Types.{tyOf}
 use Rattle.image.specs.Tree.{Pat, Pats, nil, cons, PatOpt, no, sub}
 use Rattle.place.specs.declared.elems.ProjectionElem.{ProjectionElem}
 use Rattle.views.specs.Views.{Path}
+use Rattle.counting.specs.Cases.{ifBind}
 use Rattle.meaning.specs.Values.{Value, partsOf, partAt}
 use Rattle.meaning.specs.Matching.{onto, crossed, crossedPath, Bound, boundAs, bindAll, rowFields, recordFields, lastItems, variantPath, matches}
 
 -- a rest that is an identifier pattern binds what the other items leave [patterns.rest.allowed-patterns]
-unfoldable pub restBinds : Pat → ℕ → ℕ → Path → Value → List Bound
-restBinds (Pat.Missing h) front end path v = []
-restBinds (Pat.Rest h) front end path v = []
-restBinds (Pat.NotNull h) front end path v = []
-restBinds (Pat.Wild h) front end path v = []
-restBinds (Pat.Tuple h args ellipsis) front end path v = []
-restBinds (Pat.Or h alts) front end path v = []
-restBinds (Pat.Record h fields args w) front end path v = []
-restBinds (Pat.Range h start e halfOpen) front end path v = []
-restBinds (Pat.Slice h prefix rest suffix) front end path v = []
-restBinds (Pat.Path h target) front end path v = []
-restBinds (Pat.Lit h operand) front end path v = []
-restBinds (Pat.Bind h b s how annotation) front end path v =
-    record { binding = b; what = boundAs how (onto path (ProjectionElem.Subslice front end)) (partAt (ProjectionElem.Subslice front end) v) } ∷ []
-restBinds (Pat.TupleStruct h args ellipsis w) front end path v = []
-restBinds (Pat.Ref h s) front end path v = []
-restBinds (Pat.Expr h) front end path v = []
-restBinds (Pat.Box h) front end path v = []
-restBinds (Pat.Deref h) front end path v = []
-
 unfoldable pub restBinds? : PatOpt → ℕ → ℕ → Path → Value → List Bound
 restBinds? no front end path v = []
-restBinds? (sub rest) front end path v = restBinds rest front end path v
+restBinds? (sub rest) front end path v =
+    let elem = ProjectionElem.Subslice front end in
+    ifBind rest (λ h b s how. record { binding = b; what = boundAs how (onto path elem) (partAt elem v) } ∷ []) []
 
 module _ (image : List ℕ) where
   unfoldable mutual

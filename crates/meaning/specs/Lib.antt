@@ -4,6 +4,4 @@ pub mod Executing
 pub mod Matching
 pub mod Binding
 pub mod Typing
-pub mod Fitting
 pub mod Fit
-pub mod Fits

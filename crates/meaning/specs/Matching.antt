@@ -1,22 +1,23 @@
 -- What patterns mean, by the Rust Reference's chapter "Patterns": whether a pattern matches a value, and what it binds. A rule's identifier stands in
 -- brackets. Written from the Reference, and not from the Rust. Assumes nothing: these are definitions.
 use Prim.Native.Nat.{ℕ, zero, suc, _+_, _-_}
-use mathlib.Core.Bool.{Bool, true, false, _&&_, _||_, not}
+use mathlib.Core.Bool.{Bool, true, false, cond, _&&_, _||_, not}
 use mathlib.Core.Option.{Option, none, some}
 use mathlib.Core.List.{List, [], _∷_, _++_, map}
 use lib.Dec.{eqb, leb}
 use lib.ListN.{length, getD, take, drop}
-use Rattle.image.specs.declared.kinds.AdtKind.{AdtKind}
 use Rattle.image.specs.declared.kinds.BindingMode.{BindingMode}
 use Rattle.image.specs.declared.kinds.OperandKind.{OperandKind}
 use Rattle.image.specs.Bytes.{littleEndian}
 use Rattle.image.specs.Integers.{integerValue}
 use Rattle.image.specs.Lists.{upFrom}
-use Rattle.image.specs.Types.{Shape, integer, bool, char, str, tuple, adt, reference, array, slice, unknown, tyOf, Operand}
+use Rattle.image.specs.Types.{Shape, tyOf, Operand}
 use Rattle.image.specs.Tree.{Target, unresolved, variant, local, constant, other, Pat, Pats, nil, cons, PatOpt, no, sub}
 use Rattle.place.specs.declared.elems.ProjectionElem.{ProjectionElem}
 use Rattle.views.specs.Views.{Path}
-use Rattle.meaning.specs.Values.{Value, Int, Bool′, Char, Str, Tuple, Variant, Reference, Array, Slice, nothing, partsOf, partAt}
+use Rattle.counting.specs.Cases.{ifThere, ifScalar, ifAdt}
+use Rattle.counting.specs.Reaching.{isEnumKind}
+use Rattle.meaning.specs.Values.{Value, Int, Bool′, Char, Str, Reference, unitValue, partsOf, ifVariant, partAt}
 use Rattle.meaning.specs.Running.{Held, value, refersTo, both, scalarOf, notAbove, sameValue}
 
 -- a place one element on
@@ -34,16 +35,8 @@ crossedPath (suc n) path = crossedPath n (onto path ProjectionElem.Deref)
 
 -- the value of an evaluated constant, at what its type is [patterns.const.primitive, patterns.range.path-value]
 unfoldable pub evaluated : Shape → List ℕ → Value
-evaluated (integer size signed) bytes = Int (integerValue signed bytes)
-evaluated bool bytes = Bool′ (not (eqb (littleEndian bytes) 0))
-evaluated char bytes = Char (littleEndian bytes)
-evaluated str bytes = nothing
-evaluated (tuple fields) bytes = nothing
-evaluated (adt kind variants) bytes = nothing
-evaluated (reference t) bytes = nothing
-evaluated (array t n) bytes = nothing
-evaluated (slice t) bytes = nothing
-evaluated unknown bytes = nothing
+evaluated shape bytes =
+    ifScalar shape (λ size signed. Int (integerValue signed bytes)) (Bool′ (not (eqb (littleEndian bytes) 0))) (Char (littleEndian bytes)) unitValue
 
 -- "Literal patterns match exactly the same value as what is created by the literal." [patterns.literal.intro, patterns.range.literal-value]
 unfoldable pub created : OperandKind → Shape → List ℕ → Value
@@ -52,12 +45,12 @@ created OperandKind.Uint shape bytes = Int (integerValue false bytes)
 created OperandKind.Char shape bytes = Char (littleEndian bytes)
 created OperandKind.Bool shape bytes = Bool′ (not (eqb (littleEndian bytes) 0))
 created OperandKind.Str shape bytes = Reference (Str bytes)
-created OperandKind.CStr shape bytes = nothing
-created OperandKind.ByteStr shape bytes = nothing
+created OperandKind.CStr shape bytes = unitValue
+created OperandKind.ByteStr shape bytes = unitValue
 created OperandKind.Constant shape bytes = evaluated shape bytes
-created OperandKind.Float shape bytes = nothing
-created OperandKind.Other shape bytes = nothing
-created OperandKind.Unknown shape bytes = nothing
+created OperandKind.Float shape bytes = unitValue
+created OperandKind.Other shape bytes = unitValue
+created OperandKind.Unknown shape bytes = unitValue
 
 abbrev pub operandValue : List ℕ → ℕ → Operand → Value
 operandValue image t operand = created (operand .kind) (tyOf image t .shape) (operand .bytes)
@@ -95,20 +88,11 @@ unfoldable pub matchFields : List (Option ℕ) → List (Value → Bool) → Lis
 matchFields [] ms vs = true
 matchFields (i ∷ fields) [] vs = true
 matchFields (none ∷ fields) (m ∷ ms) vs = false
-matchFields (some i ∷ fields) (m ∷ ms) vs = m (getD vs i nothing) && matchFields fields ms vs
+matchFields (some i ∷ fields) (m ∷ ms) vs = m (getD vs i unitValue) && matchFields fields ms vs
 
 -- a value of the variant v [patterns.struct.namespace, patterns.tuple-struct.namespace, patterns.path.intro]
 unfoldable pub isVariant : Option ℕ → Value → Bool
-isVariant v (Int z) = false
-isVariant v (Bool′ b) = false
-isVariant v (Char c) = false
-isVariant v (Str bytes) = false
-isVariant v (Tuple vs) = false
-isVariant none (Variant w vs) = false
-isVariant (some v) (Variant w vs) = eqb v w
-isVariant v (Reference x) = false
-isVariant v (Array vs) = false
-isVariant v (Slice vs) = false
+isVariant v x = ifVariant x (λ w. ifThere v (λ u. eqb u w) false) false
 
 -- a path names a variant or a constant, which matches what is equal to it [patterns.path.intro, patterns.const.partial-eq]
 unfoldable pub pathMatches : List ℕ → ℕ → Target → Value → Bool
@@ -206,17 +190,5 @@ lastItems (suc n) = ProjectionElem.IndexFromEnd n ∷ lastItems n
 
 -- the fields of an enum's variant lie behind its choice
 unfoldable pub variantPath : Shape → Option ℕ → Path → Path
-variantPath (integer size signed) v path = path
-variantPath bool v path = path
-variantPath char v path = path
-variantPath str v path = path
-variantPath (tuple fields) v path = path
-variantPath (adt AdtKind.Struct variants) v path = path
-variantPath (adt AdtKind.Enum variants) none path = path
-variantPath (adt AdtKind.Enum variants) (some v) path = onto path (ProjectionElem.Downcast v)
-variantPath (adt AdtKind.Union variants) v path = path
-variantPath (adt AdtKind.Unknown variants) v path = path
-variantPath (reference t) v path = path
-variantPath (array t n) v path = path
-variantPath (slice t) v path = path
-variantPath unknown v path = path
+variantPath shape v path =
+    ifAdt shape (λ kind variants. cond (isEnumKind kind) (ifThere v (λ w. onto path (ProjectionElem.Downcast w)) path) path) path

@@ -11,7 +11,7 @@ use lib.IntN.{ℤ, pos, negsuc, negℤ}
 use lib.Signed.{leZ}
 use lib.ListN.{length, take, drop}
 use Rattle.image.specs.Tables.{dataAt}
-use Rattle.image.specs.Types.{Shape, integer, bool, char, str, tuple, adt, reference, array, slice, unknown, tyOf, variantOf}
+use Rattle.image.specs.Types.{Shape, tyOf, variantOf}
 use Rattle.place.specs.declared.LocalId.{LocalId}
 use Rattle.place.specs.declared.elems.ProjectionElem.{ProjectionElem}
 use Rattle.mir.specs.declared.BasicBlockId.{BasicBlockId}
@@ -22,7 +22,8 @@ use Rattle.mir.specs.declared.rvalues.Left.{Left}
 use Rattle.mir.specs.declared.rvalues.PlaceRvalue.{PlaceRvalue}
 use Rattle.views.specs.Views.{Path, Rvalue, ofPlace, ofConstant, binary, unknown as unknownRvalue, Statement, live, dead, set, Line, Mir}
 use Rattle.views.specs.Growing.{terminatorAt}
-use Rattle.meaning.specs.Values.{Value, Int, Bool′, Char, Str, Tuple, Variant, Reference, Array, Slice, nothing, derefed, partsOf, placeIn}
+use Rattle.counting.specs.Cases.{ifThere, ifScalar, referent}
+use Rattle.meaning.specs.Values.{Value, Int, Bool′, Char, Str, Tuple, Adt, Reference, Array, Slice, unitValue, derefed, partsOf, ifVariant, placeIn}
 
 -- what a local holds: a value, or a reference to a place, shared or mutable
 pub data Held : Type 0 where
@@ -38,7 +39,7 @@ update env l held k = cond (eqb k l) held (env k)
 
 unfoldable pub valueOf : Held → Value
 valueOf (value v) = v
-valueOf (refersTo mutable path) = nothing
+valueOf (refersTo mutable path) = unitValue
 
 -- the bytes of a string that a constant stands for
 unfoldable pub dataBytes : List ℕ → ℕ → ℕ → List ℕ
@@ -55,16 +56,9 @@ constantNumber c = c .low + 18446744073709551616 * c .high
 
 -- "Constants are compared at their type": the value of a constant, by what its type is
 unfoldable pub constantBy : Shape → List ℕ → Constant → Value
-constantBy (integer size signed) image c = Int (signedNumber size signed (constantNumber c))
-constantBy bool image c = Bool′ (not (eqb (constantNumber c) 0))
-constantBy char image c = Char (constantNumber c)
-constantBy str image c = nothing
-constantBy (tuple fields) image c = nothing
-constantBy (adt kind variants) image c = nothing
-constantBy (reference t) image c = Reference (Str (dataBytes image (c .offset) (c .high)))
-constantBy (array t n) image c = nothing
-constantBy (slice t) image c = nothing
-constantBy unknown image c = nothing
+constantBy shape image c =
+    ifScalar shape (λ size signed. Int (signedNumber size signed (constantNumber c))) (Bool′ (not (eqb (constantNumber c) 0))) (Char (constantNumber c))
+    (ifThere (referent shape) (λ t. Reference (Str (dataBytes image (c .offset) (c .high)))) unitValue)
 
 -- a constant whose type is not of the table is a usize
 unfoldable pub constantValue : List ℕ → Constant → Value
@@ -84,7 +78,7 @@ scalarOf (Bool′ b) = some (record { kind = 2; number = pos (bit b) })
 scalarOf (Char c) = some (record { kind = 3; number = pos c })
 scalarOf (Str bytes) = none
 scalarOf (Tuple vs) = none
-scalarOf (Variant v vs) = none
+scalarOf (Adt v vs) = none
 scalarOf (Reference v) = none
 scalarOf (Array vs) = none
 scalarOf (Slice vs) = none
@@ -96,16 +90,16 @@ bytesOf (Bool′ b) = none
 bytesOf (Char c) = none
 bytesOf (Str bytes) = some bytes
 bytesOf (Tuple vs) = none
-bytesOf (Variant v vs) = none
+bytesOf (Adt v vs) = none
 bytesOf (Reference v) = none
 bytesOf (Array vs) = none
 bytesOf (Slice vs) = none
 
-unfoldable pub sameBytes : List ℕ → List ℕ → Bool
-sameBytes [] [] = true
-sameBytes [] (y ∷ ys) = false
-sameBytes (x ∷ xs) [] = false
-sameBytes (x ∷ xs) (y ∷ ys) = eqb x y && sameBytes xs ys
+unfoldable pub sameNumbers : List ℕ → List ℕ → Bool
+sameNumbers [] [] = true
+sameNumbers [] (y ∷ ys) = false
+sameNumbers (x ∷ xs) [] = false
+sameNumbers (x ∷ xs) (y ∷ ys) = eqb x y && sameNumbers xs ys
 
 -- what holds of two that are there
 abbrev pub both : {A : Type 0} → (A → A → Bool) → Option A → Option A → Bool
@@ -122,7 +116,7 @@ sameScalar x y = notAbove x y && notAbove y x
 
 -- two values are the same: "integers by value with their sign, char and bool by value, strings by content"
 unfoldable pub sameValue : Value → Value → Bool
-sameValue v w = both sameScalar (scalarOf v) (scalarOf w) || both sameBytes (bytesOf (derefed v)) (bytesOf (derefed w))
+sameValue v w = both sameScalar (scalarOf v) (scalarOf w) || both sameNumbers (bytesOf (derefed v)) (bytesOf (derefed w))
 
 -- what an operator makes of two values
 unfoldable pub compared : BinOp → Value → Value → Bool
@@ -133,15 +127,7 @@ compared BinOp.Gt v w = both notAbove (scalarOf w) (scalarOf v) && not (sameValu
 
 -- the discriminant of a variant: 16 bytes, as a number
 unfoldable pub discriminantOf : List ℕ → Value → ℕ
-discriminantOf image (Int z) = 0
-discriminantOf image (Bool′ b) = 0
-discriminantOf image (Char c) = 0
-discriminantOf image (Str bytes) = 0
-discriminantOf image (Tuple vs) = 0
-discriminantOf image (Variant v vs) = variantOf image v .discriminant
-discriminantOf image (Reference v) = 0
-discriminantOf image (Array vs) = 0
-discriminantOf image (Slice vs) = 0
+discriminantOf image w = ifVariant w (λ v. variantOf image v .discriminant) 0
 
 -- a place that holds a value, and the value: the place handed in
 pub record Scene : Type 0 where
@@ -149,36 +135,18 @@ pub record Scene : Type 0 where
   pub root : Path
   pub here : Value
 
--- an element as three numbers: its kind, and what it carries
-unfoldable pub elemKind : ProjectionElem → ℕ
-elemKind ProjectionElem.Deref = 0
-elemKind (ProjectionElem.Field i) = 1
-elemKind (ProjectionElem.Index i) = 2
-elemKind (ProjectionElem.IndexFromEnd i) = 3
-elemKind (ProjectionElem.Subslice front end) = 4
-elemKind (ProjectionElem.Downcast v) = 5
-elemKind ProjectionElem.Unknown = 6
-
-unfoldable pub elemFirst : ProjectionElem → ℕ
-elemFirst ProjectionElem.Deref = 0
-elemFirst (ProjectionElem.Field i) = i
-elemFirst (ProjectionElem.Index i) = i
-elemFirst (ProjectionElem.IndexFromEnd i) = i
-elemFirst (ProjectionElem.Subslice front end) = front
-elemFirst (ProjectionElem.Downcast v) = v
-elemFirst ProjectionElem.Unknown = 0
-
-unfoldable pub elemSecond : ProjectionElem → ℕ
-elemSecond ProjectionElem.Deref = 0
-elemSecond (ProjectionElem.Field i) = 0
-elemSecond (ProjectionElem.Index i) = 0
-elemSecond (ProjectionElem.IndexFromEnd i) = 0
-elemSecond (ProjectionElem.Subslice front end) = end
-elemSecond (ProjectionElem.Downcast v) = 0
-elemSecond ProjectionElem.Unknown = 0
+-- an element as numbers: its kind, and what it carries
+unfoldable pub elemNumbers : ProjectionElem → List ℕ
+elemNumbers ProjectionElem.Deref = 0 ∷ []
+elemNumbers (ProjectionElem.Field i) = 1 ∷ i ∷ []
+elemNumbers (ProjectionElem.Index i) = 2 ∷ i ∷ []
+elemNumbers (ProjectionElem.IndexFromEnd i) = 3 ∷ i ∷ []
+elemNumbers (ProjectionElem.Subslice front end) = 4 ∷ front ∷ end ∷ []
+elemNumbers (ProjectionElem.Downcast v) = 5 ∷ v ∷ []
+elemNumbers ProjectionElem.Unknown = 6 ∷ []
 
 unfoldable pub sameElem : ProjectionElem → ProjectionElem → Bool
-sameElem e f = eqb (elemKind e) (elemKind f) && eqb (elemFirst e) (elemFirst f) && eqb (elemSecond e) (elemSecond f)
+sameElem e f = sameNumbers (elemNumbers e) (elemNumbers f)
 
 -- what is left of a path behind the root's elements, where the path begins with them
 unfoldable pub behindRoot : List ProjectionElem → List ProjectionElem → Option (List ProjectionElem)
@@ -214,7 +182,7 @@ unfoldable pub rvalueValue : Rvalue → Scene → Env → Held
 rvalueValue (ofPlace rvalue path) scene env = ofPlaceValue rvalue scene env path
 rvalueValue (ofConstant c) scene env = value (constantValue (scene .image) c)
 rvalueValue (binary op left path) scene env = value (Bool′ (compared op (leftValue left scene env) (read scene env path)))
-rvalueValue unknownRvalue scene env = value nothing
+rvalueValue unknownRvalue scene env = value unitValue
 
 -- what a statement does
 unfoldable pub execute : Statement → Scene → Env → Env

@@ -1,6 +1,7 @@
 -- Values: finite trees. A value fits when it is one of a type. Assumes nothing: these are definitions.
 use Prim.Native.Nat.{ℕ, _-_}
-use mathlib.Core.Bool.{Bool, true, false, cond, _&&_}
+use mathlib.Core.Bool.{Bool, true, false, _&&_}
+use mathlib.Core.Option.{Option, some}
 use mathlib.Core.List.{List, [], _∷_}
 use lib.Dec.{eqb, ltb}
 use lib.IntN.{ℤ}
@@ -9,8 +10,9 @@ use Rattle.image.specs.declared.kinds.AdtKind.{AdtKind}
 use Rattle.image.specs.Lists.{member}
 use Rattle.image.specs.Operands.{isScalarValue}
 use Rattle.image.specs.Integers.{inRange}
-use Rattle.image.specs.Types.{Shape, integer, bool, char, str, tuple, adt, reference, array, slice, unknown, tyOf, variantOf}
+use Rattle.image.specs.Types.{Shape, tyOf, variantOf}
 use Rattle.place.specs.declared.elems.ProjectionElem.{ProjectionElem}
+use Rattle.counting.specs.Cases.{ifThere, kindNumber, ifScalar, tupleFields, ifAdt, referent, ifArray, ifSlice}
 
 mutual
   pub data Value : Type 0 where
@@ -22,7 +24,7 @@ mutual
     Str : List ℕ → Value
     Tuple : Values → Value
     -- a variant of a struct or an enum, by its number in the table, and its fields
-    Variant : ℕ → Values → Value
+    Adt : ℕ → Values → Value
     -- what it refers to
     Reference : Value → Value
     Array : Values → Value
@@ -30,8 +32,8 @@ mutual
 
   -- values in a row
   pub data Values : Type 0 where
-    nil : Values
-    cons : Value → Values → Values
+    noMore : Values
+    more : Value → Values → Values
 
 -- the values that tests compare: integers, bools, chars and references to a str
 pub data Comparable : Value → Type 0 where
@@ -41,28 +43,28 @@ pub data Comparable : Value → Type 0 where
   string : (bytes : List ℕ) → Comparable (Reference (Str bytes))
 
 unfoldable pub items : Values → List Value
-items nil = []
-items (cons v vs) = v ∷ items vs
+items noMore = []
+items (more v vs) = v ∷ items vs
 
 unfoldable pub values : List Value → Values
-values [] = nil
-values (v ∷ vs) = cons v (values vs)
+values [] = noMore
+values (v ∷ vs) = more v (values vs)
 
 -- what is read where there is nothing to read: no fitting value has such a place
-abbrev pub nothing : Value
-nothing = Tuple nil
+abbrev pub unitValue : Value
+unitValue = Tuple noMore
 
 -- what a reference refers to
 unfoldable pub derefed : Value → Value
-derefed (Int z) = nothing
-derefed (Bool′ b) = nothing
-derefed (Char c) = nothing
-derefed (Str bytes) = nothing
-derefed (Tuple vs) = nothing
-derefed (Variant v vs) = nothing
+derefed (Int z) = unitValue
+derefed (Bool′ b) = unitValue
+derefed (Char c) = unitValue
+derefed (Str bytes) = unitValue
+derefed (Tuple vs) = unitValue
+derefed (Adt v vs) = unitValue
 derefed (Reference v) = v
-derefed (Array vs) = nothing
-derefed (Slice vs) = nothing
+derefed (Array vs) = unitValue
+derefed (Slice vs) = unitValue
 
 -- the fields of a tuple or a variant, or the elements of an array or a slice
 unfoldable pub partsOf : Value → List Value
@@ -71,10 +73,22 @@ partsOf (Bool′ b) = []
 partsOf (Char c) = []
 partsOf (Str bytes) = []
 partsOf (Tuple vs) = items vs
-partsOf (Variant v vs) = items vs
+partsOf (Adt v vs) = items vs
 partsOf (Reference v) = []
 partsOf (Array vs) = items vs
 partsOf (Slice vs) = items vs
+
+-- what is made of a variant by its number, or of every other value
+abbrev pub ifVariant : {A : Type 0} → Value → (ℕ → A) → A → A
+ifVariant (Int z) made other = other
+ifVariant (Bool′ b) made other = other
+ifVariant (Char c) made other = other
+ifVariant (Str bytes) made other = other
+ifVariant (Tuple vs) made other = other
+ifVariant (Adt v vs) made other = made v
+ifVariant (Reference v) made other = other
+ifVariant (Array vs) made other = other
+ifVariant (Slice vs) made other = other
 
 -- what is left without so many in front and so many at the end
 unfoldable pub middle : ℕ → ℕ → List Value → List Value
@@ -82,25 +96,25 @@ middle front end vs = take (length vs - front - end) (drop front vs)
 
 -- a part of an array or a slice
 unfoldable pub subslice : ℕ → ℕ → Value → Value
-subslice front end (Int z) = nothing
-subslice front end (Bool′ b) = nothing
-subslice front end (Char c) = nothing
-subslice front end (Str bytes) = nothing
-subslice front end (Tuple vs) = nothing
-subslice front end (Variant v vs) = nothing
-subslice front end (Reference v) = nothing
+subslice front end (Int z) = unitValue
+subslice front end (Bool′ b) = unitValue
+subslice front end (Char c) = unitValue
+subslice front end (Str bytes) = unitValue
+subslice front end (Tuple vs) = unitValue
+subslice front end (Adt v vs) = unitValue
+subslice front end (Reference v) = unitValue
 subslice front end (Array vs) = Array (values (middle front end (items vs)))
 subslice front end (Slice vs) = Slice (values (middle front end (items vs)))
 
 -- what lies one element on
 unfoldable pub partAt : ProjectionElem → Value → Value
 partAt ProjectionElem.Deref v = derefed v
-partAt (ProjectionElem.Field i) v = getD (partsOf v) i nothing
-partAt (ProjectionElem.Index i) v = getD (partsOf v) i nothing
-partAt (ProjectionElem.IndexFromEnd i) v = getD (partsOf v) (length (partsOf v) - 1 - i) nothing
+partAt (ProjectionElem.Field i) v = getD (partsOf v) i unitValue
+partAt (ProjectionElem.Index i) v = getD (partsOf v) i unitValue
+partAt (ProjectionElem.IndexFromEnd i) v = getD (partsOf v) (length (partsOf v) - 1 - i) unitValue
 partAt (ProjectionElem.Subslice front end) v = subslice front end v
 partAt (ProjectionElem.Downcast w) v = v
-partAt ProjectionElem.Unknown v = nothing
+partAt ProjectionElem.Unknown v = unitValue
 
 -- what lies at the end of a projection
 unfoldable pub placeIn : List ProjectionElem → Value → Value
@@ -119,54 +133,11 @@ hasValues AdtKind.Union = false
 hasValues AdtKind.Unknown = false
 
 unfoldable pub intFits : Shape → ℤ → Bool
-intFits (integer size signed) z = inRange size signed z
-intFits bool z = false
-intFits char z = false
-intFits str z = false
-intFits (tuple fields) z = false
-intFits (adt kind variants) z = false
-intFits (reference t) z = false
-intFits (array t n) z = false
-intFits (slice t) z = false
-intFits unknown z = false
+intFits shape z = ifScalar shape (λ size signed. inRange size signed z) false false false
 
--- the type's kind, as a number: 1 integer, 2 bool, 3 char, 4 str, 5 tuple, 6 ADT, 7 reference, 8 array, 9 slice
-unfoldable pub kindNumber : Shape → ℕ
-kindNumber (integer size signed) = 1
-kindNumber bool = 2
-kindNumber char = 3
-kindNumber str = 4
-kindNumber (tuple fields) = 5
-kindNumber (adt kind variants) = 6
-kindNumber (reference t) = 7
-kindNumber (array t n) = 8
-kindNumber (slice t) = 9
-kindNumber unknown = 0
-
--- the types of a tuple's fields; the variants of an ADT that has values; what a reference refers to, or the elements' type; the length of an array
-unfoldable pub fieldTypes : Shape → List ℕ
-fieldTypes (integer size signed) = []
-fieldTypes bool = []
-fieldTypes char = []
-fieldTypes str = []
-fieldTypes (tuple fields) = fields
-fieldTypes (adt kind variants) = cond (hasValues kind) variants []
-fieldTypes (reference t) = t ∷ []
-fieldTypes (array t n) = t ∷ []
-fieldTypes (slice t) = t ∷ []
-fieldTypes unknown = []
-
-unfoldable pub arrayLength : Shape → ℕ
-arrayLength (integer size signed) = 0
-arrayLength bool = 0
-arrayLength char = 0
-arrayLength str = 0
-arrayLength (tuple fields) = 0
-arrayLength (adt kind variants) = 0
-arrayLength (reference t) = 0
-arrayLength (array t n) = n
-arrayLength (slice t) = 0
-arrayLength unknown = 0
+-- a struct or an enum that has the variant: not refused as 4, nor as 6 for want of a variant
+unfoldable pub hasVariant : Shape → Option ℕ → Bool
+hasVariant shape v = ifAdt shape (λ kind variants. ifThere v (λ w. hasValues kind && member w variants) false) false
 
 -- document 01: "A value fits when it is a finite tree of the place's type .., every slice and str in it shorter than 2^64; a union has no value."
 module _ (image : List ℕ) where
@@ -177,24 +148,20 @@ module _ (image : List ℕ) where
     valueFits (Bool′ b) t = eqb (kindNumber (tyOf image t .shape)) 2
     valueFits (Char c) t = eqb (kindNumber (tyOf image t .shape)) 3 && isScalarValue c
     valueFits (Str bytes) t = eqb (kindNumber (tyOf image t .shape)) 4 && shorter (length bytes)
-    valueFits (Tuple vs) t = eqb (kindNumber (tyOf image t .shape)) 5 && fieldsFit vs (fieldTypes (tyOf image t .shape))
-    valueFits (Variant v vs) t =
-        eqb (kindNumber (tyOf image t .shape)) 6 && member v (fieldTypes (tyOf image t .shape)) && fieldsFit vs (variantOf image v .fields)
-    valueFits (Reference v) t = eqb (kindNumber (tyOf image t .shape)) 7 && valueFits v (getD (fieldTypes (tyOf image t .shape)) 0 0)
-    valueFits (Array vs) t =
-        eqb (kindNumber (tyOf image t .shape)) 8 && eqb (length (items vs)) (arrayLength (tyOf image t .shape))
-        && eachFits vs (getD (fieldTypes (tyOf image t .shape)) 0 0)
-    valueFits (Slice vs) t =
-        eqb (kindNumber (tyOf image t .shape)) 9 && shorter (length (items vs)) && eachFits vs (getD (fieldTypes (tyOf image t .shape)) 0 0)
+    valueFits (Tuple vs) t = eqb (kindNumber (tyOf image t .shape)) 5 && fieldsFit vs (tupleFields (tyOf image t .shape))
+    valueFits (Adt v vs) t = hasVariant (tyOf image t .shape) (some v) && fieldsFit vs (variantOf image v .fields)
+    valueFits (Reference v) t = ifThere (referent (tyOf image t .shape)) (λ u. valueFits v u) false
+    valueFits (Array vs) t = ifArray (tyOf image t .shape) (λ u n. eqb (length (items vs)) n && elementsFit vs u) false
+    valueFits (Slice vs) t = ifSlice (tyOf image t .shape) (λ u. shorter (length (items vs)) && elementsFit vs u) false
 
     -- as many values as types, each of its own
     pub fieldsFit : Values → List ℕ → Bool
-    fieldsFit nil [] = true
-    fieldsFit nil (t ∷ ts) = false
-    fieldsFit (cons v vs) [] = false
-    fieldsFit (cons v vs) (t ∷ ts) = valueFits v t && fieldsFit vs ts
+    fieldsFit noMore [] = true
+    fieldsFit noMore (t ∷ ts) = false
+    fieldsFit (more v vs) [] = false
+    fieldsFit (more v vs) (t ∷ ts) = valueFits v t && fieldsFit vs ts
 
     -- values all of one type
-    pub eachFits : Values → ℕ → Bool
-    eachFits nil t = true
-    eachFits (cons v vs) t = valueFits v t && eachFits vs t
+    pub elementsFit : Values → ℕ → Bool
+    elementsFit noMore t = true
+    elementsFit (more v vs) t = valueFits v t && elementsFit vs t

@@ -8,7 +8,7 @@ use Rattle.image.proofs.Bools.{and-left, and-right}
 use Rattle.lowered_params.specs.Params.{Param}
 use Rattle.meaning.specs.Values.{Value, valueFits}
 use Rattle.meaning.specs.Matching.{matches}
-use Rattle.meaning.specs.Fits.{fits}
+use Rattle.meaning.specs.Fit.{fits}
 use Rattle.param_runs.specs.Returned.{ownLocal}
 use Rattle.param_runs.specs.Through.{plain, patternFits, paramFits, paramsFit}
 use Rattle.param_runs.proofs.Plain.{Owns, plain-owns}

@@ -14,9 +14,8 @@ use Rattle.lowered_params.specs.Params.{Param}
 use Rattle.meaning.specs.Values.{Value}
 use Rattle.meaning.specs.Running.{Held, Env}
 use Rattle.meaning.specs.Binding.{binds}
-use Rattle.meaning.specs.Fit.{boundIn}
-use Rattle.meaning.specs.Fits.{present, localsDiffer}
-use Rattle.correctness.specs.Demand2.{after}
+use Rattle.meaning.specs.Fit.{boundIn, present, localsDiffer}
+use Rattle.correctness.specs.Demand2.{heldAfter}
 use Rattle.correctness.proofs.Permuting.{each-map, localOf, after-untouched}
 use Rattle.correctness.proofs.BindingNames.{not-and, names, Among, binds-among, locals-apart, present-member, member-left, member-right}
 use Rattle.correctness.proofs.BindingLocals.{all-local}
@@ -55,7 +54,7 @@ module _ (image bindings : List ℕ) (ctx : Ctx) (q : Param) (l : ℕ) (v : Valu
   has-local = all-local image bindings pat (clauses image bindings l ctx (q .ty) pat low .reached)
 
   -- a local that is none of its bindings' is left as it was
-  untouched : (k : ℕ) (held : Held) → ((x : ℕ) → member x (names (boundIn image pat)) ≡ true → k ≢ getD bindings x 65535) → after bindings (binds image pat (whole l) v) k held ≡ held
+  untouched : (k : ℕ) (held : Held) → ((x : ℕ) → member x (names (boundIn image pat)) ≡ true → k ≢ getD bindings x 65535) → heldAfter bindings (binds image pat (whole l) v) k held ≡ held
   untouched k held f =
       after-untouched bindings (binds image pat (whole l) v) k held
       (each-map (Among (boundIn image pat)) (λ b. k ≢ localOf bindings b) (binds image pat (whole l) v) (λ b m. f (b .binding) m)
@@ -83,7 +82,7 @@ module _ (image bindings : List ℕ) (ctx : Ctx) (q : Param) (l : ℕ) (v : Valu
           (subst (λ (y : ℕ). member y (present bindings) ≡ true) (sym is) (present-member bindings x (has-local x m)))
 
   -- The values of later parameters are held behind it.
-  pub held-later : (env env′ : Env) → ((k : ℕ) → k < length (ctx .state .locals) → env′ k ≡ after bindings (binds image pat (whole l) v) k (env k)) →
+  pub held-later : (env env′ : Env) → ((k : ℕ) → k < length (ctx .state .locals) → env′ k ≡ heldAfter bindings (binds image pat (whole l) v) k (env k)) →
       (qs : List Param) (k : ℕ) (vs : List Value) → paramsFit image bindings qs k vs ≡ true → TypedFrom (ctx .state .locals) k qs → SmallFrom k qs →
       Apart (names (boundIn image pat)) (paramsBound image qs) → HeldFrom env k vs → HeldFrom env′ k vs
   unfolding paramsFit paramsBound

@@ -27,7 +27,7 @@ use Rattle.meaning.specs.Running.{Env, value, here}
 use Rattle.meaning.specs.Matching.{Bound}
 use Rattle.meaning.specs.Binding.{binds}
 use Rattle.meaning.specs.Fit.{boundIn}
-use Rattle.correctness.specs.Demand2.{after}
+use Rattle.correctness.specs.Demand2.{heldAfter}
 use Rattle.correctness.proofs.Trails.{Trail, Landing, trail-here, trail-seq}
 use Rattle.correctness.proofs.Walking.{rest, after-append, worked-locals, Walked}
 use Rattle.correctness.proofs.BindingNames.{names, distinct-apart, distinct-right}
@@ -48,12 +48,12 @@ module _ (image bindings : List ℕ) (M : Mir) where
     pub env′ : Env
     pub entered : List ℕ
     pub through : Through image M l vs current (rest (ctx .state) M) env b (rest (ctx₁ .state) M) env′ entered
-    pub locals : (k : ℕ) → k < length (ctx .state .locals) → env′ k ≡ after bindings bs k (env k)
+    pub locals : (k : ℕ) → k < length (ctx .state .locals) → env′ k ≡ heldAfter bindings bs k (env k)
     pub trail : Trail (ctx .state) (ctx₁ .state) current entered b
 
   -- no value
   passed-end : (ctx : Ctx) (current : ℕ) (env : Env) (l : ℕ) → current < count (ctx .state) → Passed ctx current env l [] [] ctx current
-  unfolding after
+  unfolding heldAfter
   passed-end ctx current env l i = record { env′ = env; entered = []; through = end; locals = λ k i. refl; trail = trail-here i }
 
   -- a value, and then others
@@ -66,14 +66,14 @@ module _ (image bindings : List ℕ) (M : Mir) where
         env′ = u .env′;
         entered = w .entered ++ u .entered;
         through = next is (w .run) (u .through);
-        locals = λ k i. u .locals k (lt-of-lt-of-le i s) ∙ ap (after bindings bs′ k) (w .locals k i) ∙ sym (after-append bindings bs bs′ k (env k));
+        locals = λ k i. u .locals k (lt-of-lt-of-le i s) ∙ ap (heldAfter bindings bs′ k) (w .locals k i) ∙ sym (after-append bindings bs bs′ k (env k));
         trail = trail-seq (w .trail) (u .trail) x h₁ h₂ o f;
       }
 
   -- a value that is held by its binding's local already
   own-walked : (ctx : Ctx) (current : ℕ) (env : Env) (b l : ℕ) (v : Value) → current < count (ctx .state) → getD bindings b 65535 ≡ l → env l ≡ value v →
       Walked (sceneAt image l v) bindings M ctx current env (record { binding = b; what = value v } ∷ []) ctx current (rest (ctx .state) M)
-  unfolding after
+  unfolding heldAfter
   own-walked ctx current env b l v i own is =
       record { env′ = env; entered = []; run = here; locals = λ k j. by k (eqb k (getD bindings b 65535)) refl; trail = trail-here i }
     where

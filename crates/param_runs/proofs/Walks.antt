@@ -27,7 +27,7 @@ use Rattle.meaning.specs.Values.{Value, valueFits}
 use Rattle.meaning.specs.Running.{Env, Scene, value, here}
 use Rattle.meaning.specs.Matching.{matches}
 use Rattle.meaning.specs.Binding.{binds}
-use Rattle.meaning.specs.Fits.{fits}
+use Rattle.meaning.specs.Fit.{fits}
 use Rattle.correctness.specs.Demand2.{Handed, Fitting}
 use Rattle.correctness.proofs.Walking.{rest, rest-same, Walked, Lands, walked-later}
 use Rattle.correctness.proofs.Landing.{led-on}

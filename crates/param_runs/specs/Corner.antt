@@ -18,8 +18,8 @@ use Rattle.meaning.specs.Values.{Value}
 use Rattle.param_runs.specs.Through.{allFit, bindingsDiffer}
 
 -- the start
-unfoldable pub start : List ℕ → Ctx
-start image =
+unfoldable pub paramsStart : List ℕ → Ctx
+paramsStart image =
     record { state = record { blocks = zeros 12 ∷ []; statements = []; locals = []; scopes = 0 ∷ []; entries = [] }; visits = zeros (patternCount image) }
 
 -- no binding has a local
@@ -27,36 +27,36 @@ unfoldable pub unbound : List ℕ → List ℕ
 unbound image = map (λ b. 65535) (upFrom 0 (bindingCount image))
 
 -- the block to go on from, the bindings' locals, the whole content of the listing, and the visits; or the three numbers of a refusal
-pub data Answer : Type 0 where
-  accepted : BasicBlockId → List ℕ → Mir → List ℕ → Answer
-  refusal : Refusal → Answer
+pub data ParamsAnswer : Type 0 where
+  acceptedParams : BasicBlockId → List ℕ → Mir → List ℕ → ParamsAnswer
+  refusedParams : Refusal → ParamsAnswer
 
 -- the answer of a walk
-abbrev pub answerOf : Walk ParamsOut → Answer
-answerOf (ok r) = accepted (r .then) (r .bindings) (mirOf (r .ctx .state)) (r .ctx .visits)
-answerOf (refused e p) = refusal (refusalAt e p)
+abbrev pub paramsAnswerOf : Walk ParamsOut → ParamsAnswer
+paramsAnswerOf (ok r) = acceptedParams (r .then) (r .bindings) (mirOf (r .ctx .state)) (r .ctx .visits)
+paramsAnswerOf (refused e p) = refusedParams (refusalAt e p)
 
 -- a list of parameters of a valid image, lowered from there, or refused where one is self's binding again
-unfoldable pub answer : List ℕ → SelfParam → List Param → Answer
-answer image self params =
-    cond (not (valid image && receiverApart image self params)) (refusal breaksARule)
-    (answerOf (lowerParamsAndBindings image self params (unbound image) (start image) (record { 0 = 0 })))
+unfoldable pub paramsAnswer : List ℕ → SelfParam → List Param → ParamsAnswer
+paramsAnswer image self params =
+    cond (not (valid image && receiverApart image self params)) (refusedParams breaksARule)
+    (paramsAnswerOf (lowerParamsAndBindings image self params (unbound image) (paramsStart image) (record { 0 = 0 })))
 
 -- a corner: an image, self, the parameters, and the answer that is wanted; values for self and the parameters, and whether these fit
-pub record Row : Type 0 where
+pub record ParamsRow : Type 0 where
   pub image : List ℕ
   pub self : SelfParam
   pub params : List Param
-  pub wanted : Answer
+  pub wanted : ParamsAnswer
   pub values : List Value
   pub fit : Bool
 
 -- the bindings' locals of an answer
-abbrev pub boundAfter : Answer → List ℕ
-boundAfter (accepted then bindings body visits) = bindings
-boundAfter (refusal numbers) = []
+abbrev pub boundAfter : ParamsAnswer → List ℕ
+boundAfter (acceptedParams then bindings body visits) = bindings
+boundAfter (refusedParams numbers) = []
 
 -- the parameters of a corner fit its values, and no binding stands in two of them
-unfoldable pub cornerFits : Row → Bool
+unfoldable pub cornerFits : ParamsRow → Bool
 cornerFits row =
     allFit (row .image) (boundAfter (row .wanted)) (row .self) (row .params) 0 (row .values) && bindingsDiffer (row .image) (row .self) (row .params)

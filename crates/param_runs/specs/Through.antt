@@ -20,14 +20,14 @@ use Rattle.handed.specs.Handed.{bindingsHold}
 use Rattle.lowered_params.specs.declared.SelfParam.{SelfParam}
 use Rattle.lowered_params.specs.Params.{Param, Declared, ParamsOut, declare}
 use Rattle.lowered_params.specs.Calls.{paramsNamed, selfNamed}
+use Rattle.counting.specs.Cases.{ifBind}
 use Rattle.growth.specs.Opened.{Starts}
 use Rattle.meaning.specs.Values.{Value, valueFits}
 use Rattle.meaning.specs.Running.{Env, value, Run}
 use Rattle.meaning.specs.Matching.{matches, Bound}
 use Rattle.meaning.specs.Binding.{binds}
-use Rattle.meaning.specs.Fit.{boundIn}
-use Rattle.meaning.specs.Fits.{fits}
-use Rattle.correctness.specs.Demand2.{after, Distinct}
+use Rattle.meaning.specs.Fit.{boundIn, fits}
+use Rattle.correctness.specs.Demand2.{heldAfter, Distinct}
 use Rattle.param_runs.specs.Returned.{ownLocal}
 
 -- a local as a place
@@ -44,23 +44,7 @@ bindsWhole (sub s) how derefs = false
 
 -- a plain `x`, which binds the value itself
 unfoldable pub plain : Pat → Bool
-plain (Pat.Missing h) = false
-plain (Pat.Rest h) = false
-plain (Pat.NotNull h) = false
-plain (Pat.Wild h) = false
-plain (Pat.Tuple h args ellipsis) = false
-plain (Pat.Or h alts) = false
-plain (Pat.Record h fields args v) = false
-plain (Pat.Range h start end halfOpen) = false
-plain (Pat.Slice h prefix rest suffix) = false
-plain (Pat.Path h target) = false
-plain (Pat.Lit h operand) = false
-plain (Pat.Bind h b s how annotation) = bindsWhole s how (h .derefs)
-plain (Pat.TupleStruct h args ellipsis v) = false
-plain (Pat.Ref h s) = false
-plain (Pat.Expr h) = false
-plain (Pat.Box h) = false
-plain (Pat.Deref h) = false
+plain pat = ifBind pat (λ h b s how. bindsWhole s how (h .derefs)) false
 
 module _ (image : List ℕ) where
   -- a parameter fits, whose local is l: one that needs nothing is a plain `x`, and any other one is a pattern that fits
@@ -148,4 +132,4 @@ pub record ComesThrough (image : List ℕ) (self : SelfParam) (params : List Par
       (r .then .0) (drop (length (r .ctx .state .statements)) (M .lines)) env′ entered
   pub once : Distinct (current .0 ∷ entered)
   pub locals : (l : ℕ) → l < madeCount (declare image self params (record { state = ctx .state; bindings = bindings })) →
-      env′ l ≡ after (r .bindings) (boundBy image self params (length (ctx .state .locals)) vs) l (env l)
+      env′ l ≡ heldAfter (r .bindings) (boundBy image self params (length (ctx .state .locals)) vs) l (env l)

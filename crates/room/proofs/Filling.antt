@@ -23,12 +23,14 @@ use Rattle.pattern_matching.specs.Tests.{patternMatchBinding}
 use Rattle.pattern_matching.specs.Variants.{patternMatchAdt}
 use Rattle.pattern_matching.specs.Slices.{RestOf, lengthTest, restBound, sliceItems, sliceOn, suffixItems}
 use Rattle.pattern_matching.specs.Patterns.{bindPattern}
-use Rattle.counting.specs.Reaching.{Argument, zip, isSliceShape, items, someArgument, Reached, Reaching, testing, binding, lengthStatements, restBinding, throughArguments}
+use Rattle.counting.specs.Cases.{ifThere}
+use Rattle.counting.specs.Reaching.{Argument, zip, isSliceShape, sliceArguments, someArgument, Reached, Reaching, testing, binding, throughArguments}
 use Rattle.counting.specs.Counting.{total}
+use Rattle.counting.proofs.Rests.{statementsBy, bindingBy}
 use Rattle.counting.proofs.Passing.{Pass, checks, binds, modeOf, inChecks, total-append}
 use Rattle.counting.proofs.Arguments.{fit-all}
 use Rattle.counting.proofs.Rows.{through-append, some-argument-append}
-use Rattle.room.specs.Elements.{mostOfArguments, restElements}
+use Rattle.room.specs.Elements.{mostOfArguments}
 use Rattle.room.proofs.Telling.{Origin, Sound, sound-ok, sound-step, sound-as}
 use Rattle.room.proofs.Recording.{Alike, alike-is, alike-on, alike-moved}
 use Rattle.room.proofs.Building.{Table, block, statement, local, entry, make, Goal, owing, has-as, has-by}
@@ -41,6 +43,10 @@ fills : {A : Type 0} {base : Origin} {T : Goal} (h : Head) (b k : ℕ) (F : Bool
     Fares A base T F (λ w. make 0 2 0 0 w + m w) c els
 unfolding total
 fills h b k F m c els room = has-by room _ (omega arith) (omega arith) (omega arith) (omega arith)
+
+-- how many elements lead to what a rest binds
+abbrev pub elementsBy : RestOf → ℕ
+elementsBy rest = ifThere (bindingBy rest) (λ b. 1) 0
 
 module _ {A : Type 0} {base : Origin} {image : List ℕ} (ty : PlaceTy) (h : Head) where
   -- a binding
@@ -80,8 +86,8 @@ module _ {A : Type 0} {base : Origin} {image : List ℕ} (ty : PlaceTy) (h : Hea
 
   -- a rest
   spends-rest : (front end : ℕ) (rest : RestOf) →
-      Spends A base image ty (restBound rest (base .bindings) (h .number) front end) false (restElements rest) (λ k. binding h k false 0 0 (restBinding rest) ∷ [])
-  unfolding restBound restElements restBinding total
+      Spends A base image ty (restBound rest (base .bindings) (h .number) front end) false (elementsBy rest) (λ k. binding h k false 0 0 (bindingBy rest) ∷ [])
+  unfolding restBound bindingBy total
   spends-rest front end RestOf.none =
       record {
         above = λ k. (le-refl _, tt);
@@ -169,11 +175,11 @@ module _ {A : Type 0} {base : Origin} {image : List ℕ} {ls ls′ : List Loweri
 
   -- how many elements are appended
   abbrev most : ℕ
-  most = max (mostOfArguments image ty (prefix ds)) (max (restElements rest) (mostOfArguments image ty (suffix ds′)))
+  most = max (mostOfArguments image ty (prefix ds)) (max (elementsBy rest) (mostOfArguments image ty (suffix ds′)))
 
   -- the items in front, the rest, and the items at the end
   spends-inner : Spends A base image ty (sliceItems (base .bindings) (h .number) ls rest ls′) (someArgument image ty (prefix fs) || someArgument image ty (suffix fs′)) most
-      (λ k. first k ++ (binding h k false 0 0 (restBinding rest) ∷ last k))
+      (λ k. first k ++ (binding h k false 0 0 (bindingBy rest) ∷ last k))
   unfolding sliceItems
   spends-inner =
       let g = spends-both _ _ (spends-items (h .number) ty (λ n i. ProjectionElem.Index i) (λ n i. tt) front)
@@ -182,12 +188,12 @@ module _ {A : Type 0} {base : Origin} {image : List ℕ} {ls ls′ : List Loweri
 
   -- with what the length's test takes
   slice-as : {l : Lowering} (f : Bool) (t s : ℕ) {deep : ℕ} → deep ≡ most → Spends A base image ty l (f || (someArgument image ty (prefix fs) || someArgument image ty (suffix fs′))) deep
-      (λ k. binding h k false t s none ∷ (first k ++ (binding h k false 0 0 (restBinding rest) ∷ last k))) →
-      Spends A base image ty l (f || someArgument image ty (items fs fs′)) (max (restElements rest) (mostOfArguments image ty (items ds ds′)))
-      (λ k. binding h k false t s (restBinding rest) ∷ throughArguments image ty k (items rs rs′))
-  unfolding items total
+      (λ k. binding h k false t s none ∷ (first k ++ (binding h k false 0 0 (bindingBy rest) ∷ last k))) →
+      Spends A base image ty l (f || someArgument image ty (sliceArguments fs fs′)) (max (elementsBy rest) (mostOfArguments image ty (sliceArguments ds ds′)))
+      (λ k. binding h k false t s (bindingBy rest) ∷ throughArguments image ty k (sliceArguments rs rs′))
+  unfolding sliceArguments total
   slice-as f t s same g =
-      let R = restElements rest in
+      let R = elementsBy rest in
       let through : (k : ℕ) → throughArguments image ty k (prefix rs ++ suffix rs′) ≡ first k ++ last k = λ k. through-append image ty k (prefix rs) (suffix rs′) in
       spends-within (λ e. ap (λ (x : Bool). f || x) (some-argument-append image ty (prefix fs) (suffix fs′)) ∙ e)
       (same ∙ max-turned (mostOfArguments image ty (prefix ds)) R (mostOfArguments image ty (suffix ds′)) ∙ ap (max R) (most-append image ty (prefix ds) (suffix ds′)))
@@ -197,45 +203,50 @@ module _ {A : Type 0} {base : Origin} {image : List ℕ} {ls ls′ : List Loweri
             (spends-items (h .number) ty (λ n i. ProjectionElem.IndexFromEnd (n - 1 - i)) (λ n i. tt) back .above k)),
       ))
       (λ pass k w.
-      let x = total-append (spent pass k w) (first k) (binding h k false 0 0 (restBinding rest) ∷ last k) in
+      let x = total-append (spent pass k w) (first k) (binding h k false 0 0 (bindingBy rest) ∷ last k) in
       let y : total (spent pass k w) (throughArguments image ty k (prefix rs ++ suffix rs′)) ≡ total (spent pass k w) (first k) + total (spent pass k w) (last k) =
       ap (total (spent pass k w)) (through k) ∙ total-append (spent pass k w) (first k) (last k) in
-      let z = slice-split h t s (restBinding rest) pass k w in
+      let z = slice-split h t s (bindingBy rest) pass k w in
       omega (arith, x, y, z))
       (λ pass k ls. late pass k ls)
       g
     where
-      late : (pass : Pass) (k : ℕ) (ls : List ℕ) → Alike (markedIn (base .bindings) pass (binding h k false t s (restBinding rest) ∷ throughArguments image ty k (prefix rs ++ suffix rs′)) ++ ls)
-          (markedIn (base .bindings) pass (binding h k false t s none ∷ (first k ++ (binding h k false 0 0 (restBinding rest) ∷ last k))) ++ ls)
+      late : (pass : Pass) (k : ℕ) (ls : List ℕ) → Alike (markedIn (base .bindings) pass (binding h k false t s (bindingBy rest) ∷ throughArguments image ty k (prefix rs ++ suffix rs′)) ++ ls)
+          (markedIn (base .bindings) pass (binding h k false t s none ∷ (first k ++ (binding h k false 0 0 (bindingBy rest) ∷ last k))) ++ ls)
       late pass k ls =
-          let own = markedBy (base .bindings) pass (restBinding rest) in
+          let own = markedBy (base .bindings) pass (bindingBy rest) in
           let marked : List Reached → List ℕ = λ rs. markedIn (base .bindings) pass rs in
           alike-on (alike-is (ap (λ (l : List ℕ). (own ++ l) ++ ls) (ap marked (through-append image ty k (prefix rs) (suffix rs′)) ∙ marked-append (base .bindings) pass (first k) (last k))))
           (alike-on (alike-moved own (marked (first k)) (marked (last k)) ls)
-          (alike-is (ap (λ (l : List ℕ). l ++ ls) (sym (marked-append (base .bindings) pass (first k) (binding h k false 0 0 (restBinding rest) ∷ last k))))))
+          (alike-is (ap (λ (l : List ℕ). l ++ ls) (sym (marked-append (base .bindings) pass (first k) (binding h k false 0 0 (bindingBy rest) ∷ last k))))))
 
   -- the length's test
   spends-length : (n : ℕ) → Spends A base image ty (λ mode c current els place. inCheck mode (lengthTest rest image (h .number) n c current els place) (out c current els)) true 0
-      (λ k. binding h k false 1 (lengthStatements rest) none ∷ [])
+      (λ k. binding h k false 1 (statementsBy rest) none ∷ [])
   unfolding total
   spends-length n =
-      spends-test true (λ k. binding h k false 1 (lengthStatements rest) none) (λ c current els place. lengthTest rest image (h .number) n c current els place) (idle-testing h 1 (lengthStatements rest))
+      spends-test true (λ k. binding h k false 1 (statementsBy rest) none) (λ c current els place. lengthTest rest image (h .number) n c current els place) (idle-testing h 1 (statementsBy rest))
       (λ k T F m c current els place f room.
       sound-length image (h .number) m c F rest n current els place (f refl) (has-by room _ (omega arith) (omega arith) (omega arith) (omega arith)))
 
   -- of what is no slice nothing is tested
-  spends-array : Spends A base image ty (sliceItems (base .bindings) (h .number) ls rest ls′) (someArgument image ty (items fs fs′)) (max (restElements rest) (mostOfArguments image ty (items ds ds′)))
-      (λ k. binding h k false 0 0 (restBinding rest) ∷ throughArguments image ty k (items rs rs′))
+  spends-array : Spends A base image ty (sliceItems (base .bindings) (h .number) ls rest ls′) (someArgument image ty (sliceArguments fs fs′)) (max (elementsBy rest) (mostOfArguments image ty (sliceArguments ds ds′)))
+      (λ k. binding h k false 0 0 (bindingBy rest) ∷ throughArguments image ty k (sliceArguments rs rs′))
   spends-array = slice-as false 0 0 refl (spends-under (λ k. binding h k false 0 0 none) (free-testing h) spends-inner)
 
   -- a Slice by its own type
-  pub spends-slice : (s : Shape) → Spends A base image ty (sliceOn s image (base .bindings) (h .number) ls rest ls′) (isSliceShape s || someArgument image ty (items fs fs′))
-      (max (restElements rest) (mostOfArguments image ty (items ds ds′)))
-      (λ k. binding h k false (cond (isSliceShape s) 1 0) (cond (isSliceShape s) (lengthStatements rest) 0) (restBinding rest) ∷ throughArguments image ty k (items rs rs′))
+  -- a Slice spends what it does where n statements test its length and o is bound
+  abbrev pub Sliced : Shape → ℕ → Option ℕ → Type 0
+  Sliced s n o =
+      Spends A base image ty (sliceOn s image (base .bindings) (h .number) ls rest ls′) (isSliceShape s || someArgument image ty (sliceArguments fs fs′))
+      (max (ifThere o (λ b. 1) 0) (mostOfArguments image ty (sliceArguments ds ds′)))
+      (λ k. binding h k false (cond (isSliceShape s) 1 0) (cond (isSliceShape s) n 0) o ∷ throughArguments image ty k (sliceArguments rs rs′))
+
+  spends-slice : (s : Shape) → Sliced s (statementsBy rest) (bindingBy rest)
   unfolding sliceOn isSliceShape
   spends-slice (array t n) = record { above = spends-array .above; goes = spends-array .goes }
   spends-slice (slice t) =
-      let g = slice-as true 1 (lengthStatements rest) (zero-max most) (spends-both _ _ (spends-length (length ls + length ls′)) spends-inner) in
+      let g = slice-as true 1 (statementsBy rest) (zero-max most) (spends-both _ _ (spends-length (length ls + length ls′)) spends-inner) in
       record { above = g .above; goes = g .goes }
   spends-slice (integer size signed) = let g = spends-refused (MirLowerError.TypeError 2) (h .number) tt (spends-array .above) in record { above = g .above; goes = g .goes }
   spends-slice bool = let g = spends-refused (MirLowerError.TypeError 2) (h .number) tt (spends-array .above) in record { above = g .above; goes = g .goes }
@@ -245,3 +256,6 @@ module _ {A : Type 0} {base : Origin} {image : List ℕ} {ls ls′ : List Loweri
   spends-slice (adt kind variants) = let g = spends-refused (MirLowerError.TypeError 2) (h .number) tt (spends-array .above) in record { above = g .above; goes = g .goes }
   spends-slice (reference t) = let g = spends-refused (MirLowerError.TypeError 2) (h .number) tt (spends-array .above) in record { above = g .above; goes = g .goes }
   spends-slice unknown = let g = spends-refused (MirLowerError.TypeError 2) (h .number) tt (spends-array .above) in record { above = g .above; goes = g .goes }
+
+  pub spends-slice-as : (s : Shape) (n : ℕ) (o : Option ℕ) → statementsBy rest ≡ n → bindingBy rest ≡ o → Sliced s n o
+  spends-slice-as s n o p q = subst (λ (m : ℕ). Sliced s m o) p (subst (λ (x : Option ℕ). Sliced s (statementsBy rest) x) q (spends-slice s))

@@ -29,7 +29,7 @@ use Rattle.counting.specs.Reaching.{canFail, Reached}
 use Rattle.counting.specs.Counting.{one, total, reachedFrom, blocksOf, bindStatements, statementsOf, newBlocks, newStatements}
 use Rattle.counting.proofs.Passing.{checks, binds}
 use Rattle.counting.proofs.Tallies.{le-or-lt}
-use Rattle.meaning.specs.Fits.{fits}
+use Rattle.meaning.specs.Fit.{fits}
 use Rattle.fitted.proofs.Building.{kept-same}
 use Rattle.fitted.proofs.Refusing.{fit-refused}
 use Rattle.room.specs.Elements.{elements}

@@ -17,6 +17,7 @@ use Rattle.place.specs.declared.place_ty.PlaceTy.{PlaceTy}
 use Rattle.place.specs.PlaceTypes.{projectionTy, multiProjectionTy}
 use Rattle.pattern_matching.specs.Walking.{refused, Lowering, step, out, project, inCheck}
 use Rattle.pattern_matching.specs.Variants.{placeTy, shapeOf, needed, patternMatchTupleLike, ellipsisAt, tupleOn, tuplePattern, refOn, refPattern, AdtPatternShape, variantFields, discriminantTest, variantOn, adtOn, patternMatchingVariant}
+use Rattle.counting.specs.Cases.{tupleFields}
 use Rattle.counting.specs.Reaching.{Argument, inARow, byFields, fieldCount, isEnum, downcast, someArgument, Reached, Reaching, testing, naming, throughArguments}
 use Rattle.counting.specs.Counting.{one, total}
 use Rattle.counting.proofs.Passing.{modeOf}
@@ -46,7 +47,7 @@ module _ {A : Type 0} {base : Origin} {image : List ℕ} (ty : PlaceTy) where
   pub spends-tuple : {ls : List Lowering} {fs : List (PlaceTy → Bool)} {rs : List Reaching} {ds : List (PlaceTy → ℕ)} (h : Head) (ellipsis : Option ℕ) → Each A base image ls fs rs ds →
       Spends A base image ty (tuplePattern image (h .number) ls ellipsis) (someArgument image ty (inARow ellipsis (fieldCount (shapeOf image ty)) fs))
       (mostOfArguments image ty (inARow ellipsis (fieldCount (shapeOf image ty)) ds)) (λ k. testing h k false 0 0 ∷ throughArguments image ty k (inARow ellipsis (fieldCount (shapeOf image ty)) rs))
-  unfolding tuplePattern tupleOn fieldCount
+  unfolding tuplePattern tupleOn fieldCount tupleFields
   spends-tuple {ls = ls} {fs = fs} {rs = rs} {ds = ds} h ellipsis e =
       let g = spends-needed (h .number) (λ s. tupleOn s (h .number) ls ellipsis) (by (shapeOf image ty)) in record { above = g .above; goes = g .goes }
     where

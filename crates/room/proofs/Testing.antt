@@ -28,11 +28,12 @@ use Rattle.pattern_matching.specs.Tests.{boolWord, usizeWord, compare, patternM
 use Rattle.pattern_matching.specs.Variants.{discriminantTest}
 use Rattle.pattern_matching.specs.Slices.{RestOf, lengthCompared, lengthTest}
 use Rattle.pattern_matching.specs.declared.MatchingMode.{MatchingMode}
-use Rattle.counting.specs.Reaching.{endCount, lengthStatements}
+use Rattle.counting.specs.Reaching.{endCount}
 use Rattle.counting.specs.Counting.{elseMade}
 use Rattle.room.proofs.Telling.{Origin, Sound, Sure, sound-ok, sure-done, sure-stopped, sound-step}
 use Rattle.room.proofs.Building.{Table, make, Goal, owing, Has, has-by, has-terminator, onceMore, spend-block, spend-statement, spend-bound, spend-temp, spend-else}
 use Rattle.room.proofs.Spending.{Fares, Leaves}
+use Rattle.counting.proofs.Rests.{statementsBy}
 
 -- of an answer nothing is asked
 abbrev Any : {X : Type 0} → X → Type 0
@@ -176,7 +177,7 @@ module _ {A : Type 0} {base : Origin} {T : Goal} (image : List ℕ) (p : ℕ) (m
 
   -- the test of a slice's length
   pub sound-length : (F : Bool) (rest : RestOf) (n : ℕ) (current : BasicBlockId) (els : OptBlock) (place : Place) → F ≡ true →
-      Fares A base T F (λ w. make 1 (lengthStatements rest) (lengthStatements rest / 2) (lengthStatements rest / 2) w + m w) c els →
+      Fares A base T F (λ w. make 1 (statementsBy rest) (statementsBy rest / 2) (statementsBy rest / 2) w + m w) c els →
       Sound A base (Leaves A base T F m) (lengthTest rest image p n c current els place)
   unfolding lengthTest
   sound-length false rest n current els place e h = absurd (false≢true e)
@@ -190,11 +191,11 @@ module _ {A : Type 0} {base : Origin} {T : Goal} (image : List ℕ) (p : ℕ) (m
       sound-step p (tryBlock st₃) _ (spend-block st₃ r₄ h₃) (λ st₄ h₄.
       sound-compared rest n (c .state) st₄ current _ (elseBlock st₂ els) h₄))))
     where
-      split : (rest : RestOf) → Fares A base T true (λ w. make 1 (lengthStatements rest) (lengthStatements rest / 2) (lengthStatements rest / 2) w + m w) c els →
+      split : (rest : RestOf) → Fares A base T true (λ w. make 1 (statementsBy rest) (statementsBy rest / 2) (statementsBy rest / 2) w + m w) c els →
           Has A base T (c .state) (λ w. make 0 1 1 1 w + (make 0 1 0 0 w + (make (elseMade true els) 0 0 0 w + (make 1 0 0 0 w + (after rest w + m w)))))
-      split RestOf.none h = unfold lengthStatements in has-by h _ (omega arith) (omega arith) (omega arith) (omega arith)
-      split (RestOf.binds q b how) h = unfold lengthStatements in has-by h _ (omega arith) (omega arith) (omega arith) (omega arith)
-      split RestOf.ignores h = unfold lengthStatements in has-by h _ (omega arith) (omega arith) (omega arith) (omega arith)
+      split RestOf.none h = unfold statementsBy in has-by h _ (omega arith) (omega arith) (omega arith) (omega arith)
+      split (RestOf.binds q b how) h = unfold statementsBy in has-by h _ (omega arith) (omega arith) (omega arith) (omega arith)
+      split RestOf.ignores h = unfold statementsBy in has-by h _ (omega arith) (omega arith) (omega arith) (omega arith)
 
   -- the test of an enum
   pub sound-discriminant : (F : Bool) (v : ℕ) (current : BasicBlockId) (els : OptBlock) (place : Place) → F ≡ true → Fares A base T F (λ w. make 1 2 1 1 w + m w) c els →

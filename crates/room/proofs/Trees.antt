@@ -21,17 +21,18 @@ use Rattle.pattern_matching.specs.Patterns.{refusing, passing, restOf, patternM
 use Rattle.counting.specs.Reaching.{behindDerefs, canFail, failing, canFail?, endCount, isEnum, isSliceShape, lengthStatements, restBinding, Reached, testing, naming, binding, anOr, pathReached, reached, reachings, reaching?}
 use Rattle.counting.specs.Counting.{elseMade}
 use Rattle.counting.specs.Demand3.{ElseIs}
+use Rattle.counting.proofs.Rests.{statements-of, binding-of}
 use Rattle.counting.proofs.Holding.{Holds, holds-as}
 use Rattle.counting.proofs.Passing.{checks}
 use Rattle.counting.proofs.Typed.{On}
 use Rattle.counting.proofs.Trees.{counts}
-use Rattle.room.specs.Elements.{elements, elementsOf, elements?}
+use Rattle.room.specs.Elements.{elements, elementsOf, elements?, restElements}
 use Rattle.room.proofs.Telling.{Origin, Tells, sound-refused}
 use Rattle.room.proofs.Spending.{free-testing, Spends, spends-none, spends-as, spends-under, spends-entered}
 use Rattle.room.proofs.Rows.{Settled, Headed, Pays, Each, none-left, one-more}
 use Rattle.room.proofs.Shaping.{spends-tuple, spends-ref, fielded-row, fielded-record}
 use Rattle.room.proofs.Leafing.{spends-lit, spends-range, spends-path, spends-variant}
-use Rattle.room.proofs.Filling.{spends-bind, spends-slice}
+use Rattle.room.proofs.Filling.{spends-bind, spends-slice-as}
 use Rattle.room.proofs.Choosing.{spends-or}
 
 -- a pattern is the first that is reached from itself
@@ -45,7 +46,7 @@ headed image (Pat.Tuple h args ellipsis) ty k = record { head = testing h k fals
 headed image (Pat.Or h alts) ty k = record { head = anOr h k false; others = _; ors = refl; is = λ f. refl }
 headed image (Pat.Record h fields args v) ty k = record { head = naming h k false (isEnum (shapeOf image (behindDerefs image ty (h .derefs)))); others = _; ors = refl; is = λ f. refl }
 headed image (Pat.Range h start end halfOpen) ty k = record { head = testing h k false (endCount start + endCount end) (endCount start + endCount end + (endCount start + endCount end)); others = _; ors = refl; is = λ f. refl }
-headed image (Pat.Slice h prefix rest suffix) ty k = record { head = binding h k false (cond (isSliceShape (tyOf image (h .ty) .shape)) 1 0) (cond (isSliceShape (tyOf image (h .ty) .shape)) (lengthStatements (restOf rest)) 0) (restBinding (restOf rest)); others = _; ors = refl; is = λ f. refl }
+headed image (Pat.Slice h prefix rest suffix) ty k = record { head = binding h k false (cond (isSliceShape (tyOf image (h .ty) .shape)) 1 0) (cond (isSliceShape (tyOf image (h .ty) .shape)) (lengthStatements rest) 0) (restBinding rest); others = _; ors = refl; is = λ f. refl }
 headed image (Pat.Path h unresolved) ty k = record { head = testing h k false 0 0; others = _; ors = refl; is = λ f. refl }
 headed image (Pat.Path h (variant v)) ty k = record { head = naming h k false (isEnum (shapeOf image (behindDerefs image ty (h .derefs)))); others = _; ors = refl; is = λ f. refl }
 headed image (Pat.Path h (local b)) ty k = record { head = testing h k false 0 0; others = _; ors = refl; is = λ f. refl }
@@ -97,7 +98,7 @@ module _ (A : Type 0) (base : Origin) (image : List ℕ) where
   pays-by pat g = record { spends = g; headed = headed image pat; settles = settles image (base .bindings) pat }
 
   mutual
-    unfolding patternMatchInner lowerings lowering? canFail failing canFail? reached reachings reaching? elements elementsOf elements?
+    unfolding patternMatchInner lowerings lowering? canFail failing canFail? reached reachings reaching? elements elementsOf elements? restElements
 
     -- every pattern
     pub spends-pattern : (pat : Pat) → Spending pat
@@ -110,7 +111,8 @@ module _ (A : Type 0) (base : Origin) (image : List ℕ) where
     spends-pattern (Pat.Record h fields args v) ty = spends-entered (h .number) (h .derefs) (spends-variant _ h v (fielded-record fields (each args)))
     spends-pattern (Pat.Range h start end halfOpen) ty = spends-leaf (h .number) (h .derefs) (spends-range _ h start end halfOpen)
     spends-pattern (Pat.Slice h prefix rest suffix) ty =
-        spends-entered (h .number) (h .derefs) (spends-slice (each prefix) (each suffix) _ h (restOf rest) (tyOf image (h .ty) .shape))
+        spends-entered (h .number) (h .derefs)
+        (spends-slice-as (each prefix) (each suffix) _ h (restOf rest) (tyOf image (h .ty) .shape) (lengthStatements rest) (restBinding rest) (statements-of rest) (binding-of rest))
     spends-pattern (Pat.Path h target) ty = spends-entered (h .number) (h .derefs) (spends-path _ h (base .bindings) target)
     spends-pattern (Pat.Lit h operand) ty = spends-leaf (h .number) (h .derefs) (spends-lit _ h (operand .kind) operand)
     spends-pattern (Pat.Bind h b s how annotation) ty = spends-entered (h .number) (h .derefs) (spends-bind _ h b how (spends-pattern? s (behindDerefs image ty (h .derefs))))

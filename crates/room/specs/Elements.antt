@@ -8,9 +8,8 @@ use Rattle.place.specs.declared.elems.ProjectionElem.{ProjectionElem}
 use Rattle.place.specs.declared.place_ty.PlaceTy.{PlaceTy}
 use Rattle.place.specs.PlaceTypes.{projectionTy, multiProjectionTy}
 use Rattle.pattern_matching.specs.Variants.{shapeOf}
-use Rattle.pattern_matching.specs.Slices.{RestOf}
-use Rattle.pattern_matching.specs.Patterns.{restOf}
-use Rattle.counting.specs.Reaching.{Argument, behindDerefs, inARow, byFields, fieldCount, isEnum, ofVariant, items, failing}
+use Rattle.counting.specs.Cases.{ifThere}
+use Rattle.counting.specs.Reaching.{Argument, behindDerefs, inARow, byFields, fieldCount, isEnum, ofVariant, sliceArguments, failing, restBinding}
 use Rattle.counting.specs.Counting.{one}
 
 -- the most that leads to one of the arguments and goes on from there, each at its type
@@ -25,10 +24,8 @@ mostOfAlternatives ty (fails ∷ fs) [] = 0
 mostOfAlternatives ty (fails ∷ fs) (alt ∷ alts) = max (alt ty) (cond (fails ty) (mostOfAlternatives ty fs alts) 0)
 
 -- a rest that is bound lies behind a Subslice
-unfoldable pub restElements : RestOf → ℕ
-restElements RestOf.none = 0
-restElements (RestOf.binds q b how) = 1
-restElements RestOf.ignores = 0
+unfoldable pub restElements : PatOpt → ℕ
+restElements rest = ifThere (restBinding rest) (λ b. 1) 0
 
 -- a variant of an enum lies behind a Downcast, one without fields too
 unfoldable pub pathElements : List ℕ → PlaceTy → Target → ℕ
@@ -55,7 +52,7 @@ module _ (image : List ℕ) where
         h .derefs + max (one (isEnum (shapeOf image here))) (mostOfArguments image here (ofVariant image here v (λ n. byFields fields (elementsOf args))))
     elements (Pat.Range h start end halfOpen) ty = h .derefs
     elements (Pat.Slice h prefix rest suffix) ty =
-        h .derefs + max (restElements (restOf rest)) (mostOfArguments image (behindDerefs image ty (h .derefs)) (items (elementsOf prefix) (elementsOf suffix)))
+        h .derefs + max (restElements rest) (mostOfArguments image (behindDerefs image ty (h .derefs)) (sliceArguments (elementsOf prefix) (elementsOf suffix)))
     elements (Pat.Path h target) ty = h .derefs + pathElements image (behindDerefs image ty (h .derefs)) target
     elements (Pat.Lit h operand) ty = h .derefs
     elements (Pat.Bind h b s how annotation) ty = h .derefs + elements? s (behindDerefs image ty (h .derefs))

@@ -9,7 +9,7 @@ use native.Mathlib.Omega.{arith}
 use borrow.Author.Needs.{needs}
 use lib.ListN.{length, drop}
 use Rattle.image.specs.Lists.{distinct}
-use Rattle.meaning.specs.Fits.{present}
+use Rattle.meaning.specs.Fit.{present}
 use Rattle.fit.proofs.Apart.{differ-again, differ-next, differ-end}
 
 abbrev Inv-loop : tie.InvT-loop

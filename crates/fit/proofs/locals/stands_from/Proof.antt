@@ -8,7 +8,7 @@ use native.Mathlib.Omega.{arith}
 use borrow.Author.Needs.{needs}
 use lib.ListN.{length, drop}
 use Rattle.image.specs.Lists.{member}
-use Rattle.meaning.specs.Fits.{present}
+use Rattle.meaning.specs.Fit.{present}
 use Rattle.fit.proofs.Apart.{no-local, stands-here, stands-next, stands-end}
 
 abbrev Inv-loop : tie.InvT-loop

@@ -8,7 +8,7 @@ use Rattle.pattern_rules.proofs.operands.is_char.Reads as is-char-reads
 use mathlib.Core.Path.{_∙_}
 use Rattle.image.specs.Operands.{operandValueHolds}
 use Rattle.image.specs.Types.{shapeBy}
-use Rattle.meaning.specs.Fitting.{constantFits}
+use Rattle.meaning.specs.Fit.{constantFits}
 use Rattle.fit_literals.proofs.Clauses.{bool-bytes-fit}
 
 returns : tie.Need-returns

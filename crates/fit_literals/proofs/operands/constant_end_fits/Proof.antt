@@ -7,7 +7,7 @@ use Rattle.image.proofs.rows.type_at.Reads as type-at-reads
 use mathlib.Core.Path.{refl}
 use native.Mathlib.Omega.{arith}
 use borrow.Author.Tests.{not-true, not-false, eq-eqb, ne-eqb}
-use Rattle.meaning.specs.Fitting.{endFits}
+use Rattle.meaning.specs.Fit.{endFits}
 use Rattle.fit_literals.proofs.Shapes.{kind-of}
 
 constant-fits-requires : tie.Need-constant-fits-requires

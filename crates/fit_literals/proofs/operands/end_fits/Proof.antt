@@ -11,7 +11,7 @@ use mathlib.Core.Path.{sym, _∙_}
 use native.Mathlib.Omega.{arith}
 use Rattle.image.specs.declared.kinds.OperandKind.{OperandKind}
 use Rattle.literals.proofs.Operands.{operand-listed}
-use Rattle.meaning.specs.Fitting.{literalFits, endFits}
+use Rattle.meaning.specs.Fit.{literalFits, endFits}
 use Rattle.fit_literals.proofs.Clauses.{literal-of, end-by}
 
 operand-at-requires : tie.Need-operand-at-requires

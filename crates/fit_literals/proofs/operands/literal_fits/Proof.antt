@@ -14,7 +14,7 @@ use mathlib.Core.Path.{_∙_}
 use native.Mathlib.Omega.{arith}
 use Rattle.image.specs.declared.kinds.OperandKind.{OperandKind}
 use Rattle.literals.proofs.Operands.{operand-listed, operand-lies}
-use Rattle.meaning.specs.Fitting.{literalFits}
+use Rattle.meaning.specs.Fit.{literalFits}
 use Rattle.fit_literals.proofs.Shapes.{holds-of, is-kind}
 use Rattle.fit_literals.proofs.Clauses.{integer-at, literal-by, integer-bytes, literal-integer, literal-other}
 

@@ -5,7 +5,8 @@ use Rattle.fit_literals.proofs.operands.refers_to_str.Lts as lts
 use Rattle.image.proofs.rows.type_at.Reads as type-at-reads
 use mathlib.Core.Path.{sym, _∙_}
 use native.Mathlib.Omega.{arith}
-use Rattle.meaning.specs.Typing.{refersToStr}
+use Rattle.counting.specs.Cases.{referent}
+use Rattle.meaning.specs.Fit.{refersToStr}
 use Rattle.fit_literals.proofs.Shapes.{kind-of, is-kind, reference-of, refers-inside, refers-not}
 
 type-at-requires : tie.Need-type-at-requires
@@ -18,7 +19,7 @@ type-at-requires-2 : tie.Need-type-at-requires-2
 type-at-requires-2 c κs = (c .before .before .before .before .pre .1, omega (arith, c .before .before .before .before .pre .1 .type-count, refers-inside _ _ (c .before .before .type-at .ensures) (c .before .before .before .before .pre .0) (c .before .before .before .before .pre .2) (c .if1 .left)))
 
 returns-2 : tie.Need-returns-2
-unfolding refersToStr
+unfolding refersToStr referent
 returns-2 c = rw (reference-of _ _ (c .before .before .before .before .type-at .ensures) (c .before .before .if1 .left)) (is-kind _ _ (c .before .type-at2 .ensures) (c .before .before .before .before .before .before .pre .0) (refers-inside _ _ (c .before .before .before .before .type-at .ensures) (c .before .before .before .before .before .before .pre .0) (c .before .before .before .before .before .before .pre .2) (c .before .before .if1 .left)) 4)
 
 pub refers-to-str-spec : {M : Type 1} → statement M

@@ -10,7 +10,7 @@ use native.Mathlib.Omega.{arith}
 use Rattle.image.specs.Tables.{listCount}
 use Rattle.image.specs.Rules.{listed}
 use Rattle.image.specs.Tree.{word?}
-use Rattle.meaning.specs.Fits.{fieldsThere}
+use Rattle.meaning.specs.Fit.{fieldsThere}
 use Rattle.fit_reached.proofs.Wording.{fields-end, field-missing, field-next}
 
 abbrev Inv-loop : tie.InvT-loop

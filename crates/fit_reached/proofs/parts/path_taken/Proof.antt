@@ -5,7 +5,7 @@ use Rattle.fit_reached.proofs.parts.path_taken.Reads as reads
 use Rattle.fit_reached.proofs.parts.path_taken.Lts as lts
 use Rattle.fit_reached.proofs.parts.variant_there.Reads as variant-there-reads
 use Rattle.image.specs.Tree.{target}
-use Rattle.meaning.specs.Fits.{pathTaken}
+use Rattle.meaning.specs.Fit.{pathTaken}
 
 returns : tie.Need-returns
 unfolding pathTaken target

@@ -9,7 +9,7 @@ use Rattle.image.proofs.rows.type_at.Reads as type-at-reads
 use mathlib.Core.Path.{sym, _∙_}
 use native.Mathlib.Omega.{arith}
 use Rattle.image.specs.declared.kinds.AdtKind.{AdtKind}
-use Rattle.meaning.specs.Typing.{discriminantsDiffer}
+use Rattle.meaning.specs.Fit.{discriminantsDiffer}
 use Rattle.fit_types.specs.Discriminants.{discriminants}
 use Rattle.fit_types.proofs.Shaped.{no-enum, adt-inside}
 use Rattle.fit_types.proofs.Apart.{differ-by}

@@ -12,7 +12,7 @@ use Rattle.image.specs.Tables.{listCount}
 use Rattle.image.specs.Lists.{distinct}
 use Rattle.image.specs.Rules.{listed}
 use Rattle.image.specs.Tree.{word?}
-use Rattle.meaning.specs.Typing.{fieldNumbers}
+use Rattle.meaning.specs.Fit.{fieldNumbers}
 use Rattle.fit_types.proofs.Fielding.{differ-again, differ-next, differ-end}
 
 abbrev Inv-loop : tie.InvT-loop

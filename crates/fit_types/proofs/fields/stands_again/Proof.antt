@@ -11,7 +11,7 @@ use Rattle.image.specs.Tables.{listCount}
 use Rattle.image.specs.Lists.{member}
 use Rattle.image.specs.Rules.{listed}
 use Rattle.image.specs.Tree.{word?}
-use Rattle.meaning.specs.Typing.{fieldNumbers}
+use Rattle.meaning.specs.Fit.{fieldNumbers}
 use Rattle.fit_types.proofs.Fielding.{again-absent, again-there, again-here, again-next, again-end}
 
 abbrev Inv-loop : tie.InvT-loop

@@ -6,7 +6,7 @@ use Rattle.fit_types.proofs.paths.path_fits.Lts as lts
 use Rattle.fit_literals.proofs.operands.constant_fits.Reads as constant-fits-reads
 use Rattle.fit_types.proofs.discriminants.discriminants_differ.Reads as discriminants-differ-reads
 use Rattle.image.specs.Tree.{target}
-use Rattle.meaning.specs.Fitting.{pathFits}
+use Rattle.meaning.specs.Fit.{pathFits}
 use Rattle.fit_types.proofs.Nodes.{constant-holds}
 
 constant-fits-requires : tie.Need-constant-fits-requires

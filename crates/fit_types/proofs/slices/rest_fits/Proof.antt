@@ -10,7 +10,7 @@ use mathlib.Core.Path.{_∙_}
 use native.Mathlib.Omega.{arith}
 use Rattle.image.specs.declared.kinds.PatKind.{PatKind}
 use Rattle.image.specs.Tree.{nodeBy}
-use Rattle.meaning.specs.Typing.{restFits}
+use Rattle.meaning.specs.Fit.{restFits}
 use Rattle.fit_types.proofs.Resting.{pattern-inside, no-rest, rest-by, bound-inside}
 
 returns : tie.Need-returns

@@ -55,7 +55,7 @@ use mathlib.Core.Path.{_≡_}
 use mathlib.Core.List.{map}
 use Rattle.image.specs.Rules.{listed}
 use Rattle.image.specs.Tree.{word?}
-use Rattle.meaning.specs.Fitting.{eachFits, byFieldsFit, itemsAllFit}
+use Rattle.meaning.specs.Fit.{byFieldsFit, itemsAllFit, eachFits}
 use Rattle.fit_types.specs.Numbers.{typeNumber}
 use Rattle.fit_types.specs.Parts.{fittingAt}
 
