@@ -1,2 +1,4 @@
 pub mod Tests
 pub mod Keeping
+pub mod Extending
+pub mod Added
