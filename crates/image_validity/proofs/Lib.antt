@@ -2,3 +2,4 @@ pub mod Tests
 pub mod Keeping
 pub mod Extending
 pub mod Added
+pub mod Steps
