@@ -3,3 +3,4 @@ pub mod Keeping
 pub mod Extending
 pub mod Added
 pub mod Steps
+pub mod Bindings
