@@ -4,3 +4,5 @@ pub mod Extending
 pub mod Added
 pub mod Steps
 pub mod Bindings
+pub mod Emits
+pub mod Makes
