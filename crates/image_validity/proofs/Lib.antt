@@ -6,3 +6,4 @@ pub mod Steps
 pub mod Bindings
 pub mod Emits
 pub mod Makes
+pub mod Types
