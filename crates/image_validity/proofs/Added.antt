@@ -139,12 +139,12 @@ module _ (sheet : List ℕ) (whole : Draft) (image : List ℕ) (g : Grown sheet 
       let word = words-there d (kind ∷ from ∷ size ∷ []) words in
       let first : listAt image o ≡ kind = ap (listAt image) (sym (add-zero o)) ∙ word 0 (omega arith) in
       let row : operandAt image o ≡ operandOfWords kind from size =
-        operand-words image o ∙ (λ i. operandOfWords (first i) (word 1 (omega arith) i) (word 2 (omega arith) i))
+      operand-words image o ∙ (λ i. operandOfWords (first i) (word 1 (omega arith) i) (word 2 (omega arith) i))
       in
       let long = length-append (d .bytes) (literalBytes v) in
       let value : operandBytes image (operandOfWords kind from size) ≡ literalBytes v =
-        operand-bytes-added sheet whole image g kind (length (d .bytes)) (literalBytes v) (omega (arith, long, begins-long bytes))
-        (λ k lt. begins-at bytes (length (d .bytes) + k) 0 (omega (arith, long)) ∙ getD-append-add (d .bytes) (literalBytes v) k 0)
+      operand-bytes-added sheet whole image g kind (length (d .bytes)) (literalBytes v) (omega (arith, long, begins-long bytes))
+      (λ k lt. begins-at bytes (length (d .bytes) + k) 0 (omega (arith, long)) ∙ getD-append-add (d .bytes) (literalBytes v) k 0)
       in
       rw row
       (and-three (leb (o + 3) (listCount image)) (operandLies image (operandOfWords kind from size)) _

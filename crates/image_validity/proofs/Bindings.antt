@@ -88,7 +88,7 @@ module _ (sheet : List ℕ) (whole : Draft) (image : List ℕ) (g : Grown sheet 
   array-good element many copy n h m c =
       record {
         holds = and-true (isFlag copy) (namesType image element && not (eqb many absent)) (ap not (ne-eqb copy absent (λ e. omega (arith, e))))
-        (and-true (namesType image element) (not (eqb many absent)) (named element h) (ap not (ne-eqb many absent (λ e. omega (arith, e)))));
+            (and-true (namesType image element) (not (eqb many absent)) (named element h) (ap not (ne-eqb many absent (λ e. omega (arith, e)))));
         alone = refl;
       }
 

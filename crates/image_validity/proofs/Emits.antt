@@ -144,9 +144,10 @@ items-in test (some before) many xs long h t =
     let inside = ltb-true before many h in
     let w = getD xs before absent in
     let split : allIn test (take before xs ++ w ∷ drop (suc before) xs) ≡ true = rw (split-at xs before absent (omega (arith, inside, long))) at t in
-    let behind = Rattle.image.proofs.Bools.all-in-right test (take before xs) (w ∷ drop (suc before) xs) split in
-    (in-both test (take before xs) (drop (suc before) xs) (Rattle.image.proofs.Bools.all-in-left test (take before xs) (w ∷ drop (suc before) xs) split) (and-right (test w) _ behind),
-    present-in test w (and-left (test w) (allIn test (drop (suc before) xs)) behind))
+    let behind = Rattle.image.proofs.Bools.all-in-right test (take before xs) (w ∷ drop (suc before) xs) split in (
+      in-both test (take before xs) (drop (suc before) xs) (Rattle.image.proofs.Bools.all-in-left test (take before xs) (w ∷ drop (suc before) xs) split) (and-right (test w) _ behind),
+      present-in test w (and-left (test w) (allIn test (drop (suc before) xs)) behind),
+    )
 
 pub items-count : (before : Option ℕ) (many : ℕ) (xs : List ℕ) → length xs ≡ many → restWithin before many ≡ true → length (itemWords before xs) ≡ prefixCount before many + suffixCount before many
 unfolding itemWords restWithin prefixCount suffixCount
@@ -228,8 +229,8 @@ module _ (sheet : List ℕ) (whole : Draft) (image : List ℕ) (g : Grown sheet 
       (record {
         named = type-named t h;
         shape = and-three _ _ _ (bound-holds lower stands 0 (lower-there lower upper (length stands) (step .stood .0 ∙ count)) (step .stood .1))
-        (bound-holds upper stands (cond lower 1 0) (upper-there lower upper (length stands) (step .stood .0 ∙ count)) (step .stood .1))
-        (flag-one dots);
+            (bound-holds upper stands (cond lower 1 0) (upper-there lower upper (length stands) (step .stood .0 ∙ count)) (step .stood .1))
+            (flag-one dots);
         subs = refl;
       })
       (λ q. omega (arith, step .once q))

@@ -169,6 +169,7 @@ module _ (sheet : List ℕ) where
 
   mutual
     unfolding emitted emittedParts
+
     pub emitted-extends : (w : Written) (names : List ℕ) (c : Context) (d : Draft) → Extends d (emitted sheet names w c d .draft)
     emitted-extends (written at n ps) names c d =
         extends-on (parts-extend ps names (resolved sheet names at n (partCount ps) c .reads) d)

@@ -7,3 +7,8 @@ pub mod Bindings
 pub mod Emits
 pub mod Makes
 pub mod Types
+pub mod Contexts
+pub mod Resolves
+pub mod Nodes
+pub mod Whole
+pub mod Valid

@@ -61,7 +61,7 @@ module _ (sheet : List ℕ) (whole : Draft) (image : List ℕ) (g : Grown sheet 
       let begin = words-begin (withList row from many) ws e x in
       let long = step .stood .0 in
       let all : subpatternsBy (patKind (row .kind)) image (withList row from many) ≡ ws =
-        subs from many ∙ (ap (listed image 1 from) (sym long) ∙ listed-words image ws from (list-there sheet whole image g e ws begin))
+      subs from many ∙ (ap (listed image 1 from) (sym long) ∙ listed-words image ws from (list-there sheet whole image g e ws begin))
       in
       emits-list (withList row from many) ws inPattern many d m t (shape from many (let r = list-room sheet whole image g e ws begin in omega (arith, r, long)))
       (λ q. let l = ap (times q) all in omega (arith, l))
@@ -81,7 +81,7 @@ module _ (sheet : List ℕ) (whole : Draft) (image : List ℕ) (g : Grown sheet 
       let begin = words-begin (withList row from many) ws e x in
       let long = step .stood .0 in
       let all : subpatternsBy (patKind (row .kind)) image (withList row from many) ≡ seconds ws =
-        subs from many ∙ listed-seconds image many ws from long (list-there sheet whole image g e ws begin)
+      subs from many ∙ listed-seconds image many ws from long (list-there sheet whole image g e ws begin)
       in
       emits-list (withList row from many) ws inRecord many d m t (shape from many (let r = list-room sheet whole image g e ws begin in omega (arith, r, long)))
       (λ q. let l = ap (times q) all in omega (arith, l))
@@ -105,10 +105,10 @@ module _ (sheet : List ℕ) (whole : Draft) (image : List ℕ) (g : Grown sheet 
       let long = step .stood .0 in
       let count = items-count before many stands long rest in
       let listing : listed image 1 from b ++ listed image 1 (from + b) c ≡ ws =
-        sym (listed-join image from b c) ∙ (ap (listed image 1 from) (sym count) ∙ listed-words image ws from (list-there sheet whole image g e ws begin))
+      sym (listed-join image from b c) ∙ (ap (listed image 1 from) (sym count) ∙ listed-words image ws from (list-there sheet whole image g e ws begin))
       in
       let all : listed image 1 from b ++ (listed image 1 (from + b) c ++ ifPresent w) ≡ ws ++ ifPresent w =
-        sym (mathlib.Core.List.append-assoc (listed image 1 from b) (listed image 1 (from + b) c) (ifPresent w)) ∙ ap (λ (l : List ℕ). l ++ ifPresent w) listing
+      sym (mathlib.Core.List.append-assoc (listed image 1 from b) (listed image 1 (from + b) c) (ifPresent w)) ∙ ap (λ (l : List ℕ). l ++ ifPresent w) listing
       in
       let inside = items-in _ before many stands long rest (step .stood .1) in
       emits-list row ws inPattern many d m h (le-leb (from + (b + c)) (listCount image) (let r = list-room sheet whole image g e ws begin in omega (arith, r, count)))

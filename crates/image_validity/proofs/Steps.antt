@@ -148,14 +148,16 @@ module _ (sheet : List ℕ) (image : List ℕ) where
   open-join inRecord many d xs ys h = seconds-join many xs ys (h .0)
 
   stood-join : (s : Stand) (many : ℕ) (d e : Draft) (xs ys : List ℕ) → nextPattern sheet d ≤ nextPattern sheet e → Stood s many d xs → Stood s 1 e ys → Stood s (suc many) e (xs ++ ys)
-  stood-join inPattern many d e xs ys le h g =
-      (omega (arith, length-append xs ys, h .0, g .0),
-      in-both _ xs ys (in-weaker _ _ xs (λ q. ltb-more q (nextPattern sheet d) (nextPattern sheet e) le) (h .1)) (g .1))
+  stood-join inPattern many d e xs ys le h g = (
+    omega (arith, length-append xs ys, h .0, g .0),
+    in-both _ xs ys (in-weaker _ _ xs (λ q. ltb-more q (nextPattern sheet d) (nextPattern sheet e) le) (h .1)) (g .1),
+  )
   stood-join inRange many d e xs ys le h g = (omega (arith, length-append xs ys, h .0, g .0), in-both _ xs ys (h .1) (g .1))
-  stood-join inRecord many d e xs ys le h g =
-      (omega (arith, length-append xs ys, h .0, g .0),
-      rw (seconds-join many xs ys (h .0))
-      (in-both _ (seconds xs) (seconds ys) (in-weaker _ _ (seconds xs) (λ q. ltb-more q (nextPattern sheet d) (nextPattern sheet e) le) (h .1)) (g .1)))
+  stood-join inRecord many d e xs ys le h g = (
+    omega (arith, length-append xs ys, h .0, g .0),
+    rw (seconds-join many xs ys (h .0))
+        (in-both _ (seconds xs) (seconds ys) (in-weaker _ _ (seconds xs) (λ q. ltb-more q (nextPattern sheet d) (nextPattern sheet e) le) (h .1)) (g .1)),
+  )
 
   -- one part more
   pub step-more : (s : Stand) (many : ℕ) (d : Draft) (m n : Made) → Step s many d m → Extends (m .draft) (n .draft) → Step s 1 (m .draft) n →
