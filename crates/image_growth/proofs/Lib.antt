@@ -1,0 +1,4 @@
+pub mod Standing
+pub mod Places
+pub mod Grows
+pub mod Operands
