@@ -11,10 +11,6 @@ use Rattle.image.specs.Tables.{typeCount, variantCount, patternCount, bindingCo
 use Rattle.image.specs.Rows.{typeAt, variantAt, patAt, bindingAt, listAt}
 use Rattle.pattern_images.specs.Drafts.{Draft, nextType, nextPattern, nextBinding, nextWord, nextByte}
 
--- the numbers of a list are bytes
-abbrev pub IsBytes : List ℕ → Type 0
-IsBytes image = (k : ℕ) → byteAt image k < 256
-
 -- a table's rows: the first `count` are the old ones, and those behind them are added
 pub record Rows {A : Type 0} (new : ℕ → A) (old : ℕ → A) (count : ℕ) (added : List A) : Type 0 where
   pub kept : (i : ℕ) → i < count → new i ≡ old i

@@ -24,6 +24,7 @@ use Rattle.pattern_images.specs.Drafts.{Draft, nextWord, nextByte, littleEndian
 use Rattle.pattern_images.specs.Emitting.{listFrom}
 use Rattle.image_growth.specs.Growing.{Grown}
 use Rattle.image_growth.proofs.Operands.{operandOfWords, operand-words, operand-bytes-added}
+use Rattle.image_validity.specs.Standing.{seconds}
 use Rattle.image_validity.proofs.Tests.{or-cases, and-three}
 use Rattle.image_validity.proofs.Extending.{Begins, begins-long, begins-at}
 
@@ -56,12 +57,6 @@ literal-value (boolValue false) h = refl
 literal-value (charValue v) h = rw (length-little-endian 4 v, little-endian-back 4 v (scalar-below v h)) h
 literal-value (wholeValue v) h = rw (length-little-endian 16 v)
 literal-value (minusValue v) h = rw (length-little-endian 16 _)
-
--- the second of each two
-unfoldable pub seconds : List ℕ → List ℕ
-seconds [] = []
-seconds (x ∷ []) = []
-seconds (x ∷ y ∷ zs) = y ∷ seconds zs
 
 -- words that stand in an image's list from a place on
 abbrev pub WordsAt : List ℕ → ℕ → List ℕ → Type 0

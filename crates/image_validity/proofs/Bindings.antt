@@ -20,8 +20,9 @@ use Rattle.pattern_typing.specs.Making.{BoundAt, boundAtType, boundAtArray}
 use Rattle.pattern_images.specs.Drafts.{Draft, nextType, nextBinding, addType, addBinding, alike, typeIn, likeIn, addUnless, withType, numberOr, numberOfType, bindingFor}
 use Rattle.pattern_images.specs.Emitting.{arrayRow, withBoundAt, boundType, referenceRow, withMode, modeType, newBinding, withBinding, bindingNumber}
 use Rattle.image_growth.specs.Growing.{Grown}
+use Rattle.image_validity.specs.Standing.{BindingGood, Good, TypeGood}
 use Rattle.image_validity.proofs.Extending.{Extends, extends-on, begins-long, extends-unless, extends-mode, extends-binding, extends-bound-at}
-use Rattle.image_validity.proofs.Steps.{Good, TypeGood, BindingGood, good-type, good-binding}
+use Rattle.image_validity.proofs.Steps.{good-type, good-binding}
 
 -- a number that is found passes the test, and is one of those looked at
 pub found : (test : ℕ → Bool) (many at i : ℕ) → firstFrom test at many ≡ some i → (test i ≡ true) × (i < at + many)
@@ -52,7 +53,7 @@ module _ (sheet : List ℕ) (whole : Draft) (image : List ℕ) (g : Grown sheet 
   types-most e x = omega (arith, begins-long (x .types), g .typesAre)
 
   -- types that are looked for
-  good-unless : (o : Option ℕ) (row : TypeRow) (e : Draft) → Good sheet image e → TypeGood sheet image (length (e .types)) row → Good sheet image (addUnless o row e)
+  good-unless : (o : Option ℕ) (row : TypeRow) (e : Draft) → Good sheet image e → TypeGood image (length (e .types)) row → Good sheet image (addUnless o row e)
   unfolding addUnless
   good-unless none row e h own = good-type sheet image row e h own
   good-unless (some t) row e h own = h
@@ -78,12 +79,12 @@ module _ (sheet : List ℕ) (whole : Draft) (image : List ℕ) (g : Grown sheet 
   flag-one true = refl
   flag-one false = refl
 
-  reference-good : (t mode n : ℕ) → t < typeCount image → TypeGood sheet image n (referenceRow t mode)
+  reference-good : (t mode n : ℕ) → t < typeCount image → TypeGood image n (referenceRow t mode)
   unfolding typeShapeHolds variantsBy
   reference-good t mode n h =
       record { holds = and-true (isFlag (cond (eqb mode byRef) 1 0)) (namesType image t) (flag-one (eqb mode byRef)) (named t h); alone = refl }
 
-  array-good : (element many copy n : ℕ) → element < typeCount image → many < absent → copy ≤ 1 → TypeGood sheet image n (arrayRow element many copy)
+  array-good : (element many copy n : ℕ) → element < typeCount image → many < absent → copy ≤ 1 → TypeGood image n (arrayRow element many copy)
   unfolding typeShapeHolds variantsBy
   array-good element many copy n h m c =
       record {

@@ -26,10 +26,11 @@ use Rattle.pattern_typing.specs.Making.{BoundAt, Making, notMade, rowMade, lite
 use Rattle.pattern_images.specs.Drafts.{Draft, Made, nextPattern, nextBinding, nextWord, nextByte, addPattern, addWords, addBytes, addOperand, literalBytes, operandKindOf, bindingFor}
 use Rattle.pattern_images.specs.Emitting.{made, withPattern, listFrom, withList, firstOr, itemWords, prefixCount, suffixCount, restWord, withBinding, bindingNumber, emitNode}
 use Rattle.image_growth.specs.Growing.{Grown}
-use Rattle.image_validity.proofs.Tests.{times, times-join, one, in-weaker, in-both, and-three, or-left, or-right}
+use Rattle.image_validity.specs.Standing.{Good, PatternGood, Step, Stood, below, one, openIn, seconds, times, used}
+use Rattle.image_validity.proofs.Tests.{times-join, in-weaker, in-both, and-three, or-left, or-right}
 use Rattle.image_validity.proofs.Extending.{Extends, extends-on, extends-pattern, extends-words, extends-with-binding, Begins, begins-long}
-use Rattle.image_validity.proofs.Added.{seconds, WordsAt, listed-words, listed-seconds, listed-join, list-there, list-room, operand-there}
-use Rattle.image_validity.proofs.Steps.{Good, PatternGood, Step, Stood, used, below, openIn, step-pattern, good-words, good-bytes}
+use Rattle.image_validity.proofs.Added.{WordsAt, listed-words, listed-seconds, listed-join, list-there, list-room, operand-there}
+use Rattle.image_validity.proofs.Steps.{step-pattern, good-words, good-bytes}
 use Rattle.image_validity.proofs.Bindings.{BoundHolds, named, binding-good, binding-patterns, binding-below}
 
 -- what is made of a node with so many parts: what its rows name exists, and its parts stand for what it asks for

@@ -21,10 +21,11 @@ use Rattle.pattern_typing.specs.Making.{Making, listMade, sliceMade, fieldMade,
 use Rattle.pattern_images.specs.Drafts.{Draft, Made, nextPattern, addPattern, addWords}
 use Rattle.pattern_images.specs.Emitting.{made, withPattern, listFrom, withList, itemWords, prefixCount, suffixCount, restWord, emitNode}
 use Rattle.image_growth.specs.Growing.{Grown}
-use Rattle.image_validity.proofs.Tests.{times, times-join, in-both}
+use Rattle.image_validity.specs.Standing.{Step, below, openIn, seconds, times, used}
+use Rattle.image_validity.proofs.Tests.{times-join, in-both}
 use Rattle.image_validity.proofs.Extending.{Extends, extends-on, extends-pattern, Begins}
-use Rattle.image_validity.proofs.Added.{seconds, listed-words, listed-seconds, listed-join, list-there, list-room}
-use Rattle.image_validity.proofs.Steps.{Step, used, below, step-pattern, good-words}
+use Rattle.image_validity.proofs.Added.{listed-words, listed-seconds, listed-join, list-there, list-room}
+use Rattle.image_validity.proofs.Steps.{step-pattern, good-words}
 use Rattle.image_validity.proofs.Emits.{Sound, soundRow, soundLiteral, soundOperand, soundNamed, soundRange, soundBind, soundReference, soundItems, soundFields, soundSlice, soundField, items-times, items-in, items-count, type-named, emits-row, emits-literal, emits-operand, emits-named, emits-range, emits-bind, emits-reference}
 
 module _ (sheet : List ℕ) (whole : Draft) (image : List ℕ) (g : Grown sheet whole image) where
@@ -38,7 +39,7 @@ module _ (sheet : List ℕ) (whole : Draft) (image : List ℕ) (g : Grown sheet 
 
   -- a row over a list of words: its subpatterns are among what stood open
   emits-list : (row : PatRow) (ws : List ℕ) (p : Stand) (many : ℕ) (d : Draft) (m : Made) → row .ty < typeCount sheet → patternShapeHolds (patKind (row .kind)) image row ≡ true →
-      ((q : ℕ) → times q (subpatternsBy (patKind (row .kind)) image row) ≤ times q (Rattle.image_validity.proofs.Steps.openIn p (m .stands))) →
+      ((q : ℕ) → times q (subpatternsBy (patKind (row .kind)) image row) ≤ times q (openIn p (m .stands))) →
       allIn (λ q. ltb q (nextPattern sheet (m .draft))) (subpatternsBy (patKind (row .kind)) image row) ≡ true →
       Step sheet image p many d m → Step sheet image inPattern 1 d (withPattern sheet row (addWords ws (m .draft)))
   emits-list row ws p many d m t shape fewer inside step =

@@ -21,15 +21,11 @@ use Rattle.image.specs.Patterns.{patternShapeHolds}
 use Rattle.pattern_syntax.specs.Formed.{Stand, inPattern, inRange, inRecord}
 use Rattle.pattern_images.specs.Drafts.{Draft, Made, emptyDraft, nextPattern, addType, addPattern, addBinding, addWords, addBytes}
 use Rattle.pattern_images.specs.Emitting.{made, withPattern}
-use Rattle.image_validity.proofs.Tests.{times, times-join, one, in-weaker, in-both, ltb-more}
+use Rattle.image_validity.specs.Standing.{one, times, below, seconds, openIn, Each, TypeGood, PatternGood, BindingGood, Good, used, Stood, Step}
+use Rattle.image_validity.proofs.Tests.{times-join, in-weaker, in-both, ltb-more}
 use Rattle.image_validity.proofs.Extending.{Extends, begins-long}
-use Rattle.image_validity.proofs.Added.{seconds}
 
--- each of a list's rows, by its number from n on
-abbrev pub Each : {A : Type 0} → (ℕ → A → Type 0) → ℕ → List A → Type 0
-Each holds n [] = Unit
-Each holds n (x ∷ xs) = holds n x × Each holds (suc n) xs
-
+-- each of a list's rows
 module _ {A : Type 0} (holds : ℕ → A → Type 0) where
   pub each-more : (xs : List A) (x : A) (n : ℕ) → Each holds n xs → holds (n + length xs) x → Each holds n (xs ++ (x ∷ []))
   each-more [] x n h own =
@@ -49,9 +45,6 @@ module _ {A : Type 0} (holds : ℕ → A → Type 0) where
       rw e (each-at xs (suc n) i other (h .1) (omega arith))
 
 -- one below a number
-abbrev pub below : ℕ → ℕ → ℕ
-below q n = one (ltb q n)
-
 pub below-next : (q n : ℕ) → below q (n + 1) ≡ below q n + one (eqb q n)
 below-next q n = by (ltb q n) refl (eqb q n) refl
   where
@@ -68,67 +61,26 @@ below-one q n = by (ltb q n)
     by true = omega arith
     by false = omega arith
 
--- numbers that stand for what is still open: patterns, operands, or fields each with a pattern
-abbrev pub openIn : Stand → List ℕ → List ℕ
-openIn inPattern stands = stands
-openIn inRange stands = []
-openIn inRecord stands = seconds stands
-
 module _ (sheet : List ℕ) (image : List ℕ) where
-  -- rows that hold
-  pub record TypeGood (n : ℕ) (row : TypeRow) : Type 0 where
-    pub holds : isFlag (row .copy) && typeShapeHolds (typeKind (row .kind)) image row ≡ true
-    pub alone : variantsBy (typeKind (row .kind)) row ≡ []
-
-  pub record PatternGood (n : ℕ) (row : PatRow) : Type 0 where
-    pub named : namesType image (row .ty) ≡ true
-    pub shape : patternShapeHolds (patKind (row .kind)) image row ≡ true
-    pub subs : allIn (λ q. ltb q n) (subpatternsBy (patKind (row .kind)) image row) ≡ true
-
-  pub record BindingGood (n : ℕ) (row : BindingRow) : Type 0 where
-    pub holds : namesType image (row .ty) && isFlag (row .picked) ≡ true
-
-  pub record Good (d : Draft) : Type 0 where
-    pub called : length (d .called) ≡ length (d .bindings)
-    pub types : Each TypeGood 0 (d .types)
-    pub patterns : Each PatternGood (patternCount sheet) (d .patterns)
-    pub bindings : Each BindingGood 0 (d .bindings)
-
-  -- the subpatterns of rows
-  unfoldable pub used : List PatRow → List ℕ
-  used [] = []
-  used (r ∷ rs) = subpatternsBy (patKind (r .kind)) image r ++ used rs
-
-  pub used-more : (q : ℕ) (rs : List PatRow) (r : PatRow) → times q (used (rs ++ (r ∷ []))) ≡ times q (used rs) + times q (subpatternsBy (patKind (r .kind)) image r)
+  -- the subpatterns of a row more
+  pub used-more : (q : ℕ) (rs : List PatRow) (r : PatRow) → times q (used image (rs ++ (r ∷ []))) ≡ times q (used image rs) + times q (subpatternsBy (patKind (r .kind)) image r)
   unfolding used times
   used-more q [] r = ap (times q) (append-nil (subpatternsBy (patKind (r .kind)) image r)) ∙ sym (native.Mathlib.Nat.zero-add (times q (subpatternsBy (patKind (r .kind)) image r)))
   used-more q (x ∷ rs) r =
       let own = subpatternsBy (patKind (x .kind)) image x in
-      omega (arith, times-join q own (used (rs ++ (r ∷ []))), times-join q own (used rs), used-more q rs r)
-
-  -- what stands for so many parts
-  abbrev pub Stood : Stand → ℕ → Draft → List ℕ → Type 0
-  Stood inPattern many d stands = (length stands ≡ many) × (allIn (λ q. ltb q (nextPattern sheet d)) stands ≡ true)
-  Stood inRange many d stands = (length stands ≡ many) × (allIn (operandHolds image) stands ≡ true)
-  Stood inRecord many d stands = (length stands ≡ 2 * many) × (allIn (λ q. ltb q (nextPattern sheet d)) (seconds stands) ≡ true)
-
-  -- so many parts lead from a draft to what is made: each number from the next pattern before to the one behind is used or open once
-  pub record Step (s : Stand) (many : ℕ) (d : Draft) (m : Made) : Type 0 where
-    pub good : Good (m .draft)
-    pub once : (q : ℕ) → times q (used (m .draft .patterns)) + times q (openIn s (m .stands)) + below q (nextPattern sheet d) ≤ times q (used (d .patterns)) + below q (nextPattern sheet (m .draft))
-    pub stood : Stood s many (m .draft) (m .stands)
+      omega (arith, times-join q own (used image (rs ++ (r ∷ []))), times-join q own (used image rs), used-more q rs r)
 
   -- nothing is done
-  pub step-none : (s : Stand) (d : Draft) → Good d → Step s 0 d (made d [])
+  pub step-none : (s : Stand) (d : Draft) → Good sheet image d → Step sheet image s 0 d (made d [])
   unfolding times seconds allIn
   step-none s d h = record { good = h; once = λ q. by s q; stood = stands s }
     where
-      by : (k : Stand) (q : ℕ) → times q (used (d .patterns)) + times q (openIn k []) + below q (nextPattern sheet d) ≤ times q (used (d .patterns)) + below q (nextPattern sheet d)
+      by : (k : Stand) (q : ℕ) → times q (used image (d .patterns)) + times q (openIn k []) + below q (nextPattern sheet d) ≤ times q (used image (d .patterns)) + below q (nextPattern sheet d)
       by inPattern q = omega arith
       by inRange q = omega arith
       by inRecord q = omega arith
 
-      stands : (k : Stand) → Stood k 0 d []
+      stands : (k : Stand) → Stood sheet image k 0 d []
       stands inPattern = (refl, refl)
       stands inRange = (refl, refl)
       stands inRecord = (refl, refl)
@@ -142,12 +94,12 @@ module _ (sheet : List ℕ) (image : List ℕ) where
   seconds-join (suc n) (x ∷ []) ys e = absurd (omega (arith, e))
   seconds-join (suc n) (x ∷ y ∷ xs) ys e = ap (_∷_ y) (seconds-join n xs ys (omega (arith, e)))
 
-  open-join : (s : Stand) (many : ℕ) (d : Draft) (xs ys : List ℕ) → Stood s many d xs → openIn s (xs ++ ys) ≡ openIn s xs ++ openIn s ys
+  open-join : (s : Stand) (many : ℕ) (d : Draft) (xs ys : List ℕ) → Stood sheet image s many d xs → openIn s (xs ++ ys) ≡ openIn s xs ++ openIn s ys
   open-join inPattern many d xs ys h = refl
   open-join inRange many d xs ys h = refl
   open-join inRecord many d xs ys h = seconds-join many xs ys (h .0)
 
-  stood-join : (s : Stand) (many : ℕ) (d e : Draft) (xs ys : List ℕ) → nextPattern sheet d ≤ nextPattern sheet e → Stood s many d xs → Stood s 1 e ys → Stood s (suc many) e (xs ++ ys)
+  stood-join : (s : Stand) (many : ℕ) (d e : Draft) (xs ys : List ℕ) → nextPattern sheet d ≤ nextPattern sheet e → Stood sheet image s many d xs → Stood sheet image s 1 e ys → Stood sheet image s (suc many) e (xs ++ ys)
   stood-join inPattern many d e xs ys le h g = (
     omega (arith, length-append xs ys, h .0, g .0),
     in-both _ xs ys (in-weaker _ _ xs (λ q. ltb-more q (nextPattern sheet d) (nextPattern sheet e) le) (h .1)) (g .1),
@@ -160,8 +112,8 @@ module _ (sheet : List ℕ) (image : List ℕ) where
   )
 
   -- one part more
-  pub step-more : (s : Stand) (many : ℕ) (d : Draft) (m n : Made) → Step s many d m → Extends (m .draft) (n .draft) → Step s 1 (m .draft) n →
-      Step s (suc many) d (made (n .draft) (m .stands ++ n .stands))
+  pub step-more : (s : Stand) (many : ℕ) (d : Draft) (m n : Made) → Step sheet image s many d m → Extends (m .draft) (n .draft) → Step sheet image s 1 (m .draft) n →
+      Step sheet image s (suc many) d (made (n .draft) (m .stands ++ n .stands))
   step-more s many d m n first grows second =
       record {
         good = second .good;
@@ -172,38 +124,38 @@ module _ (sheet : List ℕ) (image : List ℕ) where
       }
 
   -- rows more
-  pub good-type : (row : TypeRow) (d : Draft) → Good d → TypeGood (length (d .types)) row → Good (addType row d)
+  pub good-type : (row : TypeRow) (d : Draft) → Good sheet image d → TypeGood image (length (d .types)) row → Good sheet image (addType row d)
   unfolding addType
   good-type row d h own =
       record {
         called = h .called;
-        types = each-more TypeGood (d .types) row 0 (h .types) (rw (native.Mathlib.Nat.zero-add (length (d .types))) own);
+        types = each-more (TypeGood image) (d .types) row 0 (h .types) (rw (native.Mathlib.Nat.zero-add (length (d .types))) own);
         patterns = h .patterns;
         bindings = h .bindings;
       }
 
-  pub good-binding : (row : BindingRow) (name : List ℕ) (d : Draft) → Good d → BindingGood (length (d .bindings)) row → Good (addBinding row name d)
+  pub good-binding : (row : BindingRow) (name : List ℕ) (d : Draft) → Good sheet image d → BindingGood image (length (d .bindings)) row → Good sheet image (addBinding row name d)
   unfolding addBinding
   good-binding row name d h own =
       record {
         called = omega (arith, length-append (d .called) (name ∷ []), length-append (d .bindings) (row ∷ []), h .called);
         types = h .types;
         patterns = h .patterns;
-        bindings = each-more BindingGood (d .bindings) row 0 (h .bindings) (rw (native.Mathlib.Nat.zero-add (length (d .bindings))) own);
+        bindings = each-more (BindingGood image) (d .bindings) row 0 (h .bindings) (rw (native.Mathlib.Nat.zero-add (length (d .bindings))) own);
       }
 
-  pub good-words : (ws : List ℕ) (d : Draft) → Good d → Good (addWords ws d)
+  pub good-words : (ws : List ℕ) (d : Draft) → Good sheet image d → Good sheet image (addWords ws d)
   unfolding addWords
   good-words ws d h = record { called = h .called; types = h .types; patterns = h .patterns; bindings = h .bindings }
 
-  pub good-bytes : (bs : List ℕ) (d : Draft) → Good d → Good (addBytes bs d)
+  pub good-bytes : (bs : List ℕ) (d : Draft) → Good sheet image d → Good sheet image (addBytes bs d)
   unfolding addBytes
   good-bytes bs d h = record { called = h .called; types = h .types; patterns = h .patterns; bindings = h .bindings }
 
   -- a pattern more, whose subpatterns were open
-  pub step-pattern : (row : PatRow) (d e : Draft) → Good e → PatternGood (nextPattern sheet e) row →
-      ((q : ℕ) → times q (used (e .patterns)) + times q (subpatternsBy (patKind (row .kind)) image row) + below q (nextPattern sheet d) ≤ times q (used (d .patterns)) + below q (nextPattern sheet e)) →
-      Step inPattern 1 d (withPattern sheet row e)
+  pub step-pattern : (row : PatRow) (d e : Draft) → Good sheet image e → PatternGood image (nextPattern sheet e) row →
+      ((q : ℕ) → times q (used image (e .patterns)) + times q (subpatternsBy (patKind (row .kind)) image row) + below q (nextPattern sheet d) ≤ times q (used image (d .patterns)) + below q (nextPattern sheet e)) →
+      Step sheet image inPattern 1 d (withPattern sheet row e)
   unfolding addPattern times allIn
   step-pattern row d e h own once =
       let long = length-append (e .patterns) (row ∷ []) in
@@ -212,7 +164,7 @@ module _ (sheet : List ℕ) (image : List ℕ) where
         good = record {
           called = h .called;
           types = h .types;
-          patterns = each-more PatternGood (e .patterns) row (patternCount sheet) (h .patterns) own;
+          patterns = each-more (PatternGood image) (e .patterns) row (patternCount sheet) (h .patterns) own;
           bindings = h .bindings;
         };
         once = λ q. omega (arith, used-more q (e .patterns) row, once q, below-next q (nextPattern sheet e), ap (below q) next);

@@ -10,6 +10,7 @@ use borrow.Author.Tests.{ltb-true, lt-ltb, leb-true, le-leb, eqb-true, eqb-false
 use lib.Dec.{eqb, ltb, leb}
 use lib.ListN.{length}
 use Rattle.image.specs.Lists.{allBelow, allIn, member, distinct, gather}
+use Rattle.image_validity.specs.Standing.{one, times}
 use Rattle.image.proofs.Bools.{and-left, and-right, and-true}
 
 -- what holds of each number below n
@@ -92,14 +93,7 @@ in-gathered f test a (suc n) h =
     in-both test (f a) (gather f (a + 1) n) (ap (λ (k : ℕ). allIn test (f k)) (sym (add-zero a)) ∙ h 0 (omega arith))
     (in-gathered f test (a + 1) n (λ i lt. let e : a + 1 + i ≡ a + suc i = omega arith in ap (λ (k : ℕ). allIn test (f k)) e ∙ h (suc i) (omega arith)))
 
--- how often a number stands in a list
-abbrev pub one : Bool → ℕ
-one b = cond b 1 0
-
-unfoldable pub times : ℕ → List ℕ → ℕ
-times q [] = 0
-times q (x ∷ xs) = one (eqb q x) + times q xs
-
+-- how often a number stands in joined lists
 pub times-join : (q : ℕ) (xs ys : List ℕ) → times q (xs ++ ys) ≡ times q xs + times q ys
 unfolding times
 times-join q [] ys = omega arith

@@ -34,12 +34,14 @@ use Rattle.pattern_images.specs.Drafts.{Draft, Made, emptyDraft, nextType, next
 use Rattle.pattern_images.specs.Emitting.{emitted}
 use Rattle.pattern_images.specs.Imaging.{imageWith, derefsWithin, withinImageLimits}
 use Rattle.pattern_reading.specs.Reads.{draftOf}
-use Rattle.image_growth.specs.Growing.{IsBytes, Grown}
+use Rattle.image_growth.specs.Growing.{Grown}
+use Rattle.image_validity.specs.Validity.{Readable, HasValidImage}
 use Rattle.image_growth.proofs.Grows.{grown}
-use Rattle.image_validity.proofs.Tests.{below-all, in-weaker, ltb-more, and-three, gather-split, in-gathered, times, times-join, one, distinct-by-times, times-distinct, times-failing}
+use Rattle.image_validity.specs.Standing.{BindingGood, Good, PatternGood, Step, TypeGood, below, one, times, used}
+use Rattle.image_validity.proofs.Tests.{below-all, in-weaker, ltb-more, and-three, gather-split, in-gathered, times-join, distinct-by-times, times-distinct, times-failing}
 use Rattle.image_validity.proofs.Keeping.{sheet-below, sheet-once, type-kept, variant-kept, binding-kept, pattern-kept, below-kept, used-kept, adts-kept}
 use Rattle.image_validity.proofs.Extending.{extends-same}
-use Rattle.image_validity.proofs.Steps.{each-at, below, below-one, TypeGood, PatternGood, BindingGood, Good, used, Step}
+use Rattle.image_validity.proofs.Steps.{each-at, below-one}
 use Rattle.image_validity.proofs.Emits.{in-at}
 use Rattle.image_validity.proofs.Whole.{tree-step}
 
@@ -84,18 +86,18 @@ derefs-within sheet d h =
     and-six (leb (nextType sheet d) 256) (leb (nextPattern sheet d) 512) (leb (nextBinding sheet d) 256) (leb (nextWord sheet d) 2048) (leb (nextByte sheet d) 16384) (derefsWithin (d .patterns)) h .1 .1 .1 .1 .1
 
 -- the subpatterns of rows that stand one behind the other
-gather-used : (sheet image : List ℕ) (rs : List PatRow) (from : ℕ) → ((i : ℕ) → i < length rs → patAt image (from + i) ≡ getD rs i noPattern) →
-    gather (subpatterns image) from (length rs) ≡ used sheet image rs
+gather-used : (image : List ℕ) (rs : List PatRow) (from : ℕ) → ((i : ℕ) → i < length rs → patAt image (from + i) ≡ getD rs i noPattern) →
+    gather (subpatterns image) from (length rs) ≡ used image rs
 unfolding gather used
-gather-used sheet image [] from h = refl
-gather-used sheet image (r ∷ rs) from h =
+gather-used image [] from h = refl
+gather-used image (r ∷ rs) from h =
     ap₂ _++_ (ap (λ (row : PatRow). subpatternsBy (patKind (row .kind)) image row) (ap (patAt image) (sym (add-zero from)) ∙ h 0 (omega arith)))
-    (gather-used sheet image rs (from + 1)
+    (gather-used image rs (from + 1)
     (λ i lt. let e : from + 1 + i ≡ from + suc i = omega arith in ap (patAt image) e ∙ h (suc i) (omega arith)))
 
 module _ (sheet : List ℕ) (whole : Draft) (image : List ℕ) (g : Grown sheet whole image) (holds : sheetHolds sheet ≡ true) (good : Good sheet image whole) where
-  added-type : (i : ℕ) → i < length (whole .types) → TypeGood sheet image (0 + i) (getD (whole .types) i noType)
-  added-type i lt = each-at (TypeGood sheet image) (whole .types) 0 i noType (good .types) lt
+  added-type : (i : ℕ) → i < length (whole .types) → TypeGood image (0 + i) (getD (whole .types) i noType)
+  added-type i lt = each-at (TypeGood image) (whole .types) 0 i noType (good .types) lt
 
   all-types : allBelow (typeHolds image) (typeCount image) ≡ true
   unfolding typeHolds
@@ -109,8 +111,8 @@ module _ (sheet : List ℕ) (whole : Draft) (image : List ℕ) (g : Grown sheet 
   no-shared-variant : adtsShareNoVariant image ≡ true
   no-shared-variant = adts-kept sheet whole image g holds (λ i lt. rw (g .types .behind i noType lt) (added-type i lt .alone))
 
-  added-pattern : (i : ℕ) → i < length (whole .patterns) → PatternGood sheet image (patternCount sheet + i) (getD (whole .patterns) i noPattern)
-  added-pattern i lt = each-at (PatternGood sheet image) (whole .patterns) (patternCount sheet) i noPattern (good .patterns) lt
+  added-pattern : (i : ℕ) → i < length (whole .patterns) → PatternGood image (patternCount sheet + i) (getD (whole .patterns) i noPattern)
+  added-pattern i lt = each-at (PatternGood image) (whole .patterns) (patternCount sheet) i noPattern (good .patterns) lt
 
   all-patterns : derefsWithin (whole .patterns) ≡ true → allBelow (patternHolds image) (patternCount image) ≡ true
   unfolding patternHolds
@@ -130,7 +132,7 @@ module _ (sheet : List ℕ) (whole : Draft) (image : List ℕ) (g : Grown sheet 
   unfolding bindingHolds
   all-bindings =
       old-and-added (bindingHolds image) (bindingCount sheet) (length (whole .bindings)) (bindingCount image) (g .bindingsAre) (binding-kept sheet whole image g holds)
-      (λ i lt. rw (g .bindings .behind i noBinding lt) (each-at (BindingGood sheet image) (whole .bindings) 0 i noBinding (good .bindings) lt .holds))
+      (λ i lt. rw (g .bindings .behind i noBinding lt) (each-at (BindingGood image) (whole .bindings) 0 i noBinding (good .bindings) lt .holds))
 
   -- the sheet's own patterns use numbers of the sheet, each at most once
   sheet-uses : (q : ℕ) → times q (gather (subpatterns sheet) 0 (patternCount sheet)) ≤ below q (patternCount sheet)
@@ -147,19 +149,19 @@ module _ (sheet : List ℕ) (whole : Draft) (image : List ℕ) (g : Grown sheet 
           in
           omega (arith, none)
 
-  all-used : gather (subpatterns image) 0 (patternCount image) ≡ gather (subpatterns sheet) 0 (patternCount sheet) ++ used sheet image (whole .patterns)
+  all-used : gather (subpatterns image) 0 (patternCount image) ≡ gather (subpatterns sheet) 0 (patternCount sheet) ++ used image (whole .patterns)
   all-used =
       ap (gather (subpatterns image) 0) (g .patternsAre)
       ∙ (gather-split (subpatterns image) 0 (patternCount sheet) (length (whole .patterns))
       ∙ ap₂ _++_ (used-kept sheet whole image g holds)
       (ap (λ (k : ℕ). gather (subpatterns image) k (length (whole .patterns))) (zero-add (patternCount sheet))
-      ∙ gather-used sheet image (whole .patterns) (patternCount sheet) (λ i lt. g .patterns .behind i noPattern lt)))
+      ∙ gather-used image (whole .patterns) (patternCount sheet) (λ i lt. g .patterns .behind i noPattern lt)))
 
-  once-all : ((q : ℕ) → times q (used sheet image (whole .patterns)) + below q (patternCount sheet) ≤ 1) → usedOnce image ≡ true
+  once-all : ((q : ℕ) → times q (used image (whole .patterns)) + below q (patternCount sheet) ≤ 1) → usedOnce image ≡ true
   unfolding usedOnce
   once-all h =
       distinct-by-times (gather (subpatterns image) 0 (patternCount image))
-      (λ q. omega (arith, ap (times q) all-used, times-join q (gather (subpatterns sheet) 0 (patternCount sheet)) (used sheet image (whole .patterns)), sheet-uses q, h q))
+      (λ q. omega (arith, ap (times q) all-used, times-join q (gather (subpatterns sheet) 0 (patternCount sheet)) (used image (whole .patterns)), sheet-uses q, h q))
 
 frame-holds : (sheet : List ℕ) (whole : Draft) (image : List ℕ) → Grown sheet whole image → (countsWhatFollows image ≡ true) × ((versionIsOne image ≡ true) × (tablesFillTheRest image ≡ true))
 unfolding countsWhatFollows versionIsOne tablesFillTheRest
@@ -181,21 +183,21 @@ good-empty : (sheet image : List ℕ) → Good sheet image emptyDraft
 good-empty sheet image = record { called = refl; types = tt; patterns = tt; bindings = tt }
 
 -- The theorem.
-pub image-valid : (sheet names : List ℕ) (expected : ℕ) (w : Written) → IsBytes sheet → sheetHolds sheet ≡ true → namesHold sheet names ≡ true → expected < typeCount sheet →
-    formed w inPattern ≡ true → refusedIn sheet names w (typed expected byValue) ≡ none → withinImageLimits sheet (draftOf sheet names expected w) ≡ true →
-    valid (imageWith sheet (draftOf sheet names expected w)) ≡ true
+pub image-valid : (sheet names : List ℕ) (expected : ℕ) (w : Written) → Readable sheet names expected w → HasValidImage sheet names expected w
 unfolding valid allTrue used times
-image-valid sheet names expected w bytes holds named there form taken within =
+image-valid sheet names expected w readable =
+    let holds = readable .sheet-holds in
     let whole = draftOf sheet names expected w in
     let image = imageWith sheet whole in
     let g = grown sheet whole holds in
-    let step = tree-step sheet names whole image g holds named bytes w inPattern (typed expected byValue) emptyDraft form (there, omega arith) taken (good-empty sheet image) (extends-same whole) in
+    let step = tree-step sheet names whole image g holds (readable .names-hold) (readable .bytes) w inPattern (typed expected byValue) emptyDraft (readable .is-formed)
+    (readable .exists, omega arith) (readable .taken) (good-empty sheet image) (extends-same whole) in
     let good = step .good in
     let frame = frame-holds sheet whole image g in
     let root = ltb-true _ (nextPattern sheet whole) (in-at (λ q. ltb q (nextPattern sheet whole)) (emitted sheet names w (typed expected byValue) emptyDraft .stands) 0 0 (step .stood .1) (let l = step .stood .0 in omega (arith, l))) in
-    let few = derefs-within sheet whole within in
+    let few = derefs-within sheet whole (readable .within) in
     let start : nextPattern sheet emptyDraft ≡ patternCount sheet = add-zero (patternCount sheet) in
-    let once : (q : ℕ) → times q (used sheet image (whole .patterns)) + below q (patternCount sheet) ≤ 1 =
+    let once : (q : ℕ) → times q (used image (whole .patterns)) + below q (patternCount sheet) ≤ 1 =
     λ q. let l = step .once q in omega (arith, l, ap (below q) start, below-one q (nextPattern sheet whole))
     in
     and-true _ _ (frame .0)
@@ -208,4 +210,4 @@ image-valid sheet names expected w bytes holds named there form taken within =
     (and-true _ _ (all-bindings sheet whole image g holds good)
     (and-true _ _ (all-below sheet whole image g holds good)
     (and-true _ _ (once-all sheet whole image g holds good once)
-    (and-true _ _ (limits-hold sheet whole image g holds within (omega (arith, root))) refl))))))))))
+    (and-true _ _ (limits-hold sheet whole image g holds (readable .within) (omega (arith, root))) refl))))))))))
