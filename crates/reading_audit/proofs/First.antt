@@ -99,6 +99,7 @@ module _ (sheet names : List ℕ) where
   -- a position that is told is some node's own
   mutual
     unfolding refusedIn refusedAmong readsParts ownRefusal
+
     pub refused-inside : (w : Written) (c : Context) (a : ℕ) → refusedIn sheet names w c ≡ some a → RefusedInside sheet names w c a
     refused-inside (written at n ps) c a e =
         ⊎-elim
@@ -117,6 +118,7 @@ module _ (sheet names : List ℕ) where
   -- and no node's own is before it
   mutual
     unfolding refusedIn refusedAmong readsParts ownRefusal
+
     least-inside :
         (w : Written) (c : Context) (v : Written) (k : Context) (b : ℕ) → ReadsInside sheet names w c v k → ownRefusal sheet names v k ≡ some b
         → AtMost (refusedIn sheet names w c) b
@@ -142,9 +144,9 @@ module _ (sheet names : List ℕ) where
         one = refused-inside w c a e;
         first =
             λ other r.
-                let m = least-inside w c (r .node) (r .read) other (r .place) (r .own) in
-                let same : some (m .value) ≡ some a = sym (m .is) ∙ e in
-                let v : m .value ≡ a = cc in
-                let h = m .below in
-                omega arith;
+            let m = least-inside w c (r .node) (r .read) other (r .place) (r .own) in
+            let same : some (m .value) ≡ some a = sym (m .is) ∙ e in
+            let v : m .value ≡ a = cc in
+            let h = m .below in
+            omega arith;
       }
