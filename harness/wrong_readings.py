@@ -63,7 +63,7 @@ CHANGES = (
     ("a name bound again makes another binding", "pattern_images", "Emitting", "withBinding sheet (some b) mode name at d = d", "withBinding sheet (some b) mode name at d = newBinding sheet mode name at d"),
     ("17 derefs are taken", "pattern_images", "Imaging", "derefsWithin (r ∷ rs) = leb (r .derefs) 16 && derefsWithin rs", "derefsWithin (r ∷ rs) = leb (r .derefs) 17 && derefsWithin rs"),
     ("a sheet has a pattern", "type_sheets", "Sheets", "    && leb (patternCount sheet) 512", "    && (leb 1 (patternCount sheet) && leb (patternCount sheet) 512)"),
-    ("a sheet's types are not looked at", "type_sheets", "Sheets", "    ∷ allBelow (typeHolds sheet) (typeCount sheet)", "    ∷ true"),
+    ("a sheet's types are not looked at", "type_sheets", "Sheets", "    ∷ allBelow (typeHolds sheet) (typeCount sheet)", "    ∷ allBelow (typeHolds sheet) 0"),
     ("a missing type is taken", "pattern_reading", "Reads", "    (cond (ltb expected (typeCount sheet) && namesHold sheet names) (readTyped sheet names expected w) (refusedWith 2 absent))",
      "    (cond (namesHold sheet names) (readTyped sheet names expected w) (refusedWith 2 absent))"),
     ("a limit is told before a name", "pattern_reading", "Reads", "    unlessRefused (refusedIn sheet names w (typed expected byValue)) (imaged sheet (draftOf sheet names expected w))",
