@@ -54,7 +54,7 @@ unfolding wordsBytes wordBytes
 tables-stand sheet d = stands-right (imageWith sheet d) 5 (wordsBytes (counts sheet d)) (tablesWith sheet d) (counts-stand sheet d)
 
 -- how long the tables are
-length-tables : (sheet : List ℕ) (d : Draft) → length sheet ≡ tablesEnd sheet →
+pub length-tables : (sheet : List ℕ) (d : Draft) → length sheet ≡ tablesEnd sheet →
     length (tablesWith sheet d) ≡ 10 * nextType sheet d + 6 * variantCount sheet + 14 * nextPattern sheet d + 4 * nextBinding sheet d + 2 * nextWord sheet d + nextByte sheet d
 unfolding tablesWith
 length-tables sheet d filled =
@@ -99,7 +99,7 @@ image-counted sheet d =
     let n = length (behindLength sheet d) in
     omega (arith, length-append (longBytes n) (behindLength sheet d), long-back n (behindLength sheet d))
 
-image-long : (sheet : List ℕ) (d : Draft) → length (imageWith sheet d) ≡ 17 + length (tablesWith sheet d)
+pub image-long : (sheet : List ℕ) (d : Draft) → length (imageWith sheet d) ≡ 17 + length (tablesWith sheet d)
 unfolding imageWith longBytes wordsBytes wordBytes behindLength
 image-long sheet d = omega arith
 

@@ -13,19 +13,10 @@ use Rattle.image.specs.Tables.{typeCount, variantCount, patternCount, bindingCo
 use Rattle.image.specs.Rows.{typeRow, typeAt, variantRow, variantAt, patRow, patAt, bindingRow, bindingAt, listAt}
 use Rattle.pattern_images.specs.Drafts.{Draft, nextType, nextPattern, nextBinding, nextWord, nextByte}
 use Rattle.pattern_images.specs.Imaging.{wordsBytes, wordBytes, typeBytes, patternBytes, bindingBytes, tableOf, tablesWith}
-use Rattle.image_growth.specs.Growing.{Rows, dataByte}
+use Rattle.image_growth.specs.Growing.{typeWords, patternWords, bindingWords, Rows, dataByte}
 use Rattle.image_growth.proofs.Standing.{Stands, Same, stands-left, stands-right, stands-at, length-table, table-same, word-same, word-same-at, word-stands, words-behind, words-stand, length-words, length-rows, row-stands}
 
--- the words of a row
-abbrev typeWords : TypeRow → List ℕ
-typeWords r = r .kind ∷ r .a ∷ r .b ∷ r .c ∷ r .copy ∷ []
-
-abbrev patternWords : PatRow → List ℕ
-patternWords r = r .kind ∷ r .ty ∷ r .derefs ∷ r .a ∷ r .b ∷ r .c ∷ r .d ∷ []
-
-abbrev bindingWords : BindingRow → List ℕ
-bindingWords r = r .ty ∷ r .picked ∷ []
-
+-- how rows are written
 type-none : typeBytes [] ≡ []
 unfolding typeBytes
 type-none = refl

@@ -14,8 +14,7 @@ use Rattle.pattern_typing.specs.Contexts.{Context, typed, restAmong, fieldAt, p
 use Rattle.pattern_typing.specs.Making.{Making}
 use Rattle.pattern_typing.specs.Resolving.{resolvedTo, bindsIn, fieldName, resolvedRest, resolvedField, resolved}
 use Rattle.pattern_images.specs.Drafts.{Draft}
-use Rattle.image_growth.specs.Growing.{Grown}
-use Rattle.image_validity.specs.Validity.{IsBytes}
+use Rattle.image_growth.specs.Growing.{IsBytes, Grown}
 use Rattle.image_validity.proofs.Emits.{soundField}
 use Rattle.image_validity.proofs.Types.{variant-hold}
 use Rattle.image_validity.proofs.Contexts.{TypedHolds, Fits, none-fits, field-part-fits}

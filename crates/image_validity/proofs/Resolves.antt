@@ -28,8 +28,7 @@ use Rattle.pattern_typing.specs.Making.{BoundAt, boundAtType, boundAtArray, Mak
 use Rattle.pattern_typing.specs.Resolving.{Resolved, refusedHere, resolvedTo, whereNamed, pathMade, resolvedPath, Marked, modeOf, annotationOf, bindingMade, resolvedIdent, restBoundAt, restHolds, restMade, resolvedBoundRest, resolvedRest, bindsIn, fieldName, listRow, tupleStructAs, recordAs, resolvedNode, resolvedField, resolved}
 use Rattle.pattern_images.specs.Drafts.{Draft}
 use Rattle.pattern_images.specs.Emitting.{withList}
-use Rattle.image_growth.specs.Growing.{Grown}
-use Rattle.image_validity.specs.Validity.{IsBytes}
+use Rattle.image_growth.specs.Growing.{IsBytes, Grown}
 use Rattle.image_validity.proofs.Tests.{or-right}
 use Rattle.image_validity.proofs.Keeping.{operand-holds-kept, constant-kept, variant-number-kept}
 use Rattle.image_validity.proofs.Bindings.{BoundHolds}

@@ -25,7 +25,7 @@ use Rattle.name_tables.specs.declared.NameRow.{NameRow}
 use Rattle.name_tables.specs.Names.{Use, asVariant, asConstant, asValue, serves, isNamed, rowFor, rowCount, rowName, nameRowAt, nameByteCount, nameFrameHolds, namesSomething, nameRowHolds, namesHold}
 use Rattle.pattern_words.specs.Words.{sameWord}
 use Rattle.pattern_typing.specs.Crossing.{isTuple, isAdt, isReference, isArray, isSlice, isWrittenAs, byRef, byRefMut, Crossed, behindReference, crossOne, crossUpTo, crossed, FieldTypes, tupleFields, hasVariantOf, variantFieldsOf}
-use Rattle.image_validity.specs.Validity.{IsBytes}
+use Rattle.image_growth.specs.Growing.{IsBytes}
 use Rattle.image_validity.proofs.Tests.{or-cases, and-first, and-second, and-third}
 use Rattle.image_validity.proofs.Keeping.{sheet-type, sheet-variant}
 use Rattle.image_validity.proofs.Bindings.{found}

@@ -15,8 +15,7 @@ use Rattle.pattern_typing.specs.Resolving.{resolved}
 use Rattle.pattern_typing.specs.Failing.{earlier, refusedIn, refusedAmong}
 use Rattle.pattern_images.specs.Drafts.{Draft, Made}
 use Rattle.pattern_images.specs.Emitting.{emitNode, emitted, emittedParts}
-use Rattle.image_growth.specs.Growing.{Grown}
-use Rattle.image_validity.specs.Validity.{IsBytes}
+use Rattle.image_growth.specs.Growing.{IsBytes, Grown}
 use Rattle.image_validity.specs.Standing.{Good, Step}
 use Rattle.image_validity.proofs.Tests.{and-first, and-second, and-third}
 use Rattle.image_validity.proofs.Extending.{Extends, extends-on, node-extends, emitted-extends}
