@@ -23,6 +23,7 @@ use Rattle.pattern_tokens.specs.Literals.{inInteger, goesOn, integerOf, integer
 use Rattle.pattern_tokens.specs.Tokens.{Mark, begins, punctuation, firstOf, pieceOf, tokenFrom, tokenBehind, tokenAt}
 use Rattle.pattern_grammar.specs.Lexemes.{Spot, Lexeme, name, scalar, mark, ofKind, lexeme}
 use Rattle.pattern_grammar.specs.Parsed.{isLast, lexemesFrom, lexemes}
+use Rattle.tree_forms.specs.Forms.{LexemeOk, AllOk}
 
 -- what is read is a scalar value, where it is one
 abbrev ScalarOk : Scalar → Type 0
@@ -206,16 +207,7 @@ token-ok text at = by (startOf text at)
     by (Start.At from) = from-token from (drop from text)
     by (Start.BrokenAt from) = tt
 
--- tokens whose chars are scalar values
-abbrev pub LexemeOk : Lexeme → Type 0
-LexemeOk (name n) = Unit
-LexemeOk (scalar v q) = isScalarValue v ≡ true
-LexemeOk (mark m q) = Unit
-
-abbrev pub AllOk : List Lexeme → Type 0
-AllOk [] = Unit
-AllOk (t ∷ ts) = LexemeOk t × AllOk ts
-
+-- the token of a kind
 kind-lexeme : (k : Kind) (q : Spot) → KindOk k → LexemeOk (ofKind k q)
 unfolding ofKind
 kind-lexeme (Kind.Name at) q h = tt

@@ -21,7 +21,8 @@ use Rattle.pattern_syntax.specs.Written.{Name, Node, Written, written, Parts, n
 use Rattle.pattern_syntax.specs.Reduced.{identName, pathName, keyName, literalValue, boundIn, writtenBound, writtenIdent, writtenReference, dotsAt, headAt, listNode, beforeRest, isPart, isGroup, oneOf, firstBeginning, writtenRecord, writtenField, alternatives, writtenAlt, writtenPlain, writtenItems, writtenFields, writtenFieldOf, reduced}
 use Rattle.pattern_syntax.specs.Formed.{literalFormed, nodeFormed, Stand, inPattern, inRange, inRecord, standsIn, mayStand, restPlace, restWithin, restPartFormed, formed, partsFormed}
 use Rattle.pattern_reading.specs.Reads.{Outcome, treeIs, failsAt, outcome}
-use Rattle.tree_forms.proofs.Chars.{AllOk, lexemes-ok}
+use Rattle.tree_forms.specs.Forms.{AllOk, TreeIsFormed}
+use Rattle.tree_forms.proofs.Chars.{lexemes-ok}
 use Rattle.tree_forms.proofs.Rests.{RestHolds, item-more, items-hold}
 
 -- the tokens behind what is no literal
@@ -249,7 +250,7 @@ tree-read _ p (Over.broken at) h =
     absurd (omega arith)
 
 -- The theorem.
-pub tree-formed : (text : List ℕ) (p : Pattern) → outcome (parsed text) ≡ treeIs p → formed (reduced text p) inPattern ≡ true
+pub tree-formed : (text : List ℕ) (p : Pattern) → TreeIsFormed text p
 unfolding parsed
 tree-formed text p h =
     let read = tree-read (parsed text) p (text-over text) h in
