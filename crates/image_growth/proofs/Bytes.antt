@@ -1,18 +1,17 @@
 -- The image of a sheet of bytes and a bounded draft within the limits is bytes. Assumes nothing.
 use Prim.Native.Nat.{ℕ, zero, suc, _+_, _*_, _/_, _%_, _≤_, _<_}
-use mathlib.Core.Path.{_≡_, refl, sym, ap, _∙_}
+use mathlib.Core.Path.{_≡_}
 use mathlib.Core.Bool.{true, _&&_}
 use mathlib.Core.List.{List, [], _∷_, _++_}
 use native.Mathlib.Nat.{mod-lt, div-add-mod'}
 use native.Mathlib.Omega.{arith}
 use borrow.Author.Tests.{leb-true}
 use lib.Dec.{leb}
-use lib.ListN.{length, getD, take, drop}
+use lib.ListN.{length, take, drop}
 use Rattle.image.specs.declared.rows.TypeRow.{TypeRow}
 use Rattle.image.specs.declared.rows.PatRow.{PatRow}
 use Rattle.image.specs.declared.rows.BindingRow.{BindingRow}
-use Rattle.image.specs.Bytes.{byteAt}
-use Rattle.image.specs.Tables.{typeCount, variantCount, patternCount, bindingCount, listCount, dataCount, typesAt, variantsAt, patternsAt, bindingsAt, listStart, dataAt, tablesEnd}
+use Rattle.image.specs.Tables.{typeCount, variantCount, patternCount, bindingCount, listCount, dataCount, typesAt, variantsAt, patternsAt, bindingsAt, listStart, dataAt}
 use Rattle.image.proofs.Bools.{and-left, and-right, all-true-at}
 use Rattle.type_sheets.specs.Sheets.{withinSheetLimits, sheetRules, sheetHolds}
 use Rattle.pattern_images.specs.Drafts.{Draft, nextType, nextPattern, nextBinding, nextWord, nextByte}

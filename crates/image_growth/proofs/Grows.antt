@@ -1,6 +1,6 @@
 -- The image of a sheet and a draft has the sheet's rows and behind them the draft's. Assumes nothing.
-use Prim.Native.Nat.{ℕ, _+_, _*_, _/_, _%_, _≤_, _<_}
-use mathlib.Core.Path.{_≡_, refl, sym, ap, _∙_}
+use Prim.Native.Nat.{ℕ, _+_, _*_, _/_, _%_, _<_}
+use mathlib.Core.Path.{_≡_, refl, ap}
 use mathlib.Core.Bool.{true}
 use mathlib.Core.List.{List, [], _∷_, _++_}
 use native.Mathlib.Nat.{div-add-mod', zero-add}
@@ -16,7 +16,7 @@ use Rattle.pattern_images.specs.Drafts.{Draft, nextType, nextPattern, nextBindi
 use Rattle.pattern_images.specs.Imaging.{wordBytes, wordsBytes, longBytes, typeBytes, patternBytes, bindingBytes, tableOf, tablesWith, behindLength, imageWith}
 use Rattle.image_growth.specs.Growing.{Grown}
 use Rattle.image_growth.proofs.Standing.{Stands, stands-left, stands-right, length-table, word-back, length-words, words-stand}
-use Rattle.image_growth.proofs.Places.{Counted, Placed, placed, length-types, length-patterns, length-bindings, type-rows, variant-rows, pattern-rows, binding-rows, word-rows, data-bytes}
+use Rattle.image_growth.proofs.Places.{Counted, placed, length-types, length-patterns, length-bindings, type-rows, variant-rows, pattern-rows, binding-rows, word-rows, data-bytes}
 
 pub sheet-filled : (sheet : List ℕ) → sheetHolds sheet ≡ true → length sheet ≡ tablesEnd sheet
 unfolding sheetHolds tablesFillTheRest

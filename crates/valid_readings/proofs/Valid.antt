@@ -1,5 +1,5 @@
 -- What a text is read as is a valid image: document 01's reader takes it. Assumes nothing.
-use Prim.Native.Nat.{ℕ, _<_}
+use Prim.Native.Nat.{ℕ}
 use mathlib.Core.Path.{_≡_, refl, sym, ap, _∙_}
 use mathlib.Core.Bool.{Bool, true, false, cond, _&&_}
 use mathlib.Core.Option.{Option, none, some}
@@ -11,7 +11,6 @@ use Rattle.image.specs.Tables.{typeCount}
 use Rattle.image.specs.Rules.{absent}
 use Rattle.image.specs.Valid.{valid}
 use Rattle.image.proofs.Bools.{and-left, and-right}
-use Rattle.pattern_grammar.specs.Trees.{Pattern}
 use Rattle.pattern_grammar.specs.Parsed.{parsed}
 use Rattle.pattern_syntax.specs.Written.{Written}
 use Rattle.pattern_syntax.specs.Reduced.{reduced}
@@ -22,7 +21,7 @@ use Rattle.pattern_typing.specs.Crossing.{byValue}
 use Rattle.pattern_typing.specs.Contexts.{typed}
 use Rattle.pattern_typing.specs.Failing.{refusedIn}
 use Rattle.pattern_images.specs.Imaging.{imageWith, withinImageLimits}
-use Rattle.pattern_reading.specs.Reads.{Answer, imageOf, refusedWith, Outcome, treeIs, failsAt, outcome, draftOf, imaged, unlessRefused, readTree, afterParsing, readPattern}
+use Rattle.pattern_reading.specs.Reads.{imageOf, refusedWith, Outcome, treeIs, failsAt, outcome, draftOf, imaged, unlessRefused, readTree, afterParsing, readPattern}
 use Rattle.tree_forms.proofs.Forms.{tree-formed}
 use Rattle.image_growth.specs.Growing.{IsBytes}
 use Rattle.image_validity.proofs.Valid.{image-valid}
