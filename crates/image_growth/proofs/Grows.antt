@@ -1,6 +1,6 @@
 -- The image of a sheet and a draft has the sheet's rows and behind them the draft's. Assumes nothing.
-use Prim.Native.Nat.{ℕ, _+_, _*_, _/_, _%_, _≤_, _<_}
-use mathlib.Core.Path.{_≡_, refl, sym, ap, _∙_}
+use Prim.Native.Nat.{ℕ, _+_, _*_, _/_, _%_, _<_}
+use mathlib.Core.Path.{_≡_, refl, ap}
 use mathlib.Core.Bool.{true}
 use mathlib.Core.List.{List, [], _∷_, _++_}
 use native.Mathlib.Nat.{div-add-mod', zero-add}
@@ -16,7 +16,7 @@ use Rattle.pattern_images.specs.Drafts.{Draft, nextType, nextPattern, nextBindi
 use Rattle.pattern_images.specs.Imaging.{wordBytes, wordsBytes, longBytes, typeBytes, patternBytes, bindingBytes, tableOf, tablesWith, behindLength, imageWith}
 use Rattle.image_growth.specs.Growing.{Grown}
 use Rattle.image_growth.proofs.Standing.{Stands, stands-left, stands-right, length-table, word-back, length-words, words-stand}
-use Rattle.image_growth.proofs.Places.{Counted, Placed, placed, length-types, length-patterns, length-bindings, type-rows, variant-rows, pattern-rows, binding-rows, word-rows, data-bytes}
+use Rattle.image_growth.proofs.Places.{Counted, placed, length-types, length-patterns, length-bindings, type-rows, variant-rows, pattern-rows, binding-rows, word-rows, data-bytes}
 
 pub sheet-filled : (sheet : List ℕ) → sheetHolds sheet ≡ true → length sheet ≡ tablesEnd sheet
 unfolding sheetHolds tablesFillTheRest
@@ -54,7 +54,7 @@ unfolding wordsBytes wordBytes
 tables-stand sheet d = stands-right (imageWith sheet d) 5 (wordsBytes (counts sheet d)) (tablesWith sheet d) (counts-stand sheet d)
 
 -- how long the tables are
-length-tables : (sheet : List ℕ) (d : Draft) → length sheet ≡ tablesEnd sheet →
+pub length-tables : (sheet : List ℕ) (d : Draft) → length sheet ≡ tablesEnd sheet →
     length (tablesWith sheet d) ≡ 10 * nextType sheet d + 6 * variantCount sheet + 14 * nextPattern sheet d + 4 * nextBinding sheet d + 2 * nextWord sheet d + nextByte sheet d
 unfolding tablesWith
 length-tables sheet d filled =
@@ -99,7 +99,7 @@ image-counted sheet d =
     let n = length (behindLength sheet d) in
     omega (arith, length-append (longBytes n) (behindLength sheet d), long-back n (behindLength sheet d))
 
-image-long : (sheet : List ℕ) (d : Draft) → length (imageWith sheet d) ≡ 17 + length (tablesWith sheet d)
+pub image-long : (sheet : List ℕ) (d : Draft) → length (imageWith sheet d) ≡ 17 + length (tablesWith sheet d)
 unfolding imageWith longBytes wordsBytes wordBytes behindLength
 image-long sheet d = omega arith
 

@@ -2,3 +2,4 @@ pub mod Standing
 pub mod Places
 pub mod Grows
 pub mod Operands
+pub mod Bytes

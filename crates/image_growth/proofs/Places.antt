@@ -1,31 +1,21 @@
 -- Where each table of an image stands that is a sheet's tables with what a draft adds, and the rows that are read there. Assumes nothing.
 use Prim.Native.Nat.{ℕ, zero, suc, _+_, _*_, _≤_, _<_}
-use mathlib.Core.Path.{_≡_, refl, sym, ap, _∙_}
+use mathlib.Core.Path.{_≡_, refl, ap, _∙_}
 use mathlib.Core.List.{List, [], _∷_, _++_}
 use native.Mathlib.Omega.{arith}
-use lib.ListN.{length, getD, length-append}
+use lib.ListN.{length, getD}
 use Rattle.image.specs.declared.rows.TypeRow.{TypeRow}
-use Rattle.image.specs.declared.rows.VariantRow.{VariantRow}
 use Rattle.image.specs.declared.rows.PatRow.{PatRow}
 use Rattle.image.specs.declared.rows.BindingRow.{BindingRow}
 use Rattle.image.specs.Bytes.{byteAt, wordAt}
 use Rattle.image.specs.Tables.{typeCount, variantCount, patternCount, bindingCount, listCount, dataCount, typesAt, variantsAt, patternsAt, bindingsAt, listStart, dataAt, tablesEnd}
 use Rattle.image.specs.Rows.{typeRow, typeAt, variantRow, variantAt, patRow, patAt, bindingRow, bindingAt, listAt}
 use Rattle.pattern_images.specs.Drafts.{Draft, nextType, nextPattern, nextBinding, nextWord, nextByte}
-use Rattle.pattern_images.specs.Imaging.{wordsBytes, wordBytes, typeBytes, patternBytes, bindingBytes, tableOf, tablesWith}
-use Rattle.image_growth.specs.Growing.{Rows, dataByte}
-use Rattle.image_growth.proofs.Standing.{Stands, Same, stands-left, stands-right, stands-at, length-table, table-same, word-same, word-same-at, word-stands, words-behind, words-stand, length-words, length-rows, row-stands}
+use Rattle.pattern_images.specs.Imaging.{wordsBytes, typeBytes, patternBytes, bindingBytes, tableOf, tablesWith}
+use Rattle.image_growth.specs.Growing.{typeWords, patternWords, bindingWords, Rows, dataByte}
+use Rattle.image_growth.proofs.Standing.{Stands, Same, stands-left, stands-right, stands-at, length-table, table-same, word-same, word-same-at, word-stands, words-stand, length-words, length-rows, row-stands}
 
--- the words of a row
-abbrev typeWords : TypeRow → List ℕ
-typeWords r = r .kind ∷ r .a ∷ r .b ∷ r .c ∷ r .copy ∷ []
-
-abbrev patternWords : PatRow → List ℕ
-patternWords r = r .kind ∷ r .ty ∷ r .derefs ∷ r .a ∷ r .b ∷ r .c ∷ r .d ∷ []
-
-abbrev bindingWords : BindingRow → List ℕ
-bindingWords r = r .ty ∷ r .picked ∷ []
-
+-- how rows are written
 type-none : typeBytes [] ≡ []
 unfolding typeBytes
 type-none = refl
@@ -137,12 +127,6 @@ pub record Counted (sheet : List ℕ) (d : Draft) (image : List ℕ) : Type 0 wh
   pub wordsAre : listCount image ≡ nextWord sheet d
   pub bytesAre : dataCount image ≡ nextByte sheet d
 
--- what stands first, and what stands behind it
-first : (whole : List ℕ) (at : ℕ) (xs ys : List ℕ) (n place : ℕ) → length xs ≡ n → at + n ≡ place → Stands whole at (xs ++ ys) →
-    Stands whole at xs × Stands whole place ys
-first whole at xs ys n place e p h =
-    (stands-left whole at xs ys h, stands-at whole (at + length xs) place ys (ap (λ (m : ℕ). at + m) e ∙ p) (stands-right whole at xs ys h))
-
 -- a table with what is added to it
 pub record Joined (image : List ℕ) (at : ℕ) (sheet : List ℕ) (from many : ℕ) (added : List ℕ) : Type 0 where
   pub old : Same image at sheet from many
@@ -157,27 +141,75 @@ pub record Placed (sheet : List ℕ) (d : Draft) (image : List ℕ) : Type 0 whe
   pub words : Joined image (listStart image) sheet (listStart sheet) (2 * listCount sheet) (wordsBytes (d .words))
   pub bytes : Joined image (dataAt image) sheet (dataAt sheet) (dataCount sheet) (d .bytes)
 
+module _ (sheet image : List ℕ) where
+  -- a table of the sheet, and what stands behind it
+  table-first : (at from many place : ℕ) (behind : List ℕ) → from + many ≤ length sheet → at + many ≡ place → Stands image at (tableOf sheet from many ++ behind) →
+      Same image at sheet from many × Stands image place behind
+  table-first at from many place behind fits e h =
+      let table = tableOf sheet from many in (
+        table-same image at sheet from many fits (stands-left image at table behind h),
+        stands-at image (at + length table) place behind (ap (λ (n : ℕ). at + n) (length-table sheet from many fits) ∙ e) (stands-right image at table behind h),
+      )
+
+  -- with what is added to it
+  joined-first : (at from many n place : ℕ) (added behind : List ℕ) → from + many ≤ length sheet → length added ≡ n → at + many + n ≡ place →
+      Stands image at (tableOf sheet from many ++ (added ++ behind)) → Joined image at sheet from many added × Stands image place behind
+  joined-first at from many n place added behind fits long e h =
+      let table = table-first at from many (at + many) (added ++ behind) fits refl h in (
+        record { old = table .0; new = stands-left image (at + many) added behind (table .1) },
+        stands-at image (at + many + length added) place behind (ap (λ (k : ℕ). at + many + k) long ∙ e) (stands-right image (at + many) added behind (table .1)),
+      )
+
+-- where the tables of a sheet end
+record Ends (sheet : List ℕ) : Type 0 where
+  types : typesAt sheet + 10 * typeCount sheet ≤ length sheet
+  variants : variantsAt sheet + 6 * variantCount sheet ≤ length sheet
+  patterns : patternsAt sheet + 14 * patternCount sheet ≤ length sheet
+  bindings : bindingsAt sheet + 4 * bindingCount sheet ≤ length sheet
+  words : listStart sheet + 2 * listCount sheet ≤ length sheet
+  bytes : dataAt sheet + dataCount sheet ≤ length sheet
+
+ends : (sheet : List ℕ) → length sheet ≡ tablesEnd sheet → Ends sheet
+ends sheet e =
+    record { types = omega (arith, e); variants = omega (arith, e); patterns = omega (arith, e); bindings = omega (arith, e); words = omega (arith, e); bytes = omega (arith, e) }
+
+-- where those of the image begin
+record Next (sheet : List ℕ) (d : Draft) (image : List ℕ) : Type 0 where
+  types : typesAt image + 10 * typeCount sheet + 10 * length (d .types) ≡ variantsAt image
+  variants : variantsAt image + 6 * variantCount sheet ≡ patternsAt image
+  patterns : patternsAt image + 14 * patternCount sheet + 14 * length (d .patterns) ≡ bindingsAt image
+  bindings : bindingsAt image + 4 * bindingCount sheet + 4 * length (d .bindings) ≡ listStart image
+  words : listStart image + 2 * listCount sheet + 2 * length (d .words) ≡ dataAt image
+
+next : (sheet : List ℕ) (d : Draft) (image : List ℕ) → Counted sheet d image → Next sheet d image
+next sheet d image c =
+    record {
+      types = omega (arith, c .typesAre);
+      variants = omega (arith, c .variantsAre);
+      patterns = omega (arith, c .patternsAre);
+      bindings = omega (arith, c .bindingsAre);
+      words = omega (arith, c .wordsAre);
+    }
+
 pub placed : (sheet : List ℕ) (d : Draft) (image : List ℕ) → length sheet ≡ tablesEnd sheet → Counted sheet d image →
     Stands image 17 (tablesWith sheet d) → Placed sheet d image
 unfolding tablesWith
 placed sheet d image filled c h =
-    let types = first image 17 _ _ (10 * typeCount sheet) (17 + 10 * typeCount sheet) (length-table sheet (typesAt sheet) (10 * typeCount sheet) (omega arith)) refl h in
-    let typesMore = first image (17 + 10 * typeCount sheet) _ _ (10 * length (d .types)) (variantsAt image) (length-types (d .types)) (omega (arith, c .typesAre)) (types .1) in
-    let variants = first image (variantsAt image) _ _ (6 * variantCount sheet) (patternsAt image) (length-table sheet (variantsAt sheet) (6 * variantCount sheet) (omega arith)) (omega (arith, c .variantsAre)) (typesMore .1) in
-    let patterns = first image (patternsAt image) _ _ (14 * patternCount sheet) (patternsAt image + 14 * patternCount sheet) (length-table sheet (patternsAt sheet) (14 * patternCount sheet) (omega arith)) refl (variants .1) in
-    let patternsMore = first image (patternsAt image + 14 * patternCount sheet) _ _ (14 * length (d .patterns)) (bindingsAt image) (length-patterns (d .patterns)) (omega (arith, c .patternsAre)) (patterns .1) in
-    let bindings = first image (bindingsAt image) _ _ (4 * bindingCount sheet) (bindingsAt image + 4 * bindingCount sheet) (length-table sheet (bindingsAt sheet) (4 * bindingCount sheet) (omega arith)) refl (patternsMore .1) in
-    let bindingsMore = first image (bindingsAt image + 4 * bindingCount sheet) _ _ (4 * length (d .bindings)) (listStart image) (length-bindings (d .bindings)) (omega (arith, c .bindingsAre)) (bindings .1) in
-    let words = first image (listStart image) _ _ (2 * listCount sheet) (listStart image + 2 * listCount sheet) (length-table sheet (listStart sheet) (2 * listCount sheet) (omega arith)) refl (bindingsMore .1) in
-    let wordsMore = first image (listStart image + 2 * listCount sheet) _ _ (2 * length (d .words)) (dataAt image) (length-words (d .words)) (omega (arith, c .wordsAre)) (words .1) in
-    let bytes = first image (dataAt image) _ _ (dataCount sheet) (dataAt image + dataCount sheet) (length-table sheet (dataAt sheet) (dataCount sheet) (omega arith)) refl (wordsMore .1) in
+    let e = ends sheet filled in
+    let n = next sheet d image c in
+    let types = joined-first sheet image (typesAt image) _ _ _ _ (typeBytes (d .types)) _ (e .types) (length-types (d .types)) (n .types) h in
+    let variants = table-first sheet image (variantsAt image) _ _ _ _ (e .variants) (n .variants) (types .1) in
+    let patterns = joined-first sheet image (patternsAt image) _ _ _ _ (patternBytes (d .patterns)) _ (e .patterns) (length-patterns (d .patterns)) (n .patterns) (variants .1) in
+    let bindings = joined-first sheet image (bindingsAt image) _ _ _ _ (bindingBytes (d .bindings)) _ (e .bindings) (length-bindings (d .bindings)) (n .bindings) (patterns .1) in
+    let words = joined-first sheet image (listStart image) _ _ _ _ (wordsBytes (d .words)) _ (e .words) (length-words (d .words)) (n .words) (bindings .1) in
+    let bytes = table-first sheet image (dataAt image) _ _ _ _ (e .bytes) refl (words .1) in
     record {
-      types = record { old = table-same image 17 sheet (typesAt sheet) (10 * typeCount sheet) (omega arith) (types .0); new = typesMore .0 };
-      variants = table-same image (variantsAt image) sheet (variantsAt sheet) (6 * variantCount sheet) (omega arith) (variants .0);
-      patterns = record { old = table-same image (patternsAt image) sheet (patternsAt sheet) (14 * patternCount sheet) (omega arith) (patterns .0); new = patternsMore .0 };
-      bindings = record { old = table-same image (bindingsAt image) sheet (bindingsAt sheet) (4 * bindingCount sheet) (omega arith) (bindings .0); new = bindingsMore .0 };
-      words = record { old = table-same image (listStart image) sheet (listStart sheet) (2 * listCount sheet) (omega arith) (words .0); new = wordsMore .0 };
-      bytes = record { old = table-same image (dataAt image) sheet (dataAt sheet) (dataCount sheet) (omega arith) (bytes .0); new = bytes .1 };
+      types = types .0;
+      variants = variants .0;
+      patterns = patterns .0;
+      bindings = bindings .0;
+      words = words .0;
+      bytes = record { old = bytes .0; new = bytes .1 };
     }
 
 -- the rows that are read there

@@ -1,23 +1,21 @@
 -- What a draft adds to a sheet's list and data is read back in an image that has it all: lists of words, and operands. Assumes nothing.
-use Prim.Native.Nat.{ℕ, zero, suc, _+_, _*_, _/_, _%_, _^_, _≤_, _<_}
+use Prim.Native.Nat.{ℕ, zero, suc, _+_, _*_, _/_, _^_, _≤_, _<_}
 use mathlib.Core.Path.{_≡_, refl, sym, ap, ap₂, _∙_}
-use mathlib.Core.Bool.{Bool, true, false, cond, _&&_, _||_}
+use mathlib.Core.Bool.{true, false, _&&_}
 use mathlib.Core.List.{List, [], _∷_, _++_}
-use native.Mathlib.Nat.{mod-lt, div-add-mod', pow-suc, add-zero}
-use native.Mathlib.Numerals.{add-one}
+use native.Mathlib.Nat.{div-add-mod', pow-suc, add-zero}
 use native.Mathlib.Omega.{arith}
-use borrow.Author.Tests.{ltb-true, le-leb, leb-true}
-use lib.Dec.{eqb, leb, ltb}
+use borrow.Author.Tests.{ltb-true, le-leb}
+use lib.Dec.{leb, ltb}
 use lib.ListN.{length, getD, length-append}
 use lib.Seq.{getD-append-add}
-use Rattle.image.specs.declared.rows.OperandRow.{OperandRow}
 use Rattle.image.specs.Bytes.{littleEndian}
 use Rattle.image.specs.Tables.{listCount, dataCount}
 use Rattle.image.specs.Kinds.{operandKind}
 use Rattle.image.specs.Rows.{listAt, operandAt, operandBytes}
 use Rattle.image.specs.Operands.{isScalarValue, operandValueHolds, operandLies, operandHolds}
 use Rattle.image.specs.Rules.{listed}
-use Rattle.image.proofs.Bools.{and-left, and-right, and-true}
+use Rattle.image.proofs.Bools.{and-right}
 use Rattle.pattern_syntax.specs.Written.{LiteralValue, boolValue, charValue, wholeValue, minusValue}
 use Rattle.pattern_syntax.specs.Formed.{literalFormed}
 use Rattle.pattern_images.specs.Drafts.{Draft, nextWord, nextByte, littleEndianBytes, operandKindOf, literalBytes}

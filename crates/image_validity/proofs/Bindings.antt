@@ -1,15 +1,14 @@
 -- A binding that is made, and the types that it lacks, hold in the whole image. Assumes nothing.
-use Prim.Native.Nat.{ℕ, zero, suc, _+_, _*_, _≤_, _<_}
+use Prim.Native.Nat.{ℕ, zero, suc, _+_, _≤_, _<_}
 use mathlib.Core.Path.{_≡_, refl, sym, ap, _∙_}
-use mathlib.Core.Bool.{Bool, true, false, not, cond, _&&_, _||_}
+use mathlib.Core.Bool.{Bool, true, false, not, cond, _&&_}
 use mathlib.Core.Option.{Option, none, some}
-use mathlib.Core.List.{List, [], _∷_, _++_}
+use mathlib.Core.List.{List, [], _∷_}
 use native.Mathlib.Omega.{arith}
-use borrow.Author.Tests.{ltb-true, lt-ltb, ne-eqb}
-use lib.Dec.{eqb, ltb, leb}
+use borrow.Author.Tests.{lt-ltb, ne-eqb}
+use lib.Dec.{eqb}
 use lib.ListN.{length, getD, length-append}
 use Rattle.image.specs.declared.rows.TypeRow.{TypeRow}
-use Rattle.image.specs.Kinds.{typeKind}
 use Rattle.image.specs.Tables.{typeCount, bindingCount}
 use Rattle.image.specs.Rules.{absent, isFlag, namesType, typeShapeHolds, variantsBy}
 use Rattle.image.proofs.Bools.{and-true}
@@ -17,11 +16,11 @@ use Rattle.name_tables.specs.Names.{firstFrom}
 use Rattle.pattern_words.specs.Words.{sameWord}
 use Rattle.pattern_typing.specs.Crossing.{byValue, byRef}
 use Rattle.pattern_typing.specs.Making.{BoundAt, boundAtType, boundAtArray}
-use Rattle.pattern_images.specs.Drafts.{Draft, nextType, nextBinding, addType, addBinding, alike, typeIn, likeIn, addUnless, withType, numberOr, numberOfType, bindingFor}
+use Rattle.pattern_images.specs.Drafts.{Draft, nextType, addType, addBinding, alike, typeIn, likeIn, addUnless, withType, numberOr, numberOfType, bindingFor}
 use Rattle.pattern_images.specs.Emitting.{arrayRow, withBoundAt, boundType, referenceRow, withMode, modeType, newBinding, withBinding, bindingNumber}
 use Rattle.image_growth.specs.Growing.{Grown}
-use Rattle.image_validity.specs.Standing.{BindingGood, Good, TypeGood}
-use Rattle.image_validity.proofs.Extending.{Extends, extends-on, begins-long, extends-unless, extends-mode, extends-binding, extends-bound-at}
+use Rattle.image_validity.specs.Standing.{Good, TypeGood}
+use Rattle.image_validity.proofs.Extending.{Extends, extends-on, begins-long, extends-mode, extends-binding}
 use Rattle.image_validity.proofs.Steps.{good-type, good-binding}
 
 -- a number that is found passes the test, and is one of those looked at

@@ -1,21 +1,20 @@
 -- What the parts of a node are read at names types that exist. Assumes nothing.
-use Prim.Native.Nat.{ℕ, zero, suc, _+_, _-_, _≤_, _<_}
-use mathlib.Core.Path.{_≡_, refl, sym, ap, _∙_}
-use mathlib.Core.Bool.{Bool, true, false, cond, _&&_, _||_, true≢false, false≢true}
+use Prim.Native.Nat.{ℕ, suc, _+_, _-_, _≤_, _<_}
+use mathlib.Core.Path.{_≡_, refl}
+use mathlib.Core.Bool.{Bool, true, false, cond, _||_, false≢true}
 use mathlib.Core.Option.{Option, none, some}
 use mathlib.Core.List.{List}
 use native.Mathlib.Omega.{arith}
-use borrow.Author.Tests.{ltb-true, leb-true, eqb-true, ne-eqb}
+use borrow.Author.Tests.{ltb-true, eqb-true, ne-eqb}
 use lib.Dec.{eqb, ltb, leb}
 use Rattle.image.specs.Tables.{typeCount}
-use Rattle.image.specs.Types.{isSet}
 use Rattle.image.specs.Rows.{typeAt, listAt}
 use Rattle.image.proofs.Bools.{and-left}
 use Rattle.type_sheets.specs.Sheets.{sheetHolds}
-use Rattle.pattern_syntax.specs.Written.{Node, Written, Parts, noParts, more, partCount}
+use Rattle.pattern_syntax.specs.Written.{Node, Parts, noParts, more, partCount}
 use Rattle.pattern_syntax.specs.Formed.{Stand, inPattern, inRange, inRecord, mayBeRest, nodeIn, restPartFormed}
 use Rattle.pattern_typing.specs.Crossing.{isReference, isArray, isSlice, isWrittenAs, byValue, FieldTypes}
-use Rattle.pattern_typing.specs.Contexts.{Context, typed, restAmong, fieldAt, partless, unseen, PartsRead, unseenParts, sameParts, targetPart, argumentParts, itemParts, fieldParts, fieldPart, fieldContext, standsBefore, argumentContext, isRestItem, itemContext, targetContext, partContext}
+use Rattle.pattern_typing.specs.Contexts.{Context, typed, restAmong, fieldAt, partless, unseen, PartsRead, sameParts, targetPart, argumentParts, itemParts, fieldParts, fieldPart, fieldContext, standsBefore, argumentContext, isRestItem, itemContext, targetContext, partContext}
 use Rattle.image_validity.proofs.Types.{FieldsHold, reference-target, item-element}
 
 -- a type of the sheet, and one of the three modes

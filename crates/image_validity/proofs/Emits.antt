@@ -1,35 +1,33 @@
 -- What is added for a node holds in the whole image, and uses what stood for its parts once. Assumes nothing.
-use Prim.Native.Nat.{ℕ, zero, suc, _+_, _*_, _-_, _≤_, _<_}
-use mathlib.Core.Path.{_≡_, refl, sym, ap, _∙_}
-use mathlib.Core.Bool.{Bool, true, false, not, cond, _&&_, _||_, true≢false, false≢true}
+use Prim.Native.Nat.{ℕ, zero, suc, _+_, _*_, _≤_, _<_}
+use mathlib.Core.Path.{_≡_, refl, ap, _∙_}
+use mathlib.Core.Bool.{Bool, true, false, cond, false≢true}
 use mathlib.Core.Option.{Option, none, some}
 use mathlib.Core.List.{List, [], _∷_, _++_}
-use native.Mathlib.Nat.{zero-add}
 use native.Mathlib.Omega.{arith}
-use borrow.Author.Tests.{ltb-true, lt-ltb, leb-true, le-leb, eqb-true, ne-eqb}
-use lib.Dec.{eqb, ltb, leb}
+use borrow.Author.Tests.{ltb-true, lt-ltb, le-leb}
+use lib.Dec.{eqb}
 use lib.ListN.{length, getD, take, drop, length-append, length-drop}
 use lib.Seq.{length-take-le, split-at}
-use Rattle.image.specs.declared.kinds.PatKind.{PatKind}
 use Rattle.image.specs.declared.rows.PatRow.{PatRow}
 use Rattle.image.specs.Kinds.{patKind}
-use Rattle.image.specs.Tables.{typeCount, patternCount, bindingCount, listCount}
+use Rattle.image.specs.Tables.{typeCount, bindingCount, listCount}
 use Rattle.image.specs.Lists.{allIn}
 use Rattle.image.specs.Operands.{operandHolds}
-use Rattle.image.specs.Rules.{absent, isFlag, inTable, namesType, listed}
+use Rattle.image.specs.Rules.{absent, isFlag, namesType, listed}
 use Rattle.image.specs.Subpatterns.{ifPresent, subpatternsBy}
 use Rattle.image.specs.Patterns.{operandOrAbsent, patternShapeHolds}
-use Rattle.image.proofs.Bools.{and-left, and-right, and-true}
+use Rattle.image.proofs.Bools.{and-left, and-right}
 use Rattle.pattern_syntax.specs.Written.{LiteralValue}
 use Rattle.pattern_syntax.specs.Formed.{literalFormed, oneIf, restWithin, Stand, inPattern, inRange, inRecord}
-use Rattle.pattern_typing.specs.Making.{BoundAt, Making, notMade, rowMade, literalMade, operandMade, operandNamed, rangeMade, bindMade, referenceMade, listMade, sliceMade, fieldMade, patternRow}
-use Rattle.pattern_images.specs.Drafts.{Draft, Made, nextPattern, nextBinding, nextWord, nextByte, addPattern, addWords, addBytes, addOperand, literalBytes, operandKindOf, bindingFor}
-use Rattle.pattern_images.specs.Emitting.{made, withPattern, listFrom, withList, firstOr, itemWords, prefixCount, suffixCount, restWord, withBinding, bindingNumber, emitNode}
+use Rattle.pattern_typing.specs.Making.{BoundAt, Making, rowMade, literalMade, operandMade, operandNamed, rangeMade, bindMade, referenceMade, listMade, sliceMade, fieldMade, patternRow}
+use Rattle.pattern_images.specs.Drafts.{Draft, Made, nextWord, addPattern, addWords, addBytes, addOperand, literalBytes, bindingFor}
+use Rattle.pattern_images.specs.Emitting.{made, withPattern, withList, firstOr, itemWords, prefixCount, suffixCount, restWord, withBinding, emitNode}
 use Rattle.image_growth.specs.Growing.{Grown}
-use Rattle.image_validity.specs.Standing.{Good, PatternGood, Step, Stood, below, one, openIn, seconds, times, used}
-use Rattle.image_validity.proofs.Tests.{times-join, in-weaker, in-both, and-three, or-left, or-right}
-use Rattle.image_validity.proofs.Extending.{Extends, extends-on, extends-pattern, extends-words, extends-with-binding, Begins, begins-long}
-use Rattle.image_validity.proofs.Added.{WordsAt, listed-words, listed-seconds, listed-join, list-there, list-room, operand-there}
+use Rattle.image_validity.specs.Standing.{Good, Step, one, times}
+use Rattle.image_validity.proofs.Tests.{times-join, in-both, and-three, or-right}
+use Rattle.image_validity.proofs.Extending.{Extends, extends-on, extends-pattern, extends-with-binding}
+use Rattle.image_validity.proofs.Added.{operand-there}
 use Rattle.image_validity.proofs.Steps.{step-pattern, good-words, good-bytes}
 use Rattle.image_validity.proofs.Bindings.{BoundHolds, named, binding-good, binding-patterns, binding-below}
 

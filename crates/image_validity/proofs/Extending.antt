@@ -1,5 +1,5 @@
 -- A draft only grows: what a pattern adds stands behind what is there. Assumes nothing.
-use Prim.Native.Nat.{ℕ, zero, suc, _+_, _≤_, _<_}
+use Prim.Native.Nat.{ℕ, _≤_, _<_}
 use mathlib.Core.Path.{_≡_, refl, sym, ap, _∙_}
 use mathlib.Core.Bool.{Bool, true, false, cond}
 use mathlib.Core.Option.{Option, none, some}
@@ -14,8 +14,8 @@ use Rattle.pattern_syntax.specs.Written.{LiteralValue, Written, written, Parts,
 use Rattle.pattern_typing.specs.Contexts.{Context, PartsRead, partContext}
 use Rattle.pattern_typing.specs.Making.{BoundAt, boundAtType, boundAtArray, Making, notMade, rowMade, literalMade, operandMade, operandNamed, rangeMade, bindMade, referenceMade, listMade, sliceMade, fieldMade}
 use Rattle.pattern_typing.specs.Resolving.{resolved}
-use Rattle.pattern_images.specs.Drafts.{Draft, Made, nextType, nextPattern, nextBinding, nextWord, nextByte, addType, addPattern, addBinding, addWords, addBytes, addOperand, addUnless, withType, likeIn, literalBytes, bindingFor}
-use Rattle.pattern_images.specs.Emitting.{itemWords, referenceRow, arrayRow, withBoundAt, boundType, withMode, modeType, newBinding, withBinding, emitNode, emitted, emittedParts}
+use Rattle.pattern_images.specs.Drafts.{Draft, addType, addPattern, addBinding, addWords, addBytes, addOperand, addUnless, withType, likeIn, literalBytes, bindingFor}
+use Rattle.pattern_images.specs.Emitting.{itemWords, referenceRow, arrayRow, withBoundAt, boundType, withMode, newBinding, withBinding, emitNode, emitted, emittedParts}
 
 -- a list begins with another
 pub record Begins {A : Type 0} (xs ys : List A) : Type 0 where

@@ -1,23 +1,22 @@
 -- A sheet's own rules stay in an image that is the sheet with more rows. Assumes nothing.
 use Prim.Native.Nat.{ℕ, zero, suc, _+_, _*_, _≤_, _<_}
-use mathlib.Core.Path.{_≡_, refl, sym, ap, ap₂, _∙_}
-use mathlib.Core.Bool.{Bool, true, false, not, cond, _&&_, _||_, true≢false, false≢true}
+use mathlib.Core.Path.{_≡_, refl, ap, ap₂, _∙_}
+use mathlib.Core.Bool.{Bool, true, not, _&&_}
 use mathlib.Core.List.{List, [], _∷_, _++_, append-nil}
 use native.Mathlib.Nat.{mul-suc}
 use native.Mathlib.Omega.{arith}
-use borrow.Author.Tests.{ltb-true, lt-ltb, leb-true, le-leb, eqb-true}
+use borrow.Author.Tests.{leb-true, le-leb}
 use lib.Dec.{eqb, ltb, leb}
-use lib.ListN.{length, getD}
+use lib.ListN.{length}
 use Rattle.image.specs.declared.kinds.TypeKind.{TypeKind}
 use Rattle.image.specs.declared.kinds.PatKind.{PatKind}
 use Rattle.image.specs.declared.kinds.PathKind.{PathKind}
 use Rattle.image.specs.declared.rows.TypeRow.{TypeRow}
 use Rattle.image.specs.declared.rows.PatRow.{PatRow}
-use Rattle.image.specs.declared.rows.OperandRow.{OperandRow}
 use Rattle.image.specs.Tables.{typeCount, variantCount, patternCount, bindingCount, listCount, dataCount}
 use Rattle.image.specs.Kinds.{typeKind, patKind, pathKind, operandKind, adtKind}
-use Rattle.image.specs.Rows.{typeAt, variantAt, patAt, bindingAt, listAt, operandAt, operandBytes}
-use Rattle.image.specs.Lists.{allBelow, allIn, distinct, gather}
+use Rattle.image.specs.Rows.{typeAt, variantAt, patAt, bindingAt, operandAt, operandBytes}
+use Rattle.image.specs.Lists.{allIn, gather}
 use Rattle.image.specs.Operands.{operandValueHolds, operandLies, operandHolds}
 use Rattle.image.specs.Rules.{absent, isFlag, inTable, namesType, listed, typesListed, adtMayHave, typeShapeHolds, typeHolds, variantsBy, variantsOf, adtsShareNoVariant, variantHolds, bindingHolds}
 use Rattle.image.specs.Subpatterns.{ifPresent, subpatternsBy, subpatterns}
@@ -28,7 +27,7 @@ use Rattle.pattern_images.specs.Drafts.{Draft}
 use Rattle.image_growth.specs.Growing.{Grown}
 use Rattle.image_growth.proofs.Grows.{sheet-filled}
 use Rattle.image_growth.proofs.Operands.{operand-kept, operand-bytes-kept}
-use Rattle.image_validity.proofs.Tests.{below-all, in-weaker, ltb-more, leb-more, or-cases, or-left, or-right, and-first, and-second, and-third, and-three, gather-split, gather-same, gather-none}
+use Rattle.image_validity.proofs.Tests.{in-weaker, ltb-more, leb-more, or-cases, or-left, or-right, and-first, and-second, and-third, and-three, gather-split, gather-same, gather-none}
 
 -- what is known of a sheet that keeps its rules
 module _ (sheet : List ℕ) (holds : sheetHolds sheet ≡ true) where

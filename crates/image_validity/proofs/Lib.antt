@@ -12,3 +12,4 @@ pub mod Resolves
 pub mod Nodes
 pub mod Whole
 pub mod Valid
+pub mod Corners

@@ -1,14 +1,13 @@
 -- What is added for a list, a slice or a field, and for any node whose making is sound. Assumes nothing.
-use Prim.Native.Nat.{ℕ, suc, _+_, _*_, _≤_, _<_}
-use mathlib.Core.Path.{_≡_, refl, sym, ap, ap₂, _∙_}
-use mathlib.Core.Bool.{Bool, true, false, _&&_}
-use mathlib.Core.Option.{Option, none, some}
+use Prim.Native.Nat.{ℕ, _+_, _*_, _≤_, _<_}
+use mathlib.Core.Path.{_≡_, refl, sym, ap, _∙_}
+use mathlib.Core.Bool.{true}
+use mathlib.Core.Option.{Option}
 use mathlib.Core.List.{List, [], _∷_, _++_}
 use native.Mathlib.Omega.{arith}
 use borrow.Author.Tests.{le-leb}
-use lib.Dec.{ltb, leb}
+use lib.Dec.{ltb}
 use lib.ListN.{length}
-use Rattle.image.specs.declared.kinds.PatKind.{PatKind}
 use Rattle.image.specs.declared.rows.PatRow.{PatRow}
 use Rattle.image.specs.Kinds.{patKind}
 use Rattle.image.specs.Tables.{typeCount, listCount}
@@ -16,14 +15,14 @@ use Rattle.image.specs.Lists.{allIn}
 use Rattle.image.specs.Rules.{listed}
 use Rattle.image.specs.Subpatterns.{ifPresent, subpatternsBy}
 use Rattle.image.specs.Patterns.{patternShapeHolds}
-use Rattle.pattern_syntax.specs.Formed.{restWithin, Stand, inPattern, inRange, inRecord}
-use Rattle.pattern_typing.specs.Making.{Making, listMade, sliceMade, fieldMade, patternRow}
+use Rattle.pattern_syntax.specs.Formed.{restWithin, Stand, inPattern, inRecord}
+use Rattle.pattern_typing.specs.Making.{Making, listMade, sliceMade, patternRow}
 use Rattle.pattern_images.specs.Drafts.{Draft, Made, nextPattern, addPattern, addWords}
 use Rattle.pattern_images.specs.Emitting.{made, withPattern, listFrom, withList, itemWords, prefixCount, suffixCount, restWord, emitNode}
 use Rattle.image_growth.specs.Growing.{Grown}
-use Rattle.image_validity.specs.Standing.{Step, below, openIn, seconds, times, used}
+use Rattle.image_validity.specs.Standing.{Step, openIn, seconds, times}
 use Rattle.image_validity.proofs.Tests.{times-join, in-both}
-use Rattle.image_validity.proofs.Extending.{Extends, extends-on, extends-pattern, Begins}
+use Rattle.image_validity.proofs.Extending.{Extends, Begins}
 use Rattle.image_validity.proofs.Added.{listed-words, listed-seconds, listed-join, list-there, list-room}
 use Rattle.image_validity.proofs.Steps.{step-pattern, good-words}
 use Rattle.image_validity.proofs.Emits.{Sound, soundRow, soundLiteral, soundOperand, soundNamed, soundRange, soundBind, soundReference, soundItems, soundFields, soundSlice, soundField, items-times, items-in, items-count, type-named, emits-row, emits-literal, emits-operand, emits-named, emits-range, emits-bind, emits-reference}

@@ -1,21 +1,20 @@
 -- A node at any place: what becomes of it where it is not refused. Assumes nothing.
 use Prim.Native.Nat.{ℕ}
-use mathlib.Core.Path.{_≡_, refl, sym, ap, _∙_}
-use mathlib.Core.Bool.{Bool, true, false, false≢true}
-use mathlib.Core.Option.{Option, none, some}
+use mathlib.Core.Path.{_≡_, refl}
+use mathlib.Core.Bool.{true, false, false≢true}
+use mathlib.Core.Option.{none}
 use mathlib.Core.List.{List}
 use borrow.Author.Tests.{eqb-true}
 use Rattle.type_sheets.specs.Sheets.{sheetHolds}
 use Rattle.name_tables.specs.Names.{asFieldOf, rowFor, nameRowAt, namesHold}
-use Rattle.pattern_syntax.specs.Written.{Name, Node, wildcardNode, restNode, literalNode, boundNode, boundPathNode, rangeNode, pathNode, identNode, referenceNode, tupleNode, tupleStructNode, sliceNode, recordNode, fieldNode, orNode, Parts, partCount}
+use Rattle.pattern_syntax.specs.Written.{Node, wildcardNode, restNode, literalNode, boundNode, boundPathNode, rangeNode, pathNode, identNode, referenceNode, tupleNode, tupleStructNode, sliceNode, recordNode, fieldNode, orNode, Parts, partCount}
 use Rattle.pattern_syntax.specs.Formed.{nodeFormed, Stand, inPattern, inRange, inRecord, standsIn, mayStand, restPlace, mayBeRest, restPartFormed}
 use Rattle.pattern_typing.specs.Crossing.{variantFieldsOf}
 use Rattle.pattern_typing.specs.Contexts.{Context, typed, restAmong, fieldAt, partless, unseen, unseenParts, fieldPart}
 use Rattle.pattern_typing.specs.Making.{Making}
 use Rattle.pattern_typing.specs.Resolving.{resolvedTo, bindsIn, fieldName, resolvedRest, resolvedField, resolved}
 use Rattle.pattern_images.specs.Drafts.{Draft}
-use Rattle.image_growth.specs.Growing.{Grown}
-use Rattle.image_validity.specs.Validity.{IsBytes}
+use Rattle.image_growth.specs.Growing.{IsBytes, Grown}
 use Rattle.image_validity.proofs.Emits.{soundField}
 use Rattle.image_validity.proofs.Types.{variant-hold}
 use Rattle.image_validity.proofs.Contexts.{TypedHolds, Fits, none-fits, field-part-fits}

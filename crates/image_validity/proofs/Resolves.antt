@@ -1,41 +1,37 @@
 -- What becomes of a node that is not refused is sound, and its parts are read at types that exist. Assumes nothing.
-use Prim.Native.Nat.{ℕ, zero, suc, _+_, _*_, _-_, _≤_, _<_}
-use mathlib.Core.Path.{_≡_, refl, sym, ap, _∙_}
+use Prim.Native.Nat.{ℕ, _+_, _*_, _-_, _≤_, _<_}
+use mathlib.Core.Path.{_≡_, refl}
 use mathlib.Core.Bool.{Bool, true, false, cond, _&&_, _||_, true≢false, false≢true}
 use mathlib.Core.Option.{Option, none, some}
-use mathlib.Core.List.{List, [], _∷_}
+use mathlib.Core.List.{List}
 use native.Mathlib.Omega.{arith}
-use borrow.Author.Tests.{ltb-true, lt-ltb, leb-true, le-leb, eqb-true}
+use borrow.Author.Tests.{leb-true, le-leb, eqb-true}
 use lib.Dec.{eqb, ltb, leb}
-use Rattle.image.specs.declared.kinds.PatKind.{PatKind}
-use Rattle.image.specs.declared.rows.PatRow.{PatRow}
 use Rattle.image.specs.Tables.{typeCount, variantCount, listCount}
-use Rattle.image.specs.Kinds.{patKind, pathKind}
+use Rattle.image.specs.Kinds.{pathKind}
 use Rattle.image.specs.Rows.{typeAt, operandAt}
 use Rattle.image.specs.Types.{isSet}
 use Rattle.image.specs.Operands.{operandHolds}
-use Rattle.image.specs.Rules.{absent, inTable, listed}
+use Rattle.image.specs.Rules.{absent, inTable}
 use Rattle.image.specs.Subpatterns.{subpatternsBy}
 use Rattle.image.specs.Patterns.{variantOrAbsent, pathHolds, patternShapeHolds}
 use Rattle.image.proofs.Bools.{and-left, and-right, and-true}
 use Rattle.type_sheets.specs.Sheets.{sheetHolds}
-use Rattle.name_tables.specs.Names.{Use, asVariant, asConstant, asValue, asFieldOf, rowFor, nameRowAt, namesHold}
-use Rattle.pattern_syntax.specs.Written.{Name, LiteralValue, Node, wildcardNode, restNode, literalNode, boundNode, boundPathNode, rangeNode, pathNode, identNode, referenceNode, tupleNode, tupleStructNode, sliceNode, recordNode, fieldNode, orNode, Parts, partCount}
-use Rattle.pattern_syntax.specs.Formed.{literalFormed, nodeFormed, Stand, inPattern, inRange, inRecord, standsIn, mayStand, inPatternOnly, restPlace, mayBeRest, restPartFormed}
-use Rattle.pattern_typing.specs.Crossing.{isArray, isSlice, Crossed, crossed, tupleFields, variantFieldsOf}
-use Rattle.pattern_typing.specs.Contexts.{Context, typed, restAmong, fieldAt, partless, unseen, PartsRead, unseenParts, sameParts, targetPart, argumentParts, itemParts, fieldParts, fieldPart}
-use Rattle.pattern_typing.specs.Making.{BoundAt, boundAtType, boundAtArray, Making, patternRow, orAbsent}
-use Rattle.pattern_typing.specs.Resolving.{Resolved, refusedHere, resolvedTo, whereNamed, pathMade, resolvedPath, Marked, modeOf, annotationOf, bindingMade, resolvedIdent, restBoundAt, restHolds, restMade, resolvedBoundRest, resolvedRest, bindsIn, fieldName, listRow, tupleStructAs, recordAs, resolvedNode, resolvedField, resolved}
+use Rattle.name_tables.specs.Names.{Use, asVariant, asConstant, asValue, rowFor, nameRowAt, namesHold}
+use Rattle.pattern_syntax.specs.Written.{Name, Node, wildcardNode, restNode, literalNode, boundNode, boundPathNode, rangeNode, pathNode, identNode, referenceNode, tupleNode, tupleStructNode, sliceNode, recordNode, fieldNode, orNode, Parts, partCount}
+use Rattle.pattern_syntax.specs.Formed.{literalFormed, nodeFormed, Stand, inPattern, inRange, inRecord, standsIn, mayStand, restPlace, restPartFormed}
+use Rattle.pattern_typing.specs.Crossing.{isArray, Crossed, crossed, tupleFields, variantFieldsOf}
+use Rattle.pattern_typing.specs.Contexts.{unseenParts}
+use Rattle.pattern_typing.specs.Making.{boundAtType, boundAtArray, Making, patternRow, orAbsent}
+use Rattle.pattern_typing.specs.Resolving.{Resolved, refusedHere, resolvedTo, whereNamed, pathMade, resolvedPath, Marked, modeOf, annotationOf, resolvedIdent, restBoundAt, restHolds, restMade, resolvedBoundRest, resolvedRest, listRow, tupleStructAs, recordAs, resolvedNode}
 use Rattle.pattern_images.specs.Drafts.{Draft}
-use Rattle.pattern_images.specs.Emitting.{withList}
-use Rattle.image_growth.specs.Growing.{Grown}
-use Rattle.image_validity.specs.Validity.{IsBytes}
+use Rattle.image_growth.specs.Growing.{IsBytes, Grown}
 use Rattle.image_validity.proofs.Tests.{or-right}
 use Rattle.image_validity.proofs.Keeping.{operand-holds-kept, constant-kept, variant-number-kept}
 use Rattle.image_validity.proofs.Bindings.{BoundHolds}
-use Rattle.image_validity.proofs.Emits.{Sound, soundRow, soundLiteral, soundOperand, soundNamed, soundRange, soundBind, soundReference, soundItems, soundFields, soundSlice, soundField}
+use Rattle.image_validity.proofs.Emits.{Sound, soundRow, soundLiteral, soundOperand, soundNamed, soundRange, soundBind, soundReference, soundItems, soundFields, soundSlice}
 use Rattle.image_validity.proofs.Types.{array-element, array-length, tuple-hold, variant-hold, crossed-holds, variant-named, constant-named, value-named}
-use Rattle.image_validity.proofs.Contexts.{TypedHolds, Fits, ReadsFit, none-fits, same-fits, arguments-fit, field-part-fits, fields-fit, target-fits, items-fit}
+use Rattle.image_validity.proofs.Contexts.{TypedHolds, ReadsFit, none-fits, same-fits, arguments-fit, fields-fit, target-fits, items-fit}
 
 -- the modes and annotations of names
 mode-most : (m : Marked) (mode : ℕ) → mode ≤ 2 → modeOf m mode ≤ 2

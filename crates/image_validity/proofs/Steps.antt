@@ -1,25 +1,21 @@
 -- What is kept along a draft: its rows hold in the whole image, and no pattern is used twice. Assumes nothing.
 use Prim.Native.Nat.{ℕ, zero, suc, _+_, _*_, _≤_, _<_}
 use mathlib.Core.Path.{_≡_, refl, sym, ap, _∙_}
-use mathlib.Core.Bool.{Bool, true, false, not, cond, _&&_, _||_}
-use mathlib.Core.List.{List, [], _∷_, _++_, append-assoc, append-nil}
-use native.Mathlib.Nat.{add-zero}
+use mathlib.Core.Bool.{Bool, true, false}
+use mathlib.Core.List.{List, [], _∷_, _++_, append-nil}
 use native.Mathlib.Omega.{arith}
-use borrow.Author.Tests.{ltb-true, lt-ltb, le-ltb, eqb-true, eq-eqb, ne-eqb, ltb-false, eqb-false}
-use lib.Dec.{eqb, ltb, leb}
+use borrow.Author.Tests.{ltb-true, lt-ltb, le-ltb, eqb-true, ltb-false, eqb-false}
+use lib.Dec.{eqb, ltb}
 use lib.ListN.{length, getD, length-append}
 use Rattle.image.specs.declared.rows.TypeRow.{TypeRow}
 use Rattle.image.specs.declared.rows.PatRow.{PatRow}
 use Rattle.image.specs.declared.rows.BindingRow.{BindingRow}
-use Rattle.image.specs.Kinds.{typeKind, patKind}
+use Rattle.image.specs.Kinds.{patKind}
 use Rattle.image.specs.Tables.{patternCount}
-use Rattle.image.specs.Lists.{allIn, gather}
-use Rattle.image.specs.Operands.{operandHolds}
-use Rattle.image.specs.Rules.{isFlag, namesType, typeShapeHolds, variantsBy}
+use Rattle.image.specs.Lists.{allIn}
 use Rattle.image.specs.Subpatterns.{subpatternsBy}
-use Rattle.image.specs.Patterns.{patternShapeHolds}
 use Rattle.pattern_syntax.specs.Formed.{Stand, inPattern, inRange, inRecord}
-use Rattle.pattern_images.specs.Drafts.{Draft, Made, emptyDraft, nextPattern, addType, addPattern, addBinding, addWords, addBytes}
+use Rattle.pattern_images.specs.Drafts.{Draft, Made, nextPattern, addType, addPattern, addBinding, addWords, addBytes}
 use Rattle.pattern_images.specs.Emitting.{made, withPattern}
 use Rattle.image_validity.specs.Standing.{one, times, below, seconds, openIn, Each, TypeGood, PatternGood, BindingGood, Good, used, Stood, Step}
 use Rattle.image_validity.proofs.Tests.{times-join, in-weaker, in-both, ltb-more}
@@ -48,7 +44,7 @@ module _ {A : Type 0} (holds : ℕ → A → Type 0) where
 pub below-next : (q n : ℕ) → below q (n + 1) ≡ below q n + one (eqb q n)
 below-next q n = by (ltb q n) refl (eqb q n) refl
   where
-    by : (a : Bool) → ltb q n ≡ a → (b : Bool) → eqb q n ≡ b → one (ltb q (n + 1)) ≡ one (ltb q n) + one (eqb q n)
+    by : (a : Bool) → ltb q n ≡ a → (b : Bool) → eqb q n ≡ b → below q (n + 1) ≡ below q n + one (eqb q n)
     by true l true e = absurd (omega (arith, ltb-true q n l, eqb-true q n e))
     by true l false e = rw (l, e, lt-ltb q (n + 1) (omega (arith, ltb-true q n l)))
     by false l true e = rw (l, e, lt-ltb q (n + 1) (omega (arith, eqb-true q n e)))

@@ -1,32 +1,31 @@
 -- What a sheet that keeps its rules says of its types, and what a name table says of its rows. Assumes nothing.
-use Prim.Native.Nat.{ℕ, zero, suc, _+_, _*_, _≤_, _<_}
+use Prim.Native.Nat.{ℕ, zero, suc, _+_, _≤_, _<_}
 use mathlib.Core.Path.{_≡_, refl, sym, ap, _∙_}
-use mathlib.Core.Bool.{Bool, true, false, not, cond, _&&_, _||_, true≢false, false≢true}
-use mathlib.Core.Option.{Option, none, some}
-use mathlib.Core.List.{List, [], _∷_}
+use mathlib.Core.Bool.{Bool, true, false, not, cond, _&&_, _||_}
+use mathlib.Core.Option.{some}
+use mathlib.Core.List.{List}
 use native.Mathlib.Nat.{add-zero}
 use native.Mathlib.Omega.{arith}
-use borrow.Author.Tests.{ltb-true, ltb-false, lt-ltb, leb-true, eqb-true, eqb-false, not-true}
+use borrow.Author.Tests.{ltb-true, leb-true, eqb-true, eqb-false, not-true}
 use lib.Dec.{eqb, ltb, leb}
 use lib.ListN.{length, getD}
-use Rattle.image.specs.declared.rows.TypeRow.{TypeRow}
-use Rattle.image.specs.Bytes.{byteAt, wordAt}
+use Rattle.image.specs.Bytes.{wordAt}
 use Rattle.image.specs.Tables.{typeCount, variantCount, listCount, dataCount}
 use Rattle.image.specs.Kinds.{typeKind, adtKind}
 use Rattle.image.specs.Rows.{typeAt, variantAt, listAt, operandAt}
 use Rattle.image.specs.Lists.{allIn, allBelow}
 use Rattle.image.specs.Types.{isSet}
 use Rattle.image.specs.Operands.{operandHolds}
-use Rattle.image.specs.Rules.{absent, isFlag, inTable, namesType, listed, typesListed, adtMayHave, typeShapeHolds, typeHolds, variantHolds}
+use Rattle.image.specs.Rules.{absent, inTable, namesType, listed, typesListed, adtMayHave, typeShapeHolds, variantHolds}
 use Rattle.image.proofs.Bools.{and-left, and-right, below-at}
 use Rattle.image.proofs.Known.{type-shape}
 use Rattle.type_sheets.specs.Sheets.{sheetHolds}
 use Rattle.name_tables.specs.declared.NameRow.{NameRow}
 use Rattle.name_tables.specs.Names.{Use, asVariant, asConstant, asValue, serves, isNamed, rowFor, rowCount, rowName, nameRowAt, nameByteCount, nameFrameHolds, namesSomething, nameRowHolds, namesHold}
 use Rattle.pattern_words.specs.Words.{sameWord}
-use Rattle.pattern_typing.specs.Crossing.{isTuple, isAdt, isReference, isArray, isSlice, isWrittenAs, byRef, byRefMut, Crossed, behindReference, crossOne, crossUpTo, crossed, FieldTypes, tupleFields, hasVariantOf, variantFieldsOf}
-use Rattle.image_validity.specs.Validity.{IsBytes}
-use Rattle.image_validity.proofs.Tests.{or-cases, and-first, and-second, and-third}
+use Rattle.pattern_typing.specs.Crossing.{isTuple, isAdt, isReference, isArray, isSlice, byRef, byRefMut, Crossed, behindReference, crossOne, crossUpTo, crossed, FieldTypes, tupleFields, hasVariantOf, variantFieldsOf}
+use Rattle.image_growth.specs.Growing.{IsBytes}
+use Rattle.image_validity.proofs.Tests.{or-cases, and-first, and-third}
 use Rattle.image_validity.proofs.Keeping.{sheet-type, sheet-variant}
 use Rattle.image_validity.proofs.Bindings.{found}
 use Rattle.image_validity.proofs.Emits.{in-at}

@@ -1,12 +1,12 @@
 -- The image of a sheet and what a text adds to it is valid. Assumes nothing.
 use Prim.Native.Nat.{ℕ, zero, suc, _+_, _-_, _≤_, _<_}
 use mathlib.Core.Path.{_≡_, refl, sym, ap, ap₂, _∙_}
-use mathlib.Core.Bool.{Bool, true, false, cond, _&&_}
+use mathlib.Core.Bool.{Bool, true, false, _&&_}
 use mathlib.Core.Option.{none}
 use mathlib.Core.List.{List, [], _∷_, _++_}
 use native.Mathlib.Nat.{zero-add, add-zero}
 use native.Mathlib.Omega.{arith}
-use borrow.Author.Tests.{ltb-true, ltb-false, lt-ltb, le-ltb, leb-true, le-leb, eq-eqb}
+use borrow.Author.Tests.{ltb-true, ltb-false, le-leb, eq-eqb}
 use lib.Dec.{eqb, ltb, leb}
 use lib.ListN.{length, getD}
 use Rattle.image.specs.declared.rows.TypeRow.{TypeRow}
@@ -14,30 +14,28 @@ use Rattle.image.specs.declared.rows.PatRow.{PatRow}
 use Rattle.image.specs.declared.rows.BindingRow.{BindingRow}
 use Rattle.image.specs.Bytes.{byteAt, longAt}
 use Rattle.image.specs.Tables.{typeCount, variantCount, patternCount, bindingCount, listCount, dataCount, tablesEnd}
-use Rattle.image.specs.Kinds.{typeKind, patKind}
-use Rattle.image.specs.Rows.{typeAt, variantAt, patAt, bindingAt}
-use Rattle.image.specs.Lists.{allBelow, allIn, allTrue, distinct, gather}
-use Rattle.image.specs.Rules.{countsWhatFollows, versionIsOne, tablesFillTheRest, isFlag, namesType, typeShapeHolds, typeHolds, variantsBy, variantsOf, adtsShareNoVariant, variantHolds, bindingHolds, withinLimits}
+use Rattle.image.specs.Kinds.{patKind}
+use Rattle.image.specs.Rows.{patAt}
+use Rattle.image.specs.Lists.{allBelow, allTrue, gather}
+use Rattle.image.specs.Rules.{countsWhatFollows, versionIsOne, tablesFillTheRest, typeHolds, adtsShareNoVariant, variantHolds, bindingHolds, withinLimits}
 use Rattle.image.specs.Subpatterns.{subpatternsBy, subpatterns}
-use Rattle.image.specs.Patterns.{patternShapeHolds, patternHolds, subpatternsBelow, usedOnce}
-use Rattle.image.specs.Valid.{rules, valid}
+use Rattle.image.specs.Patterns.{patternHolds, subpatternsBelow, usedOnce}
+use Rattle.image.specs.Valid.{valid}
 use Rattle.image.proofs.Bools.{and-left, and-right, and-true, all-true-at}
 use Rattle.type_sheets.specs.Sheets.{withinSheetLimits, sheetRules, sheetHolds}
-use Rattle.name_tables.specs.Names.{namesHold}
 use Rattle.pattern_syntax.specs.Written.{Written}
-use Rattle.pattern_syntax.specs.Formed.{formed, inPattern, nodeIn}
+use Rattle.pattern_syntax.specs.Formed.{inPattern}
 use Rattle.pattern_typing.specs.Crossing.{byValue}
 use Rattle.pattern_typing.specs.Contexts.{typed}
 use Rattle.pattern_typing.specs.Making.{patternRow}
-use Rattle.pattern_typing.specs.Failing.{refusedIn}
-use Rattle.pattern_images.specs.Drafts.{Draft, Made, emptyDraft, nextType, nextPattern, nextBinding, nextWord, nextByte}
+use Rattle.pattern_images.specs.Drafts.{Draft, emptyDraft, nextType, nextPattern, nextBinding, nextWord, nextByte}
 use Rattle.pattern_images.specs.Emitting.{emitted}
 use Rattle.pattern_images.specs.Imaging.{imageWith, derefsWithin, withinImageLimits}
 use Rattle.pattern_reading.specs.Reads.{draftOf}
 use Rattle.image_growth.specs.Growing.{Grown}
 use Rattle.image_validity.specs.Validity.{Readable, HasValidImage}
 use Rattle.image_growth.proofs.Grows.{grown}
-use Rattle.image_validity.specs.Standing.{BindingGood, Good, PatternGood, Step, TypeGood, below, one, times, used}
+use Rattle.image_validity.specs.Standing.{BindingGood, Good, PatternGood, TypeGood, below, one, times, used}
 use Rattle.image_validity.proofs.Tests.{below-all, in-weaker, ltb-more, and-three, gather-split, in-gathered, times-join, distinct-by-times, times-distinct, times-failing}
 use Rattle.image_validity.proofs.Keeping.{sheet-below, sheet-once, type-kept, variant-kept, binding-kept, pattern-kept, below-kept, used-kept, adts-kept}
 use Rattle.image_validity.proofs.Extending.{extends-same}

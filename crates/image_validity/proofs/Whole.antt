@@ -1,22 +1,21 @@
 -- What a formed tree that is not refused adds to a sheet holds in the whole image, and each pattern is used at most once. Assumes nothing.
 use Prim.Native.Nat.{ℕ}
-use mathlib.Core.Path.{_≡_, refl, sym, ap, _∙_}
-use mathlib.Core.Bool.{Bool, true, _&&_}
+use mathlib.Core.Path.{_≡_, refl}
+use mathlib.Core.Bool.{true, _&&_}
 use mathlib.Core.Option.{Option, none, some}
 use mathlib.Core.List.{List}
 use native.Mathlib.Omega.{arith}
 use Rattle.image.proofs.Bools.{and-left, and-right}
 use Rattle.type_sheets.specs.Sheets.{sheetHolds}
 use Rattle.name_tables.specs.Names.{namesHold}
-use Rattle.pattern_syntax.specs.Written.{Node, Written, written, Parts, noParts, more, partCount}
+use Rattle.pattern_syntax.specs.Written.{Written, written, Parts, noParts, more, partCount}
 use Rattle.pattern_syntax.specs.Formed.{nodeFormed, Stand, standsIn, mayStand, restPlace, nodeIn, restPartFormed, formed, partsFormed}
 use Rattle.pattern_typing.specs.Contexts.{Context, PartsRead, partContext}
 use Rattle.pattern_typing.specs.Resolving.{resolved}
 use Rattle.pattern_typing.specs.Failing.{earlier, refusedIn, refusedAmong}
-use Rattle.pattern_images.specs.Drafts.{Draft, Made}
-use Rattle.pattern_images.specs.Emitting.{emitNode, emitted, emittedParts}
-use Rattle.image_growth.specs.Growing.{Grown}
-use Rattle.image_validity.specs.Validity.{IsBytes}
+use Rattle.pattern_images.specs.Drafts.{Draft}
+use Rattle.pattern_images.specs.Emitting.{emitted, emittedParts}
+use Rattle.image_growth.specs.Growing.{IsBytes, Grown}
 use Rattle.image_validity.specs.Standing.{Good, Step}
 use Rattle.image_validity.proofs.Tests.{and-first, and-second, and-third}
 use Rattle.image_validity.proofs.Extending.{Extends, extends-on, node-extends, emitted-extends}

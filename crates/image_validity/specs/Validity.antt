@@ -4,10 +4,9 @@ use mathlib.Core.Path.{_≡_}
 use mathlib.Core.Bool.{true}
 use mathlib.Core.Option.{none}
 use mathlib.Core.List.{List}
-use Rattle.image.specs.Bytes.{byteAt}
 use Rattle.image.specs.Tables.{typeCount}
 use Rattle.image.specs.Valid.{valid}
-use Rattle.type_sheets.specs.Sheets.{sheetHolds, withinSheetLimits}
+use Rattle.type_sheets.specs.Sheets.{sheetHolds}
 use Rattle.name_tables.specs.Names.{namesHold}
 use Rattle.pattern_syntax.specs.Written.{Written}
 use Rattle.pattern_syntax.specs.Formed.{inPattern, formed}
@@ -16,10 +15,7 @@ use Rattle.pattern_typing.specs.Contexts.{typed}
 use Rattle.pattern_typing.specs.Failing.{refusedIn}
 use Rattle.pattern_images.specs.Imaging.{imageWith, withinImageLimits}
 use Rattle.pattern_reading.specs.Reads.{draftOf}
-
--- the numbers of a list are bytes
-abbrev pub IsBytes : List ℕ → Type 0
-IsBytes image = (k : ℕ) → byteAt image k < 256
+use Rattle.image_growth.specs.Growing.{IsBytes}
 
 -- a sheet, a name table and an expected type that keep their rules, a tree that is formed and not refused, and no limit passed
 pub record Readable (sheet names : List ℕ) (expected : ℕ) (w : Written) : Type 0 where

@@ -1,7 +1,7 @@
 -- The chars among a text's tokens are scalar values. Assumes nothing.
 use Prim.Native.Nat.{ℕ, zero, suc, _+_, _*_, _<_}
 use Prim.Native.Char.{code}
-use mathlib.Core.Path.{_≡_, refl, sym, ap, _∙_}
+use mathlib.Core.Path.{_≡_, refl}
 use mathlib.Core.Bool.{Bool, true, false, cond, not, _&&_, _||_}
 use mathlib.Core.List.{List, [], _∷_}
 use native.Mathlib.Omega.{arith}
@@ -18,11 +18,11 @@ use Rattle.text_chars.specs.Gaps.{startOf}
 use Rattle.pattern_words.specs.declared.Kind.{Kind}
 use Rattle.pattern_words.specs.declared.Piece.{Piece}
 use Rattle.pattern_words.specs.Words.{isDigit, beginsWord, inWord, sameWord, isOneOf, keywords, neverRaw, failing, wordOf, endsPrefix, isRaw, rawPiece, plainPiece, wordPiece}
-use Rattle.pattern_tokens.specs.declared.Token.{Token}
-use Rattle.pattern_tokens.specs.Literals.{inInteger, goesOn, integerOf, integerPiece, hexDigit, simpleEscape, byteEscape, escaped, unicodeFrom, escapeOf, plainChar, charOf, isSuffix, closedChar, charPiece}
+use Rattle.pattern_tokens.specs.Literals.{goesOn, integerOf, integerPiece, hexDigit, simpleEscape, byteEscape, escaped, unicodeFrom, escapeOf, plainChar, charOf, isSuffix, closedChar, charPiece}
 use Rattle.pattern_tokens.specs.Tokens.{Mark, begins, punctuation, firstOf, pieceOf, tokenFrom, tokenBehind, tokenAt}
-use Rattle.pattern_grammar.specs.Lexemes.{Spot, Lexeme, name, scalar, mark, ofKind, lexeme}
+use Rattle.pattern_grammar.specs.Lexemes.{Spot, Lexeme, ofKind, lexeme}
 use Rattle.pattern_grammar.specs.Parsed.{isLast, lexemesFrom, lexemes}
+use Rattle.tree_forms.specs.Forms.{LexemeOk, AllOk}
 
 -- what is read is a scalar value, where it is one
 abbrev ScalarOk : Scalar → Type 0
@@ -206,16 +206,7 @@ token-ok text at = by (startOf text at)
     by (Start.At from) = from-token from (drop from text)
     by (Start.BrokenAt from) = tt
 
--- tokens whose chars are scalar values
-abbrev pub LexemeOk : Lexeme → Type 0
-LexemeOk (name n) = Unit
-LexemeOk (scalar v q) = isScalarValue v ≡ true
-LexemeOk (mark m q) = Unit
-
-abbrev pub AllOk : List Lexeme → Type 0
-AllOk [] = Unit
-AllOk (t ∷ ts) = LexemeOk t × AllOk ts
-
+-- the token of a kind
 kind-lexeme : (k : Kind) (q : Spot) → KindOk k → LexemeOk (ofKind k q)
 unfolding ofKind
 kind-lexeme (Kind.Name at) q h = tt

@@ -1,27 +1,28 @@
 -- Every tree that a text has is formed. Assumes nothing.
-use Prim.Native.Nat.{ℕ, zero, suc}
-use mathlib.Core.Path.{_≡_, refl, sym, ap, subst, _∙_}
-use mathlib.Core.Bool.{Bool, true, false, cond, _&&_, true≢false, false≢true}
+use Prim.Native.Nat.{ℕ}
+use mathlib.Core.Path.{_≡_, refl, ap}
+use mathlib.Core.Bool.{Bool, true, false, cond}
 use mathlib.Core.Option.{Option, none, some}
 use mathlib.Core.List.{List, [], _∷_}
 use native.Mathlib.Omega.{arith}
 use lib.Dec.{ltb}
 use lib.ListN.{length}
-use Rattle.image.proofs.Bools.{and-left, and-right, and-true}
+use Rattle.image.proofs.Bools.{and-true}
 use Rattle.image.specs.Operands.{isScalarValue}
 use Rattle.text_chars.specs.Scalars.{isScalarValue as isScalar}
-use Rattle.pattern_grammar.specs.Lexemes.{Spot, Identifier, Lexeme, name, scalar, mark, endMark, strictly}
-use Rattle.pattern_grammar.specs.Trees.{NamePath, segment, inside, LiteralPattern, trueAt, falseAt, character, whole, negative, RangeBound, constant, place, RangeDots, exclusive, inclusive, BoundName, Ampersand, single, double, ListHead, tupleAt, structAt, sliceAt, closer, RecordHead, FieldKey, index, label, Pattern, alone, or, NoTopAlt, plain, between, upward, upTo, WithoutRange, literal, ident, identAt, wild, rest, reference, path, list, listTo, recordOf, recordTo, recordDots, ListItems, noItem, item, RecordFields, noField, field, RecordField, keyed, short, pathT, literalT, boundT, dotsT, optionalT, nameT, ampersandT, headT, recordT, keyT, patternT, altT, plainT, itemsT, fieldsT, fieldT}
+use Rattle.pattern_grammar.specs.Lexemes.{Spot, Lexeme, name, mark, endMark, strictly}
+use Rattle.pattern_grammar.specs.Trees.{NamePath, segment, inside, LiteralPattern, trueAt, falseAt, character, whole, negative, RangeBound, constant, place, BoundName, Ampersand, single, double, ListHead, tupleAt, structAt, sliceAt, RecordHead, Pattern, alone, or, NoTopAlt, plain, between, upward, upTo, WithoutRange, literal, ident, identAt, wild, rest, reference, path, list, listTo, recordOf, recordTo, recordDots, ListItems, noItem, item, RecordFields, noField, field, RecordField, keyed, short, pathT, literalT, boundT, optionalT, nameT, headT, recordT, patternT, altT, plainT, itemsT, fieldsT, fieldT}
 use Rattle.pattern_grammar.specs.Admitted.{pathAt, literalAt, boundAt}
-use Rattle.pattern_grammar.specs.Machine.{Reading, begin, expect, readAmp, readRef, readMut, readName, readBound, readPath, readSep, readMinus, readLiteral, readDots, readFrom, readTo, readToPath, readAlt, readBrace, readLabel, readIndex, readField, readEtc, done, failed, feed, fresh}
+use Rattle.pattern_grammar.specs.Machine.{Reading, done, failed, feed, fresh}
 use Rattle.pattern_grammar.specs.Parsed.{lexemes, parsed}
 use Rattle.pattern_grammar.proofs.Sound.{sound}
 use Rattle.pattern_grammar.proofs.Endings.{Over, text-over}
-use Rattle.pattern_syntax.specs.Written.{Name, Node, Written, written, Parts, noParts, more, begunAt, only, partCount, referenceNode}
-use Rattle.pattern_syntax.specs.Reduced.{identName, pathName, keyName, literalValue, boundIn, writtenBound, writtenIdent, writtenReference, dotsAt, headAt, listNode, beforeRest, isPart, isGroup, oneOf, firstBeginning, writtenRecord, writtenField, alternatives, writtenAlt, writtenPlain, writtenItems, writtenFields, writtenFieldOf, reduced}
-use Rattle.pattern_syntax.specs.Formed.{literalFormed, nodeFormed, Stand, inPattern, inRange, inRecord, standsIn, mayStand, restPlace, restWithin, restPartFormed, formed, partsFormed}
-use Rattle.pattern_reading.specs.Reads.{Outcome, treeIs, failsAt, outcome}
-use Rattle.tree_forms.proofs.Chars.{AllOk, lexemes-ok}
+use Rattle.pattern_syntax.specs.Written.{Name, Node, Written, written, Parts, noParts, more, begunAt, only, partCount}
+use Rattle.pattern_syntax.specs.Reduced.{identName, keyName, literalValue, boundIn, writtenBound, writtenIdent, writtenReference, dotsAt, headAt, listNode, beforeRest, isPart, isGroup, oneOf, writtenRecord, writtenField, alternatives, writtenAlt, writtenPlain, writtenItems, writtenFields, writtenFieldOf, reduced}
+use Rattle.pattern_syntax.specs.Formed.{literalFormed, nodeFormed, Stand, inPattern, inRange, inRecord, standsIn, mayStand, restPlace, restPartFormed, formed, partsFormed}
+use Rattle.pattern_reading.specs.Reads.{treeIs, outcome}
+use Rattle.tree_forms.specs.Forms.{AllOk, TreeIsFormed}
+use Rattle.tree_forms.proofs.Chars.{lexemes-ok}
 use Rattle.tree_forms.proofs.Rests.{RestHolds, item-more, items-hold}
 
 -- the tokens behind what is no literal
@@ -249,7 +250,7 @@ tree-read _ p (Over.broken at) h =
     absurd (omega arith)
 
 -- The theorem.
-pub tree-formed : (text : List ℕ) (p : Pattern) → outcome (parsed text) ≡ treeIs p → formed (reduced text p) inPattern ≡ true
+pub tree-formed : (text : List ℕ) (p : Pattern) → TreeIsFormed text p
 unfolding parsed
 tree-formed text p h =
     let read = tree-read (parsed text) p (text-over text) h in

@@ -1,16 +1,15 @@
 -- A slice's rest is one of its parts, `..` or a name. Assumes nothing.
-use Prim.Native.Nat.{ℕ, zero, suc, _<_}
-use mathlib.Core.Path.{_≡_, refl, sym, ap, _∙_}
+use Prim.Native.Nat.{ℕ, suc}
+use mathlib.Core.Path.{_≡_, refl, ap, _∙_}
 use mathlib.Core.Bool.{Bool, true, false, cond, false≢true}
 use mathlib.Core.Option.{Option, none, some}
 use mathlib.Core.List.{List}
 use native.Mathlib.Omega.{arith}
 use borrow.Author.Tests.{ltb-true, lt-ltb, eq-eqb, ne-eqb}
-use lib.Dec.{eqb, ltb}
 use Rattle.pattern_grammar.specs.Lexemes.{Spot}
-use Rattle.pattern_grammar.specs.Trees.{ListHead, tupleAt, structAt, sliceAt, Pattern, alone, or, NoTopAlt, plain, between, upward, upTo, WithoutRange, literal, ident, identAt, wild, rest, reference, path, list, listTo, recordOf, recordTo, recordDots, ListItems, noItem, item}
+use Rattle.pattern_grammar.specs.Trees.{sliceAt, Pattern, alone, or, NoTopAlt, plain, between, upward, upTo, WithoutRange, literal, ident, identAt, wild, rest, reference, path, list, listTo, recordOf, recordTo, recordDots, ListItems, noItem, item}
 use Rattle.pattern_grammar.specs.Admitted.{isRestAlt, isRestPlain, isRest}
-use Rattle.pattern_syntax.specs.Written.{Node, restNode, identNode, Written, written, Parts, noParts, more, begunAt, only, partCount}
+use Rattle.pattern_syntax.specs.Written.{Written, written, Parts, more, begunAt, partCount}
 use Rattle.pattern_syntax.specs.Reduced.{writtenIdent, itemCount, orElse, beforeRest, isPart, oneOf, alternatives, writtenAlt, writtenPlain, writtenItems}
 use Rattle.pattern_syntax.specs.Formed.{restWithin, mayBeRest, nodeIn, restPartFormed}
 
