@@ -17,7 +17,7 @@ use Rattle.pattern_typing.specs.Crossing.{Crossed, crossed, FieldTypes, tupleFi
 use Rattle.pattern_typing.specs.Contexts.{Context, typed, restAmong, fieldAt, partless, unseen, PartsRead, unseenParts, sameParts, targetPart, argumentParts, itemParts, fieldParts, fieldPart, fieldContext, standsBefore, argumentContext, isRestItem, itemContext, targetContext, partContext}
 use Rattle.pattern_typing.specs.Making.{operandNamed, fieldMade}
 use Rattle.pattern_typing.specs.Resolving.{Resolved, resolvedTo, Marked, refusedHere, pathMade, whereNamed, resolvedPath, resolvedIdent, restHolds, resolvedBoundRest, resolvedRest, bindsIn, fieldName, tupleStructAs, recordAs, resolvedNode, resolvedField, resolved}
-use Rattle.draft_stack.specs.Stack.{wordsEach, wordsPut}
+use Rattle.draft_stack.specs.Stack.{wordsEach, wordsPut, mayHaveParts}
 
 -- how many words stand for what stands there
 abbrev pub standWords : Stand → ℕ
@@ -51,6 +51,7 @@ partsSuit sheet s reads (more ps w) = contextSuits s (partContext sheet reads (p
 -- what is made of a node takes its parts' words, puts its own, and its parts suit
 pub record Suited (sheet : List ℕ) (n : Node) (ps : Parts) (put : ℕ) (r : Resolved) : Type 0 where
   pub each : wordsEach (r .making) ≡ standWords (standsIn n)
+  pub fine : mayHaveParts (r .making) (partCount ps) ≡ true
   pub puts : wordsPut (r .making) (standWords (standsIn n) * partCount ps) ≡ put
   pub reads : partsSuit sheet (standsIn n) (r .reads) ps ≡ true
 
@@ -127,13 +128,13 @@ module _ (sheet : List ℕ) where
   -- a pattern or a bound
   module _ (names : List ℕ) (at : ℕ) (ps : Parts) where
     -- a leaf: what is made of it has no parts
-    leaf : (n : Node) (r : Resolved) → partCount ps ≡ 0 → wordsEach (r .making) ≡ standWords (standsIn n) → wordsPut (r .making) (standWords (standsIn n) * partCount ps) ≡ 1 → Suited sheet n ps 1 r
-    leaf n r e each puts = record { each = each; puts = puts; reads = leaf-suits (standsIn n) (r .reads) ps e }
+    leaf : (n : Node) (r : Resolved) → partCount ps ≡ 0 → wordsEach (r .making) ≡ standWords (standsIn n) → mayHaveParts (r .making) (partCount ps) ≡ true → wordsPut (r .making) (standWords (standsIn n) * partCount ps) ≡ 1 → Suited sheet n ps 1 r
+    leaf n r e each fine puts = record { each = each; fine = fine; puts = puts; reads = leaf-suits (standsIn n) (r .reads) ps e }
 
     path-suited : (n : Node) (row : Option ℕ) (name : Name) (c : Crossed) → standsIn n ≡ inPattern → partCount ps ≡ 0 → resolvedPath names row name c .refusedAt ≡ none → Suited sheet n ps 1 (resolvedPath names row name c)
-    unfolding resolvedPath pathMade wordsEach wordsPut
+    unfolding resolvedPath pathMade wordsEach wordsPut mayHaveParts
     path-suited n none name c s e free = absurd (Option·some-ne-none (name .at) free)
-    path-suited n (some row) name c s e free = leaf n (resolvedPath names (some row) name c) e (sym (ap standWords s)) refl
+    path-suited n (some row) name c s e free = leaf n (resolvedPath names (some row) name c) e (sym (ap standWords s)) refl refl
 
     last-false : (x y z : Bool) → (x || y || z) ≡ false → z ≡ false
     last-false true true z e = absurd (true≢false e)
@@ -150,9 +151,9 @@ module _ (sheet : List ℕ) where
 
     -- `ref`, `mut` or `@` make a binding
     ident-suited : (row : Option ℕ) (m : Marked) (t mode : ℕ) → resolvedIdent sheet names row m t mode (partCount ps) .refusedAt ≡ none → Suited sheet (identNode (m .reference) (m .mutable) (m .called)) ps 1 (resolvedIdent sheet names row m t mode (partCount ps))
-    unfolding resolvedIdent wordsEach wordsPut standsIn
+    unfolding resolvedIdent wordsEach wordsPut mayHaveParts standsIn
     ident-suited none m t mode free =
-        record { each = refl; puts = refl; reads = all-suit inPattern (sameParts t mode) (λ i n. unfold partContext contextSuits in refl) ps }
+        record { each = refl; fine = refl; puts = refl; reads = all-suit inPattern (sameParts t mode) (λ i n. unfold partContext contextSuits in refl) ps }
     ident-suited (some row) m t mode free = constant-suited (m .reference || m .mutable || leb 1 (partCount ps)) row m (crossed sheet t mode) refl free
 
     -- where the name is in the table
@@ -168,41 +169,41 @@ module _ (sheet : List ℕ) where
 
     -- a pattern or a bound of a type
     typed-suited : (n : Node) (t mode : ℕ) → nodeFormed n (partCount ps) ≡ true → restPartFormed (restPlace n) ps ≡ true → resolvedNode sheet names n (partCount ps) t mode .refusedAt ≡ none → Suited sheet n ps 1 (resolvedNode sheet names n (partCount ps) t mode)
-    unfolding resolvedNode nodeFormed standsIn wordsEach wordsPut restPlace
-    typed-suited wildcardNode t mode f r free = leaf wildcardNode (resolvedNode sheet names wildcardNode (partCount ps) t mode) (eqb-true (partCount ps) 0 f) refl refl
-    typed-suited restNode t mode f r free = leaf restNode (resolvedNode sheet names restNode (partCount ps) t mode) (eqb-true (partCount ps) 0 f) refl refl
+    unfolding resolvedNode nodeFormed standsIn wordsEach wordsPut mayHaveParts restPlace
+    typed-suited wildcardNode t mode f r free = leaf wildcardNode (resolvedNode sheet names wildcardNode (partCount ps) t mode) (eqb-true (partCount ps) 0 f) refl refl refl
+    typed-suited restNode t mode f r free = leaf restNode (resolvedNode sheet names restNode (partCount ps) t mode) (eqb-true (partCount ps) 0 f) refl refl refl
     typed-suited (literalNode v) t mode f r free =
-        leaf (literalNode v) (resolvedNode sheet names (literalNode v) (partCount ps) t mode) (eqb-true (partCount ps) 0 (and-right (literalFormed v) (eqb (partCount ps) 0) f)) refl refl
+        leaf (literalNode v) (resolvedNode sheet names (literalNode v) (partCount ps) t mode) (eqb-true (partCount ps) 0 (and-right (literalFormed v) (eqb (partCount ps) 0) f)) refl refl refl
     typed-suited (boundNode v) t mode f r free =
-        leaf (boundNode v) (resolvedNode sheet names (boundNode v) (partCount ps) t mode) (eqb-true (partCount ps) 0 (and-right (literalFormed v) (eqb (partCount ps) 0) f)) refl refl
+        leaf (boundNode v) (resolvedNode sheet names (boundNode v) (partCount ps) t mode) (eqb-true (partCount ps) 0 (and-right (literalFormed v) (eqb (partCount ps) 0) f)) refl refl refl
     typed-suited (boundPathNode n) t mode f r free =
         named-suited (boundPathNode n) 1 (rowFor names asConstant (n .bytes)) n (λ number. resolvedTo (operandNamed number) unseenParts)
-        (λ number. leaf (boundPathNode n) (resolvedTo (operandNamed number) unseenParts) (eqb-true (partCount ps) 0 f) refl refl) free
+        (λ number. leaf (boundPathNode n) (resolvedTo (operandNamed number) unseenParts) (eqb-true (partCount ps) 0 f) refl refl refl) free
     typed-suited (rangeNode lower upper dots) t mode f r free =
-        record { each = refl; puts = refl; reads = all-suit inRange (sameParts t mode) (λ i n. unfold partContext contextSuits in refl) ps }
+        record { each = refl; fine = f; puts = refl; reads = all-suit inRange (sameParts t mode) (λ i n. unfold partContext contextSuits in refl) ps }
     typed-suited (pathNode n) t mode f r free = path-suited (pathNode n) (rowFor names asValue (n .bytes)) n (crossed sheet t mode) refl (eqb-true (partCount ps) 0 f) free
     typed-suited (identNode ref mut n) t mode f r free = ident-suited (rowFor names asValue (n .bytes)) (record { reference = ref; mutable = mut; called = n }) t mode free
     typed-suited (referenceNode m) t mode f r free =
-        record { each = refl; puts = refl; reads = all-suit inPattern (targetPart m t) (λ i n. unfold partContext in target-suits m t n) ps }
+        record { each = refl; fine = refl; puts = refl; reads = all-suit inPattern (targetPart m t) (λ i n. unfold partContext in target-suits m t n) ps }
     typed-suited (tupleNode before) t mode f r free =
-        record { each = refl; puts = refl; reads = arguments-suit (tupleFields sheet (crossed sheet t mode .ty)) (crossed sheet t mode .mode) before (partCount ps) }
+        record { each = refl; fine = refl; puts = refl; reads = arguments-suit (tupleFields sheet (crossed sheet t mode .ty)) (crossed sheet t mode .mode) before (partCount ps) }
     typed-suited (tupleStructNode n before) t mode f r free =
         named-suited (tupleStructNode n before) 1 (rowFor names asVariant (n .bytes)) n (tupleStructAs sheet (crossed sheet t mode) before (partCount ps))
-        (λ v. unfold tupleStructAs in record { each = refl; puts = refl; reads = arguments-suit (variantFieldsOf sheet (crossed sheet t mode .ty) v) (crossed sheet t mode .mode) before (partCount ps) }) free
+        (λ v. unfold tupleStructAs in record { each = refl; fine = refl; puts = refl; reads = arguments-suit (variantFieldsOf sheet (crossed sheet t mode .ty) v) (crossed sheet t mode .mode) before (partCount ps) }) free
     typed-suited (sliceNode before) t mode f r free =
-        record { each = refl; puts = refl; reads = item-suits (crossed sheet t mode .ty) (crossed sheet t mode .mode) before (partCount ps) ps r }
+        record { each = refl; fine = f; puts = refl; reads = item-suits (crossed sheet t mode .ty) (crossed sheet t mode .mode) before (partCount ps) ps r }
     typed-suited (recordNode n) t mode f r free =
         named-suited (recordNode n) 1 (rowFor names asVariant (n .bytes)) n (recordAs (crossed sheet t mode))
-        (λ v. unfold recordAs in record { each = refl; puts = refl; reads = all-suit inRecord (fieldParts (crossed sheet t mode .ty) v (crossed sheet t mode .mode)) (λ i k. unfold partContext contextSuits in refl) ps }) free
+        (λ v. unfold recordAs in record { each = refl; fine = refl; puts = refl; reads = all-suit inRecord (fieldParts (crossed sheet t mode .ty) v (crossed sheet t mode .mode)) (λ i k. unfold partContext contextSuits in refl) ps }) free
     typed-suited (fieldNode n) t mode f r free = absurd (Option·some-ne-none (n .at) free)
     typed-suited orNode t mode f r free =
-        record { each = refl; puts = refl; reads = all-suit inPattern (sameParts t mode) (λ i n. unfold partContext contextSuits in refl) ps }
+        record { each = refl; fine = refl; puts = refl; reads = all-suit inPattern (sameParts t mode) (λ i n. unfold partContext contextSuits in refl) ps }
 
     -- a slice's rest
     bound-rest-suited : (row : Option ℕ) (m : Marked) (t others mode : ℕ) → resolvedBoundRest sheet row m t others mode .refusedAt ≡ none → Suited sheet (identNode (m .reference) (m .mutable) (m .called)) ps 1 (resolvedBoundRest sheet row m t others mode)
-    unfolding resolvedBoundRest wordsEach wordsPut standsIn
+    unfolding resolvedBoundRest wordsEach wordsPut mayHaveParts standsIn
     bound-rest-suited none m t others mode free =
-        record { each = refl; puts = refl; reads = all-suit inPattern (sameParts t mode) (λ i n. unfold partContext contextSuits in refl) ps }
+        record { each = refl; fine = refl; puts = refl; reads = all-suit inPattern (sameParts t mode) (λ i n. unfold partContext contextSuits in refl) ps }
     bound-rest-suited (some row) m t others mode free = absurd (Option·some-ne-none (m .called .at) free)
 
     held-suited : (b : Bool) (n : Node) (r : Resolved) → (r .refusedAt ≡ none → Suited sheet n ps 1 r) → cond b r (refusedHere at) .refusedAt ≡ none → Suited sheet n ps 1 (cond b r (refusedHere at))
@@ -212,7 +213,7 @@ module _ (sheet : List ℕ) where
     rest-suited : (n : Node) (t others mode : ℕ) → mayBeRest n ≡ true → nodeFormed n (partCount ps) ≡ true → resolvedRest sheet names at (bindsIn n) t others mode .refusedAt ≡ none → Suited sheet n ps 1 (resolvedRest sheet names at (bindsIn n) t others mode)
     unfolding mayBeRest nodeFormed bindsIn resolvedRest
     rest-suited wildcardNode t others mode e f free = absurd (false≢true e)
-    rest-suited restNode t others mode e f free = leaf restNode (resolvedRest sheet names at none t others mode) (eqb-true (partCount ps) 0 f) (unfold wordsEach standsIn in refl) (unfold wordsPut in refl)
+    rest-suited restNode t others mode e f free = leaf restNode (resolvedRest sheet names at none t others mode) (eqb-true (partCount ps) 0 f) (unfold wordsEach standsIn in refl) (unfold mayHaveParts in refl) (unfold wordsPut in refl)
     rest-suited (literalNode v) t others mode e f free = absurd (false≢true e)
     rest-suited (boundNode v) t others mode e f free = absurd (false≢true e)
     rest-suited (boundPathNode n) t others mode e f free = absurd (false≢true e)
@@ -251,6 +252,7 @@ module _ (sheet : List ℕ) where
         named-suited (fieldNode n) 2 (rowFor names (asFieldOf v) (n .bytes)) n (λ number. resolvedTo (fieldMade number) (fieldPart fields mode number))
         (λ number. record {
           each = unfold wordsEach standsIn in refl;
+          fine = unfold mayHaveParts in f;
           puts = unfold wordsPut standsIn in ap (λ (k : ℕ). suc (1 * k)) (eqb-true (partCount ps) 1 f);
           reads = unfold standsIn in all-suit inPattern (fieldPart fields mode number) (λ i k. unfold partContext in field-suits fields mode number k) ps;
         }) free

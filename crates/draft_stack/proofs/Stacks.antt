@@ -13,7 +13,7 @@ use Rattle.pattern_typing.specs.Making.{Making, notMade, rowMade, literalMade, 
 use Rattle.pattern_typing.specs.Closed.{ClosedMaking}
 use Rattle.pattern_images.specs.Drafts.{Draft, Made}
 use Rattle.pattern_images.specs.Emitting.{emitNode}
-use Rattle.draft_stack.specs.Stack.{Stacked, wordsEach, wordsTaken, wordsPut, stackedOn, emitOne, emitUp, neverShort}
+use Rattle.draft_stack.specs.Stack.{Stacked, wordsEach, wordsTaken, wordsPut, stackedOn, emitOne, emitUp, mayHaveParts, partsStand}
 
 -- a making puts so many words on the stack
 pub words-put : (sheet : List ℕ) (m : Making) (many : ℕ) (stands : List ℕ) (d : Draft) → length (emitNode sheet m many stands d .stands) ≡ wordsPut m (length stands)
@@ -46,33 +46,41 @@ module _ (sheet : List ℕ) where
       length-append (take left stack) (emitNode sheet (m .makes) (m .parts) (drop left stack) d .stands)
       ∙ ap₂ (λ (a b : ℕ). a + b) (length-take-le left stack (omega arith)) (words-put sheet (m .makes) (m .parts) (drop left stack) d ∙ ap (wordsPut (m .makes)) taken)
 
-  -- a row is never short, and the one behind it is not
-  pub short-append : (xs ys : List ClosedMaking) (stack : List ℕ) (d : Draft) → neverShort xs (length stack) ≡ true → neverShort ys (length (emitUp sheet xs stack d .stack)) ≡ true → neverShort (xs ++ ys) (length stack) ≡ true
-  unfolding emitUp neverShort
-  short-append [] ys stack d e f = f
-  short-append (x ∷ xs) ys stack d e f =
-      let enough = leb (wordsTaken x) (length stack) in
-      let height = length stack - wordsTaken x + wordsPut (x .makes) (wordsTaken x) in
-      let first = and-left enough (neverShort xs height) e in
-      let same = height-one x stack d (leb-true (wordsTaken x) (length stack) first) in
-      and-true enough (neverShort (xs ++ ys) height) first
-      (subst (λ (k : ℕ). neverShort (xs ++ ys) k ≡ true) same
-      (short-append xs ys (emitOne sheet x stack d .stack) (emitOne sheet x stack d .draft)
-      (subst (λ (k : ℕ). neverShort xs k ≡ true) (sym same) (and-right enough (neverShort xs height) e)) f))
+  -- what a row asks of its first making, and of those behind it
+  pub stand-first : (m : ClosedMaking) (ms : List ClosedMaking) (stack : List ℕ) (d : Draft) → partsStand (m ∷ ms) (length stack) ≡ true → (mayHaveParts (m .makes) (m .parts) ≡ true) × ((wordsTaken m ≤ length stack) × (partsStand ms (length (emitOne sheet m stack d .stack)) ≡ true))
+  unfolding partsStand
+  stand-first m ms stack d e =
+      let fits = mayHaveParts (m .makes) (m .parts) in
+      let enough = leb (wordsTaken m) (length stack) in
+      let height = length stack - wordsTaken m + wordsPut (m .makes) (wordsTaken m) in
+      let first = and-left (fits && enough) (partsStand ms height) e in
+      let long = leb-true (wordsTaken m) (length stack) (and-right fits enough first) in
+      (and-left fits enough first, (long, subst (λ (k : ℕ). partsStand ms k ≡ true) (sym (height-one m stack d long)) (and-right (fits && enough) (partsStand ms height) e)))
 
-  -- so there are enough words for the making that comes next
-  pub enough-words : (xs : List ClosedMaking) (m : ClosedMaking) (ys : List ClosedMaking) (stack : List ℕ) (d : Draft) → neverShort (xs ++ m ∷ ys) (length stack) ≡ true → wordsTaken m ≤ length (emitUp sheet xs stack d .stack)
-  unfolding emitUp neverShort
-  enough-words [] m ys stack d e =
-      leb-true (wordsTaken m) (length stack)
-      (and-left (leb (wordsTaken m) (length stack)) (neverShort ys (length stack - wordsTaken m + wordsPut (m .makes) (wordsTaken m))) e)
-  enough-words (x ∷ xs) m ys stack d e =
-      let enough = leb (wordsTaken x) (length stack) in
-      let height = length stack - wordsTaken x + wordsPut (x .makes) (wordsTaken x) in
-      let first = and-left enough (neverShort (xs ++ m ∷ ys) height) e in
-      let same = height-one x stack d (leb-true (wordsTaken x) (length stack) first) in
-      enough-words xs m ys (emitOne sheet x stack d .stack) (emitOne sheet x stack d .draft)
-      (subst (λ (k : ℕ). neverShort (xs ++ m ∷ ys) k ≡ true) (sym same) (and-right enough (neverShort (xs ++ m ∷ ys) height) e))
+  pub first-stands : (m : ClosedMaking) (ms : List ClosedMaking) (stack : List ℕ) (d : Draft) → mayHaveParts (m .makes) (m .parts) ≡ true → wordsTaken m ≤ length stack → partsStand ms (length (emitOne sheet m stack d .stack)) ≡ true → partsStand (m ∷ ms) (length stack) ≡ true
+  unfolding partsStand
+  first-stands m ms stack d fits long e =
+      let enough = leb (wordsTaken m) (length stack) in
+      let height = length stack - wordsTaken m + wordsPut (m .makes) (wordsTaken m) in
+      and-true (mayHaveParts (m .makes) (m .parts) && enough) (partsStand ms height)
+      (and-true (mayHaveParts (m .makes) (m .parts)) enough fits (le-leb (wordsTaken m) (length stack) long))
+      (subst (λ (k : ℕ). partsStand ms k ≡ true) (height-one m stack d long) e)
+
+  -- the parts of a row stand, and those of the one behind it
+  pub stand-append : (xs ys : List ClosedMaking) (stack : List ℕ) (d : Draft) → partsStand xs (length stack) ≡ true → partsStand ys (length (emitUp sheet xs stack d .stack)) ≡ true → partsStand (xs ++ ys) (length stack) ≡ true
+  unfolding emitUp
+  stand-append [] ys stack d e f = f
+  stand-append (x ∷ xs) ys stack d e f =
+      let known = stand-first x xs stack d e in
+      first-stands x (xs ++ ys) stack d (known .0) (known .1 .0)
+      (stand-append xs ys (emitOne sheet x stack d .stack) (emitOne sheet x stack d .draft) (known .1 .1) f)
+
+  -- so do those of a row behind another
+  pub stand-behind : (xs ys : List ClosedMaking) (stack : List ℕ) (d : Draft) → partsStand (xs ++ ys) (length stack) ≡ true → partsStand ys (length (emitUp sheet xs stack d .stack)) ≡ true
+  unfolding emitUp
+  stand-behind [] ys stack d e = e
+  stand-behind (x ∷ xs) ys stack d e =
+      stand-behind xs ys (emitOne sheet x stack d .stack) (emitOne sheet x stack d .draft) (stand-first x (xs ++ ys) stack d e .1 .1)
 
   -- a making on top of its parts' words
   pub emit-top : (m : ClosedMaking) (stack words : List ℕ) (d : Draft) → length words ≡ wordsTaken m → emitOne sheet m (stack ++ words) d ≡ stackedOn stack (emitNode sheet (m .makes) (m .parts) words d)

@@ -7,10 +7,8 @@ use mathlib.Core.Option.{Option, none, some, Option·some-ne-none}
 use mathlib.Core.List.{List, [], _∷_, _++_, append-assoc, append-nil}
 use native.Mathlib.Nat.{mul-zero, mul-suc}
 use native.Mathlib.Omega.{arith}
-use borrow.Author.Tests.{le-leb}
-use lib.Dec.{leb}
 use lib.ListN.{length, length-append}
-use Rattle.image.proofs.Bools.{and-left, and-right, and-true}
+use Rattle.image.proofs.Bools.{and-left, and-right}
 use Rattle.pattern_syntax.specs.Written.{Node, Written, written, Parts, noParts, more, partCount}
 use Rattle.pattern_syntax.specs.Formed.{nodeFormed, Stand, inPattern, standsIn, mayStand, restPlace, nodeIn, restPartFormed, formed, partsFormed}
 use Rattle.pattern_typing.specs.Contexts.{Context, typed, PartsRead, partContext}
@@ -19,8 +17,8 @@ use Rattle.pattern_typing.specs.Failing.{earlier, refusedIn, refusedAmong}
 use Rattle.pattern_typing.specs.Resolving.{Resolved, resolved}
 use Rattle.pattern_images.specs.Drafts.{Draft, emptyDraft, Made}
 use Rattle.pattern_images.specs.Emitting.{made, emitNode, emitted, emittedParts}
-use Rattle.draft_stack.specs.Stack.{Stacked, wordsEach, wordsTaken, wordsPut, stackedOn, emitOne, emitUp, neverShort}
-use Rattle.draft_stack.proofs.Stacks.{words-put, emit-append, short-append, emit-top}
+use Rattle.draft_stack.specs.Stack.{Stacked, wordsEach, wordsTaken, wordsPut, stackedOn, emitOne, emitUp, mayHaveParts, partsStand}
+use Rattle.draft_stack.proofs.Stacks.{words-put, emit-append, first-stands, stand-append, emit-top}
 use Rattle.draft_stack.proofs.Fitting.{standWords, contextSuits, partsSuit, Suited, node-suited}
 
 none-first : (a b : Option ℕ) → earlier a b ≡ none → a ≡ none
@@ -36,16 +34,16 @@ none-second (some a) none e = refl
 none-second (some a) (some b) e = absurd (Option·some-ne-none _ e)
 
 module _ (sheet : List ℕ) where
-  -- a row of makings from a stack and a draft on: what it leaves on the stack, so many words, and that it is never short
+  -- a row of makings from a stack and a draft on: what it leaves on the stack, so many words, and that each finds its parts
   pub record Raises (ms : List ClosedMaking) (stack : List ℕ) (d : Draft) (m : Made) (many : ℕ) : Type 0 where
     pub same : emitUp sheet ms stack d ≡ stackedOn stack m
     pub long : length (m .stands) ≡ many
-    pub short : neverShort ms (length stack) ≡ true
+    pub stand : partsStand ms (length stack) ≡ true
 
   -- nothing at all
   raises-none : (stack : List ℕ) (d : Draft) → Raises [] stack d (made d []) 0
-  unfolding emitUp neverShort
-  raises-none stack d = record { same = ap (λ (s : List ℕ). record { stack = s; draft = d }) (sym (append-nil stack)); long = refl; short = refl }
+  unfolding emitUp partsStand
+  raises-none stack d = record { same = ap (λ (s : List ℕ). record { stack = s; draft = d }) (sym (append-nil stack)); long = refl; stand = refl }
 
   -- one row behind another
   raises-both : (xs ys : List ClosedMaking) (stack : List ℕ) (d : Draft) (m n : Made) (j k : ℕ) → Raises xs stack d m j → Raises ys (stack ++ m .stands) (m .draft) n k → Raises (xs ++ ys) stack d (made (n .draft) (m .stands ++ n .stands)) (j + k)
@@ -57,26 +55,25 @@ module _ (sheet : List ℕ) where
             ∙ second .same
             ∙ ap (λ (s : List ℕ). record { stack = s; draft = n .draft }) (append-assoc stack (m .stands) (n .stands));
         long = omega (arith, length-append (m .stands) (n .stands), first .long, second .long);
-        short =
-            short-append sheet xs ys stack d (first .short)
-            (subst (λ (u : Stacked). neverShort ys (length (u .stack)) ≡ true) (sym (first .same)) (second .short));
+        stand =
+            stand-append sheet xs ys stack d (first .stand)
+            (subst (λ (u : Stacked). partsStand ys (length (u .stack)) ≡ true) (sym (first .same)) (second .stand));
       }
 
   -- a making behind what its parts left
-  raises-node : (xs : List ClosedMaking) (m : ClosedMaking) (stack : List ℕ) (d : Draft) (parts : Made) (put : ℕ) → Raises xs stack d parts (wordsTaken m) → wordsPut (m .makes) (wordsTaken m) ≡ put → Raises (xs ++ m ∷ []) stack d (emitNode sheet (m .makes) (m .parts) (parts .stands) (parts .draft)) put
-  unfolding emitUp neverShort
-  raises-node xs m stack d parts put first puts =
+  raises-node : (xs : List ClosedMaking) (m : ClosedMaking) (stack : List ℕ) (d : Draft) (parts : Made) (put : ℕ) → Raises xs stack d parts (wordsTaken m) → mayHaveParts (m .makes) (m .parts) ≡ true → wordsPut (m .makes) (wordsTaken m) ≡ put → Raises (xs ++ m ∷ []) stack d (emitNode sheet (m .makes) (m .parts) (parts .stands) (parts .draft)) put
+  unfolding emitUp partsStand
+  raises-node xs m stack d parts put first fine puts =
       record {
         same =
             emit-append sheet xs (m ∷ []) stack d
             ∙ ap (λ (u : Stacked). emitOne sheet m (u .stack) (u .draft)) (first .same)
             ∙ emit-top sheet m stack (parts .stands) (parts .draft) (first .long);
         long = words-put sheet (m .makes) (m .parts) (parts .stands) (parts .draft) ∙ ap (wordsPut (m .makes)) (first .long) ∙ puts;
-        short =
-            short-append sheet xs (m ∷ []) stack d (first .short)
-            (subst (λ (u : Stacked). leb (wordsTaken m) (length (u .stack)) && true ≡ true) (sym (first .same))
-            (and-true (leb (wordsTaken m) (length (stack ++ parts .stands))) true
-            (le-leb (wordsTaken m) (length (stack ++ parts .stands)) (omega (arith, length-append stack (parts .stands), first .long))) refl));
+        stand =
+            stand-append sheet xs (m ∷ []) stack d (first .stand)
+            (subst (λ (u : Stacked). partsStand (m ∷ []) (length (u .stack)) ≡ true) (sym (first .same))
+            (first-stands sheet m [] (stack ++ parts .stands) (parts .draft) fine (omega (arith, length-append stack (parts .stands), first .long)) refl));
       }
 
   module _ (names : List ℕ) where
@@ -102,7 +99,7 @@ module _ (sheet : List ℕ) where
           let taken = ap (λ (k : ℕ). k * partCount ps) (suited .each) in
           raises-node (makingsAmong sheet names ps (r .reads)) (closedMaking (r .making) (partCount ps)) stack d (emittedParts sheet names ps (r .reads) d) (standWords s)
           (subst (Raises (makingsAmong sheet names ps (r .reads)) stack d (emittedParts sheet names ps (r .reads) d)) (sym taken) parts)
-          (ap (wordsPut (r .making)) taken ∙ suited .puts)
+          (suited .fine) (ap (wordsPut (r .making)) taken ∙ suited .puts)
 
       -- parts: the words of one after those of the other
       raises-parts : (ps : Parts) (s : Stand) (reads : PartsRead) (stack : List ℕ) (d : Draft) → partsFormed ps s ≡ true → partsSuit sheet s reads ps ≡ true → refusedAmong sheet names ps reads ≡ none → Raises (makingsAmong sheet names ps reads) stack d (emittedParts sheet names ps reads d) (standWords s * partCount ps)
@@ -121,6 +118,6 @@ module _ (sheet : List ℕ) where
     pub emitted-upward : (w : Written) (t mode : ℕ) (stack : List ℕ) (d : Draft) → formed w inPattern ≡ true → refusedIn sheet names w (typed t mode) ≡ none → emitUp sheet (makings sheet names w (typed t mode)) stack d ≡ stackedOn stack (emitted sheet names w (typed t mode) d)
     emitted-upward w t mode stack d f free = raises-tree w inPattern (typed t mode) stack d f (unfold contextSuits in refl) free .same
 
-    -- it never takes more than there is
-    pub tree-never-short : (w : Written) (t mode : ℕ) → formed w inPattern ≡ true → refusedIn sheet names w (typed t mode) ≡ none → neverShort (makings sheet names w (typed t mode)) 0 ≡ true
-    tree-never-short w t mode f free = raises-tree w inPattern (typed t mode) [] emptyDraft f (unfold contextSuits in refl) free .short
+    -- each of its nodes finds its parts
+    pub tree-parts-stand : (w : Written) (t mode : ℕ) → formed w inPattern ≡ true → refusedIn sheet names w (typed t mode) ≡ none → partsStand (makings sheet names w (typed t mode)) 0 ≡ true
+    tree-parts-stand w t mode f free = raises-tree w inPattern (typed t mode) [] emptyDraft f (unfold contextSuits in refl) free .stand

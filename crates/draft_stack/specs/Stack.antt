@@ -5,6 +5,7 @@ use mathlib.Core.Bool.{Bool, true, cond, _&&_}
 use mathlib.Core.List.{List, [], _∷_, _++_}
 use lib.Dec.{eqb, leb}
 use lib.ListN.{length, take, drop}
+use Rattle.pattern_syntax.specs.Formed.{oneIf, restWithin}
 use Rattle.pattern_typing.specs.Making.{Making, notMade, rowMade, literalMade, operandMade, operandNamed, rangeMade, bindMade, referenceMade, listMade, sliceMade, fieldMade}
 use Rattle.pattern_typing.specs.Closed.{ClosedMaking}
 use Rattle.pattern_images.specs.Drafts.{Draft, Made}
@@ -62,8 +63,23 @@ unfoldable pub emitUp : List ℕ → List ClosedMaking → List ℕ → Draft �
 emitUp sheet [] stack d = record { stack = stack; draft = d }
 emitUp sheet (m ∷ ms) stack d = emitUp sheet ms (emitOne sheet m stack d .stack) (emitOne sheet m stack d .draft)
 
--- from a stack of so many words none takes more than there are
-unfoldable pub neverShort : List ClosedMaking → ℕ → Bool
-neverShort [] height = true
-neverShort (m ∷ ms) height =
-    leb (wordsTaken m) height && neverShort ms (height - wordsTaken m + wordsPut (m .makes) (wordsTaken m))
+-- how many parts a making may have: a Range its bounds, a Slice its rest among others, a field its pattern
+unfoldable pub mayHaveParts : Making → ℕ → Bool
+mayHaveParts notMade many = true
+mayHaveParts (rowMade row) many = true
+mayHaveParts (literalMade t derefs v) many = true
+mayHaveParts (operandMade v) many = true
+mayHaveParts (operandNamed o) many = true
+mayHaveParts (rangeMade t derefs lower upper dots) many = eqb many (oneIf lower + oneIf upper)
+mayHaveParts (bindMade t mode annotation name at) many = true
+mayHaveParts (referenceMade t) many = true
+mayHaveParts (listMade row) many = true
+mayHaveParts (sliceMade t derefs before) many = restWithin before many
+mayHaveParts (fieldMade number) many = eqb many 1
+
+-- from a stack of so many words each making finds its parts there, and may have so many
+unfoldable pub partsStand : List ClosedMaking → ℕ → Bool
+partsStand [] height = true
+partsStand (m ∷ ms) height =
+    mayHaveParts (m .makes) (m .parts) && leb (wordsTaken m) height
+    && partsStand ms (height - wordsTaken m + wordsPut (m .makes) (wordsTaken m))
