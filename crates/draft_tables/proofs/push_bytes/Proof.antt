@@ -1,0 +1,17 @@
+use borrow.Author.Needs.{needs}
+use Rattle.draft_tables.proofs.push_bytes.Statement.{statement}
+use Rattle.draft_tables.proofs.push_bytes.Tie as tie
+use Rattle.draft_tables.proofs.push_bytes.Reads as reads
+use Rattle.draft_tables.proofs.push_bytes.Lts as lts
+use Rattle.row_tables.proofs.store_row.Reads as store-row-reads
+use mathlib.Core.Path.{_≡_, refl, sym, subst}
+use Rattle.draft_tables.specs.Layout.{HoldsType, HoldsPattern, HoldsBinding, HoldsWords, HoldsBytes, HoldsStack}
+use Rattle.draft_tables.proofs.Parts.{holds-bytes}
+
+returns : tie.Need-returns
+returns c = (refl, subst (HoldsBytes (c .before .before .before .before .before .before .before .before .args .draft .now) (c .before .before .before .before .before .before .before .before .args .c) (c .before .before .before .before .before .before .before .before .args .bytes .now) (c .before .before .before .before .before .before .before .before .args .many)) (sym (c .before .before .before .store-row .ensures)) (holds-bytes (c .before .before .before .before .before .before .before .before .args .draft .now) (c .before .before .before .before .before .before .before .before .pre .0 .0) (c .before .before .before .before .before .before .before .before .args .c) (c .before .before .before .before .before .before .before .before .pre .1 .0) (c .before .before .before .before .before .before .before .before .args .bytes .now) (c .before .before .before .before .before .before .before .before .args .many) (c .before .before .before .before .before .before .before .before .pre .0 .1) (c .before .before .before .before .before .before .before .before .pre .1 .1)))
+
+pub push-bytes-spec : {M : Type 1} → statement M
+push-bytes-spec =
+    tie.close
+    (tie.spec (λ c. search needs) (λ c. search needs) (λ c κs. search needs) (λ c. search needs) (λ c. search needs) returns)
