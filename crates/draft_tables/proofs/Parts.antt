@@ -115,7 +115,7 @@ module _ (t : List ℕ) (size : length t ≡ 40704) (c : DraftCounts) (within : 
       }
 
   pub holds-stack : (row : List ℕ) (many : ℕ) → length row ≡ many → c .height + many ≤ 16384 → HoldsStack t c row many (stored t (24320 + c .height) row)
-  unfolding stackedIn draftIn 
+  unfolding stackedIn draftIn
   holds-stack row many e h names =
       let at = 24320 + c .height in
       let bounds = within in

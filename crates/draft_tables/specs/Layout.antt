@@ -12,6 +12,7 @@ use Rattle.pattern_syntax.specs.Reduced.{bytesFrom}
 use Rattle.pattern_images.specs.Drafts.{Draft, addType, addPattern, addBinding, addWords, addBytes}
 use Rattle.draft_stack.specs.Stack.{Stacked}
 use Rattle.draft_tables.specs.declared.DraftCounts.{DraftCounts}
+use Rattle.draft_tables.specs.declared.NameRange.{NameRange}
 
 -- rows by their words
 unfoldable pub typeOfWords : List ℕ → TypeRow
@@ -31,6 +32,9 @@ patternOfWords ws =
 
 unfoldable pub bindingOfWords : List ℕ → BindingRow
 bindingOfWords ws = record { ty = getD ws 0 0; picked = getD ws 1 0 }
+
+unfoldable pub rangeOfWords : List ℕ → NameRange
+rangeOfWords ws = record { from = getD ws 0 0; to = getD ws 1 0 }
 
 -- a name by its range among the names' bytes
 unfoldable pub nameOfWords : List ℕ → List ℕ → List ℕ

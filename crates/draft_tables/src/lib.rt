@@ -3,9 +3,10 @@ use image::rows::PatRow;
 use image::rows::TypeRow;
 use row_tables::store_row;
 ghost use mathlib.Core.Path.{_≡_};
-ghost use Prim.Native.Nat.{_+_, _≤_, _<_};
-ghost use lib.ListN.{length};
-ghost use Rattle.draft_tables.specs.Layout.{WithinDraft, typeMore, patternMore, bindingMore, wordsMore, bytesMore, heightIs, HoldsType, HoldsPattern, HoldsBinding, HoldsWords, HoldsBytes, HoldsStack};
+ghost use Prim.Native.Nat.{_+_, _*_, _≤_, _<_};
+ghost use lib.ListN.{length, getD, take, drop};
+ghost use Rattle.row_tables.specs.Rows.{rowAt, stored};
+ghost use Rattle.draft_tables.specs.Layout.{typeOfWords, rangeOfWords, WithinDraft, typeMore, patternMore, bindingMore, wordsMore, bytesMore, heightIs, HoldsType, HoldsPattern, HoldsBinding, HoldsWords, HoldsBytes, HoldsStack};
 
 // Where each part begins; that of the types begins at 0.
 pub const PATTERNS: usize = 1280;
@@ -131,4 +132,78 @@ pub fn push_stack(draft: &mut [u16], c: DraftCounts, words: &[u16], many: u16) -
         bytes: c.bytes,
         height: c.height + many,
     }
+}
+
+// Words from one place of the table to another before it.
+fn copy_words(draft: &mut [u16], to: usize, from: usize, many: usize)
+    requires { ⌜ (to + many ≤ from) × (from + many ≤ length (now draft)) ⌝ }
+    ensures { λ _. ⌜ now (draft .exit) ≡ stored (now (draft .entry)) to (take many (drop from (now (draft .entry)))) ⌝ }
+{
+    let mut i = 0;
+    while i < many {
+        draft[to + i] = draft[from + i];
+        i += 1;
+    }
+}
+
+// List words behind those that are there: so many of the stack, from a place of it on.
+pub fn push_list(draft: &mut [u16], c: DraftCounts, from: u16, many: u16) -> DraftCounts
+    requires { ⌜ ((length (now draft) ≡ 40704) × (from + many ≤ 16384)) × (WithinDraft c × (c .words + many ≤ 2048)) ⌝ }
+    ensures { λ r. ⌜ (r ≡ wordsMore many c) × HoldsWords (now (draft .entry)) c (take many (drop (24320 + from) (now (draft .entry)))) many (now (draft .exit)) ⌝ }
+{
+    copy_words(
+        draft,
+        WORDS + (c.words as usize),
+        STACK + (from as usize),
+        many as usize,
+    );
+    DraftCounts {
+        types: c.types,
+        patterns: c.patterns,
+        bindings: c.bindings,
+        words: c.words + many,
+        bytes: c.bytes,
+        height: c.height,
+    }
+}
+
+// The type i that was added.
+pub fn added_type(draft: &[u16], i: u16) -> TypeRow
+    requires { ⌜ 5 * i + 5 ≤ length (now draft) ⌝ }
+    ensures { λ r. ⌜ r ≡ typeOfWords (rowAt 5 (now (draft .entry)) i) ⌝ }
+{
+    let at = 5 * (i as usize);
+    TypeRow {
+        kind: draft[at],
+        a: draft[at + 1],
+        b: draft[at + 2],
+        c: draft[at + 3],
+        copy: draft[at + 4],
+    }
+}
+
+// The range of a name.
+pub struct NameRange {
+    pub from: u16,
+    pub to: u16,
+}
+
+// The name of the binding b that was added.
+pub fn added_name(draft: &[u16], b: u16) -> NameRange
+    requires { ⌜ 5378 + 2 * b ≤ length (now draft) ⌝ }
+    ensures { λ r. ⌜ r ≡ rangeOfWords (rowAt 2 (drop 5376 (now (draft .entry))) b) ⌝ }
+{
+    let at = CALLED + 2 * (b as usize);
+    NameRange {
+        from: draft[at],
+        to: draft[at + 1],
+    }
+}
+
+// The word i of the stack.
+pub fn stack_word(draft: &[u16], i: u16) -> u16
+    requires { ⌜ 24320 + i < length (now draft) ⌝ }
+    ensures { λ r. ⌜ r ≡ getD (now (draft .entry)) (24320 + i) 0 ⌝ }
+{
+    draft[STACK + (i as usize)]
 }
