@@ -1,3 +1,4 @@
 pub mod Regions
 pub mod Parts
 pub mod Reading
+pub mod Counted
