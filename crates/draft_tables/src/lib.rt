@@ -33,6 +33,12 @@ pub struct DraftCounts {
     pub height: u16,
 }
 
+// The counts behind a step, or that it passes a limit.
+pub enum DraftStep {
+    On(DraftCounts),
+    PastALimit,
+}
+
 // A type behind those that are there.
 pub fn push_type(draft: &mut [u16], c: DraftCounts, row: TypeRow) -> DraftCounts
     requires { ⌜ (length (now draft) ≡ 40704) × (WithinDraft c × (c .types < 256)) ⌝ }
