@@ -50,13 +50,13 @@ module _ (low high : ℕ) (l : low < 2 ^ 64) (h : high < 2 ^ 64) where
   minus-low e =
       let part : 2 ^ 64 - low ≡ 0xFFFFFFFFFFFFFFFF - low + 1 = omega arith in
       let value : 2 ^ 128 - (high * 2 ^ 64 + low) ≡ (0xFFFFFFFFFFFFFFFF - high) * 2 ^ 64 + (0xFFFFFFFFFFFFFFFF - low + 1) =
-        square-less (2 ^ 64) high (0xFFFFFFFFFFFFFFFF - high) low (omega arith) (omega arith) (omega arith) ∙ ap (λ (k : ℕ). (0xFFFFFFFFFFFFFFFF - high) * 2 ^ 64 + k) part in
+      square-less (2 ^ 64) high (0xFFFFFFFFFFFFFFFF - high) low (omega arith) (omega arith) (omega arith) ∙ ap (λ (k : ℕ). (0xFFFFFFFFFFFFFFFF - high) * 2 ^ 64 + k) part in
       sym (ap (littleEndianBytes 16) value ∙ in-halves (0xFFFFFFFFFFFFFFFF - low + 1) (0xFFFFFFFFFFFFFFFF - high) (omega arith))
 
   pub minus-high : low ≡ 0 → (high ≡ 0 → ⊥) → littleEndianBytes 8 0 ++ littleEndianBytes 8 (0xFFFFFFFFFFFFFFFF - high + 1) ≡ littleEndianBytes 16 (2 ^ 128 - (high * 2 ^ 64 + low))
   minus-high z e =
       let value : 2 ^ 128 - (high * 2 ^ 64 + low) ≡ (0xFFFFFFFFFFFFFFFF - high + 1) * 2 ^ 64 + 0 =
-        ap (λ (k : ℕ). 2 ^ 128 - (high * 2 ^ 64 + k)) z ∙ square-rows (2 ^ 64) high (0xFFFFFFFFFFFFFFFF - high + 1) (omega arith) in
+      ap (λ (k : ℕ). 2 ^ 128 - (high * 2 ^ 64 + k)) z ∙ square-rows (2 ^ 64) high (0xFFFFFFFFFFFFFFFF - high + 1) (omega arith) in
       sym (ap (littleEndianBytes 16) value ∙ in-halves 0 (0xFFFFFFFFFFFFFFFF - high + 1) (omega arith))
 
   pub minus-none : low ≡ 0 → high ≡ 0 → littleEndianBytes 8 0 ++ littleEndianBytes 8 0 ≡ littleEndianBytes 16 (2 ^ 128 - (high * 2 ^ 64 + low))

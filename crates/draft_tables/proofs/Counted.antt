@@ -6,6 +6,7 @@ use native.Mathlib.Omega.{arith}
 use lib.ListN.{length, getD, take, drop, length-drop, length-map, List·getD-map}
 use lib.Seq.{length-take-le}
 use Rattle.image.specs.declared.rows.TypeRow.{TypeRow}
+use Rattle.image.specs.declared.Tables.{Tables}
 use Rattle.row_tables.specs.Rows.{rowAt, rowsOf}
 use Rattle.row_tables.proofs.Tables.{length-rows, row-of}
 use Rattle.draft_tables.specs.declared.DraftCounts.{DraftCounts}
@@ -13,8 +14,8 @@ use Rattle.draft_tables.specs.Layout.{typeOfWords, patternOfWords, bindi
 use Rattle.draft_tables.specs.Room.{DraftRoom}
 
 -- counts within the limits lie within the table
-pub room-within : (sheet : List ℕ) (c : DraftCounts) → DraftRoom sheet c → WithinDraft c
-room-within sheet c room =
+pub room-within : (tables : Tables) (c : DraftCounts) → DraftRoom tables c → WithinDraft c
+room-within tables c room =
     record { types = omega (arith, room .types); patterns = omega (arith, room .patterns); bindings = omega (arith, room .bindings); words = omega (arith, room .words); bytes = omega (arith, room .bytes); height = room .height }
 
 -- what a list holds does not go by what would stand for what it lacks

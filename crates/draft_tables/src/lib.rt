@@ -108,12 +108,13 @@ pub fn push_words(draft: &mut [u16], c: DraftCounts, words: &[u16], many: u16) -
     }
 }
 
-// Bytes of data behind those that are there.
+// Bytes of data behind those that are there: the first of some.
 pub fn push_bytes(draft: &mut [u16], c: DraftCounts, bytes: &[u16], many: u16) -> DraftCounts
-    requires { ⌜ ((length (now draft) ≡ 40704) × (length (now bytes) ≡ many)) × (WithinDraft c × (c .bytes + many ≤ 16384)) ⌝ }
-    ensures { λ r. ⌜ (r ≡ bytesMore many c) × HoldsBytes (now (draft .entry)) c (now (bytes .entry)) many (now (draft .exit)) ⌝ }
+    requires { ⌜ ((length (now draft) ≡ 40704) × (many ≤ length (now bytes))) × (WithinDraft c × (c .bytes + many ≤ 16384)) ⌝ }
+    ensures { λ r. ⌜ (r ≡ bytesMore many c) × HoldsBytes (now (draft .entry)) c (take many (now (bytes .entry))) many (now (draft .exit)) ⌝ }
 {
-    store_row(draft, BYTES + (c.bytes as usize), bytes);
+    let end = many as usize;
+    store_row(draft, BYTES + (c.bytes as usize), &bytes[0..end]);
     DraftCounts {
         types: c.types,
         patterns: c.patterns,

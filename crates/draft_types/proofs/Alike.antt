@@ -9,6 +9,7 @@ use borrow.Author.Tests.{eq-eqb, ne-eqb, lt-ltb, le-ltb, ltb-false}
 use lib.Dec.{eqb, ltb}
 use lib.ListN.{length, getD, length-append}
 use Rattle.image.specs.declared.rows.TypeRow.{TypeRow}
+use Rattle.image.specs.declared.Tables.{Tables}
 use Rattle.image.specs.Tables.{typeCount}
 use Rattle.image.specs.Rows.{typeAt}
 use Rattle.row_tables.specs.Rows.{rowAt}
@@ -88,12 +89,18 @@ module _ (sheet table : List ℕ) (c : DraftCounts) (row : TypeRow) where
       (λ t low high. ap (alike row) (same-type names t (omega arith)))
 
   -- what was found among so many types
-  module _ (many : ℕ) (all : many ≡ typeCount sheet + c .types) where
+  module _ (tables : Tables) (counted : tables .types .count ≡ typeCount sheet) where
+    abbrev many : ℕ
+    many = tables .types .count + c .types
+
+    all : many ≡ typeCount sheet + c .types
+    all = ap (λ (k : ℕ). k + c .types) counted
+
     found-like : (o : Option ℕ) (names : List ℕ) → o ≡ like many → o ≡ likeIn sheet (draftIn names table c) row
     found-like o names e = e ∙ ap like all ∙ sym (same-like names)
 
     -- one is there
-    pub held-already : (t : ℕ) → DraftRoom sheet c → some t ≡ like many → TypeHeld sheet table c row t c table
+    pub held-already : (t : ℕ) → DraftRoom tables c → some t ≡ like many → TypeHeld sheet tables table c row t c table
     unfolding addUnless numberOr stackedIn
     held-already t room e =
         record {
@@ -104,10 +111,10 @@ module _ (sheet table : List ℕ) (c : DraftCounts) (row : TypeRow) where
         }
 
     -- one is added
-    pub held-anew : (counts : DraftCounts) (after : List ℕ) → DraftRoom sheet c → none ≡ like many → many < 256 → counts ≡ typeMore c → HoldsType table c row after → TypeHeld sheet table c row many counts after
+    pub held-anew : (counts : DraftCounts) (after : List ℕ) → DraftRoom tables c → none ≡ like many → many < 256 → counts ≡ typeMore c → HoldsType table c row after → TypeHeld sheet tables table c row many counts after
     unfolding addUnless numberOr stackedIn
     held-anew counts after room e h more holds =
-        subst (λ (d : DraftCounts). TypeHeld sheet table c row many d after) (sym more)
+        subst (λ (d : DraftCounts). TypeHeld sheet tables table c row many d after) (sym more)
         (record {
           room = record { types = omega arith; patterns = room .patterns; bindings = room .bindings; words = room .words; bytes = room .bytes; height = room .height };
           height = refl;

@@ -6,6 +6,7 @@ use mathlib.Core.Option.{Option, none, some}
 use mathlib.Core.List.{List}
 use lib.Dec.{ltb}
 use Rattle.image.specs.declared.rows.TypeRow.{TypeRow}
+use Rattle.image.specs.declared.Tables.{Tables}
 use Rattle.image.specs.Tables.{typeCount}
 use Rattle.image.specs.Rows.{typeAt}
 use Rattle.row_tables.specs.Rows.{rowAt}
@@ -28,13 +29,13 @@ found (At t) = some t
 found Nothing = none
 
 -- a type has a number, and the table holds it
-pub record TypeHeld (sheet table : List ℕ) (c : DraftCounts) (row : TypeRow) (t : ℕ) (counts : DraftCounts) (after : List ℕ) : Type 0 where
-  pub room : DraftRoom sheet counts
+pub record TypeHeld (sheet : List ℕ) (tables : Tables) (table : List ℕ) (c : DraftCounts) (row : TypeRow) (t : ℕ) (counts : DraftCounts) (after : List ℕ) : Type 0 where
+  pub room : DraftRoom tables counts
   pub height : counts .height ≡ c .height
   pub holds : (names : List ℕ) → stackedIn names after counts ≡ drafted (withType sheet row) (stackedIn names table c)
   pub number : (names : List ℕ) → t ≡ numberOfType sheet row (draftIn names table c)
 
 -- or there would be more than 256 types
-abbrev pub TypeStepped : List ℕ → List ℕ → DraftCounts → TypeRow → TypeStep → List ℕ → Type 0
-TypeStepped sheet table c row (Number t counts) after = TypeHeld sheet table c row t counts after
-TypeStepped sheet table c row PastTypes after = (names : List ℕ) → 256 < nextType sheet (withType sheet row (draftIn names table c))
+abbrev pub TypeStepped : List ℕ → Tables → List ℕ → DraftCounts → TypeRow → TypeStep → List ℕ → Type 0
+TypeStepped sheet tables table c row (Number t counts) after = TypeHeld sheet tables table c row t counts after
+TypeStepped sheet tables table c row PastTypes after = (names : List ℕ) → 256 < nextType sheet (withType sheet row (draftIn names table c))

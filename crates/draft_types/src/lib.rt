@@ -97,8 +97,8 @@ pub fn with_type(
     c: DraftCounts,
     row: TypeRow,
 ) -> TypeStep
-    requires { ⌜ Whole (now sheet) tables × ((length (now draft) ≡ 40704) × DraftRoom (now sheet) c) ⌝ }
-    ensures { λ r. ⌜ TypeStepped (now (sheet .entry)) (now (draft .entry)) c row r (now (draft .exit)) ⌝ }
+    requires { ⌜ Whole (now sheet) tables × ((length (now draft) ≡ 40704) × DraftRoom tables c) ⌝ }
+    ensures { λ r. ⌜ TypeStepped (now (sheet .entry)) tables (now (draft .entry)) c row r (now (draft .exit)) ⌝ }
 {
     let many = tables.types.count + c.types;
     match like_type(sheet, tables, draft, many, row) {
