@@ -2,3 +2,4 @@ pub mod Regions
 pub mod Parts
 pub mod Reading
 pub mod Counted
+pub mod Chaining
