@@ -1,0 +1,4 @@
+pub mod Encoding
+pub mod Settling
+pub mod Agreeing
+pub mod Behind
