@@ -30,7 +30,7 @@ pattern-kind text (forItem (sliceAt q) is s) = refl
 pattern-kind text (forField h fs key c s) = refl
 
 -- `|` behind an alternative
-another : (text : List ℕ) (p : Pattern) (o : ForPattern) → anotherAlt (openedBehind text p o) ≡ pushed (orWaiting (alternatives text p)) (partsNoted (alternatives text p) (openedPattern text o))
+pub another : (text : List ℕ) (p : Pattern) (o : ForPattern) → anotherAlt (openedBehind text p o) ≡ pushed (orWaiting (alternatives text p)) (partsNoted (alternatives text p) (openedPattern text o))
 unfolding anotherAlt openedBehind pushed partsNoted partsOnto alternatives firstBeginning partCount innermostKind nodeKind
 another text (alone none a) o =
     rw (pattern-kind text o)
@@ -51,7 +51,7 @@ last-pattern text (forItem (structAt p q) is s) closed = refl
 last-pattern text (forItem (sliceAt q) is s) closed = refl
 last-pattern text (forField h fs key c s) closed = refl
 
-last-one : (text : List ℕ) (p : Pattern) (o : ForPattern)
+pub last-one : (text : List ℕ) (p : Pattern) (o : ForPattern)
     → lastAlt (openedBehind text p o .waiting) (openedBehind text p o .closed)
       ≡ opened (openedPattern text o .waiting) (closedOnto (oneOf (alternatives text p)) (openedPattern text o .closed))
 unfolding lastAlt openedBehind pushed partsNoted partsOnto closedOnto alternatives oneOf nodeKind firstBeginning partCount
@@ -141,15 +141,22 @@ item-shut text (tupleAt c) (item is o d) p q s e =
 item-shut text (structAt n c) is p q s e = ap (settle (openedPlain text s .waiting)) (list-shut text (structAt n c) is p q s e refl)
 item-shut text (sliceAt c) is p q s e = ap (settle (openedPlain text s .waiting)) (list-shut text (sliceAt c) is p q s e refl)
 
--- an item that is no `a..`, in whatever list
-not-open : (text : List ℕ) (h : ListHead) (p : Pattern) (go : Reading) → openAt p ≡ none → unlessOpen (openItemAt (strictly text) h p) go ≡ go
-unfolding unlessOpen openItemAt whenStrict
-not-open text (tupleAt q) p go e = refl
-not-open text (structAt n q) p go e = refl
-not-open text (sliceAt q) p go e = rw e refl
+-- where a pattern that is an item of a slice fails, as `a..`
+unfoldable pub openWhere : List ℕ → ForPattern → Pattern → Option ℕ
+openWhere text wholeText p = none
+openWhere text (forItem h is s) p = openItemAt (strictly text) h p
+openWhere text (forField h fs key c s) p = none
+
+pub never-open : (text : List ℕ) (o : ForPattern) (p : Pattern) → openAt p ≡ none → openWhere text o p ≡ none
+unfolding openWhere openItemAt whenStrict
+never-open text wholeText p e = refl
+never-open text (forItem (tupleAt q) is s) p e = refl
+never-open text (forItem (structAt n q) is s) p e = refl
+never-open text (forItem (sliceAt q) is s) p e = rw e refl
+never-open text (forField h fs key c s) p e = refl
 
 -- a mark closes a list of this kind where it is the closer
-closes-list : (text : List ℕ) (h : ListHead) (before : Option ℕ) (m : ℕ) → closes (nodeKind (listNode text h before)) m ≡ eqb m (closer h)
+pub closes-list : (text : List ℕ) (h : ListHead) (before : Option ℕ) (m : ℕ) → closes (nodeKind (listNode text h before)) m ≡ eqb m (closer h)
 unfolding closes nodeKind listNode closer
 closes-list text (tupleAt q) before m = refl
 closes-list text (structAt p q) before m = refl
@@ -162,21 +169,20 @@ list-no-field text (structAt p q) before = refl
 list-no-field text (sliceAt q) before = refl
 
 ended-item :
-    (text : List ℕ) (h : ListHead) (is : ListItems) (s : ForPlain) (p : Pattern) (m : ℕ) (q : Spot) → isRest p ≡ false → openAt p ≡ none
+    (text : List ℕ) (h : ListHead) (is : ListItems) (s : ForPlain) (p : Pattern) (m : ℕ) (q : Spot) → isRest p ≡ false → openItemAt (strictly text) h p ≡ none
     → Agrees text
         (cond (eqb m commaMark) (unlessOpen (openItemAt (strictly text) h p) (begin (forItem h (item is p q) s)))
         (cond (eqb m (closer h)) (unlessOpen (openItemAt (strictly text) h p) (readAlt (closePlain (listTo h is p q) s)))
         (failed (q .from))))
         (endedIn m (q .from) (openedPattern text (forItem h is s) .waiting) (closedOnto (oneOf (alternatives text p)) (openedPattern text (forItem h is s) .closed)))
-unfolding endedIn openedPattern pushed partsNoted encode steady isRestPlain
+unfolding endedIn openedPattern pushed partsNoted encode steady isRestPlain unlessOpen
 ended-item text h is s p m q e f =
-    rw (not-open text h p (begin (forItem h (item is p q) s)) f)
-    (rw (not-open text h p (readAlt (closePlain (listTo h is p q) s)) f)
+    rw f
     (rw (list-no-field text h (beforeRest is))
     (rw (closes-list text h (beforeRest is) m)
     (either (eqb m commaMark) (plainly (ap (goingIn Begin nothingHeld) (item-added text h is p q s e)) refl)
     (either (eqb m (closer h)) (rw (sym (item-shut text h is p q s e)) (shut-plain text s (listTo h is p q) refl))
-    halted)))))
+    halted))))
 
 whole-ended :
     (text : List ℕ) (p : Pattern) (m : ℕ) (q : Spot)
@@ -201,9 +207,9 @@ ended-field text h fs key c s p m q =
 
 -- a mark behind an alternative that is neither a rest nor `a..`
 pub behind-agrees :
-    (text : List ℕ) (p : Pattern) (o : ForPattern) (m : ℕ) (q : Spot) → isRest p ≡ false → openAt p ≡ none
+    (text : List ℕ) (p : Pattern) (o : ForPattern) (m : ℕ) (q : Spot) → isRest p ≡ false → openWhere text o p ≡ none
     → Agrees text (behind (strictly text) p o m q) (behindAlt m (q .from) (openedBehind text p o))
-unfolding behind behindAlt encode steady openedPlain openedAlt
+unfolding behind behindAlt encode steady openedPlain openedAlt openWhere
 behind-agrees text p wholeText m q e f =
     rw (last-one text p wholeText)
     (either (eqb m orMark) (plainly (ap (goingIn Expect nothingHeld) (sym (another text p wholeText))) refl)
