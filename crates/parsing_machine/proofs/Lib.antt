@@ -4,3 +4,4 @@ pub mod Agreeing
 pub mod Behind
 pub mod Rests
 pub mod Simulation
+pub mod Answering
