@@ -14,7 +14,7 @@ use Rattle.parsing_machine.specs.declared.ReadState.{ReadState}
 use Rattle.parsing_machine.specs.declared.ReadState.the-variants.{Begin, Expect, BehindAmp, BehindRef, BehindMut, AtName, AtBound, AtPath, AtSep, AtMinus, AtLiteral, AtDots, AtFrom, AtTo, AtToPath, AtAlt, AtBrace, AtLabel, AtIndex, AtField, AtEtc}
 use Rattle.decimal_values.specs.declared.Value.{Value}
 use Rattle.parsing_machine.specs.Waiting.{closes}
-use Rattle.parsing_machine.specs.Moves.{Held, noName, namedHeld, literalHeld, placeHeld, nothingHeld, Move, halts, holds, opens, opensTwo, opensBehind, mutates, shuts, shutsBefore, shutsRange, shutsRangeBefore, shutsOpenRange, shutsRest, passesOn, shutsTop, addsField, addsLastField, fitMove, rangedMove, boundMove, markMove}
+use Rattle.parsing_machine.specs.Moves.{Held, noName, namedHeld, literalHeld, placeHeld, nothingHeld, Move, halts, holds, opens, opensTwo, opensBehind, mutates, shuts, shutsBefore, shutsRange, shutsRangeBefore, shutsOpenRange, shutsRest, passesOn, shutsTop, addsField, addsLastField, heldBoundPath, heldBound, rangeFrom, fitMove, rangedMove, pathMove, fieldMove, boundMove, markMove}
 use Rattle.parsing_moves.specs.declared.HeldRow.{HeldRow}
 use Rattle.parsing_moves.specs.declared.NodeMove.{NodeMove}
 use Rattle.parsing_moves.specs.declared.NodeMove.the-variants.{Halts, Holds, Opens, OpensTwo, OpensBehind, Mutates, Shuts, ShutsBefore, ShutsRange, ShutsRangeBefore, ShutsOpenRange, ShutsRest, PassesOn, ShutsTop, AddsField, AddsLastField}
@@ -165,3 +165,32 @@ DecidesStart text top m from to move = (names : List ℕ) → moveOf text names 
 abbrev pub DecidesBound : List ℕ → ℕ → ℕ → ℕ → NodeMove → NodeMove → Type 0
 DecidesBound text m from to other move =
     (names : List ℕ) → moveOf text names move ≡ boundMove text m (spotOf from to) (moveOf text names other)
+
+-- behind what is held, whatever the text and the bytes of names are but where they stand in it
+abbrev pub DecidesHeld : ReadState → HeldRow → ℕ → ℕ → ℕ → NodeMove → Type 0
+DecidesHeld s h top m from move =
+    (text names : List ℕ) (to : ℕ) → moveOf text names move ≡ markMove text s (heldIn text names s h) top m (spotOf from to)
+
+abbrev pub DecidesPath : HeldRow → ℕ → ℕ → ℕ → NodeMove → Type 0
+DecidesPath h top m from move = (text names : List ℕ) (to : ℕ) → moveOf text names move ≡ pathMove (plainHeld names h) top m (spotOf from to)
+
+-- dots behind a lower bound
+abbrev pub DecidesLower : HeldRow → ℕ → ReadState → ℕ → ℕ → NodeMove → Type 0
+DecidesLower h top s dots from move =
+    (text names : List ℕ) (to : ℕ)
+    → moveOf text names move
+      ≡ rangedMove top (spotOf from to) (opensBehind s (heldBoundPath (plainHeld names h)) (rangeFrom (plainHeld names h) (eqb dots 1)))
+
+abbrev pub DecidesLowerLiteral : HeldRow → ℕ → ReadState → ℕ → ℕ → NodeMove → Type 0
+DecidesLowerLiteral h top s dots from move =
+    (text names : List ℕ) (to : ℕ)
+    → moveOf text names move
+      ≡ rangedMove top (spotOf from to)
+          (opensBehind s (heldBound (heldIn text names AtLiteral h)) (rangeFrom (heldIn text names AtLiteral h) (eqb dots 1)))
+
+-- a field that is a name alone
+abbrev pub DecidesField : HeldRow → ℕ → ℕ → ℕ → NodeMove → Type 0
+DecidesField h flags m from move =
+    (text names : List ℕ) (to : ℕ)
+    → moveOf text names move
+      ≡ fieldMove (namedHeld (h .at) (eqb flags 1 || eqb flags 3) (leb 2 flags) (heldName names h)) m (spotOf from to)

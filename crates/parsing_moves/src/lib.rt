@@ -1,4 +1,5 @@
 // What the parser does at a token, as numbers and rows.
+mod behind;
 mod makers;
 mod starts;
 
