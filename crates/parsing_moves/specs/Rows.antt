@@ -14,7 +14,7 @@ use Rattle.parsing_machine.specs.declared.ReadState.{ReadState}
 use Rattle.parsing_machine.specs.declared.ReadState.the-variants.{Begin, Expect, BehindAmp, BehindRef, BehindMut, AtName, AtBound, AtPath, AtSep, AtMinus, AtLiteral, AtDots, AtFrom, AtTo, AtToPath, AtAlt, AtBrace, AtLabel, AtIndex, AtField, AtEtc}
 use Rattle.decimal_values.specs.declared.Value.{Value}
 use Rattle.parsing_machine.specs.Waiting.{closes}
-use Rattle.parsing_machine.specs.Moves.{Held, noName, namedHeld, literalHeld, placeHeld, nothingHeld, Move, halts, holds, opens, opensTwo, opensBehind, mutates, shuts, shutsBefore, shutsRange, shutsRangeBefore, shutsOpenRange, shutsRest, passesOn, shutsTop, addsField, addsLastField, heldBoundPath, heldBound, rangeFrom, fitMove, rangedMove, pathMove, fieldMove, boundMove, markMove}
+use Rattle.parsing_machine.specs.Moves.{Held, noName, namedHeld, literalHeld, placeHeld, nothingHeld, Move, halts, holds, opens, opensTwo, opensBehind, mutates, shuts, shutsBefore, shutsRange, shutsRangeBefore, shutsOpenRange, shutsRest, passesOn, shutsTop, addsField, addsLastField, nameHeld, indexName, heldBoundPath, heldBound, rangeFrom, fitMove, rangedMove, pathMove, fieldMove, boundMove, markMove}
 use Rattle.parsing_moves.specs.declared.HeldRow.{HeldRow}
 use Rattle.parsing_moves.specs.declared.NodeMove.{NodeMove}
 use Rattle.parsing_moves.specs.declared.NodeMove.the-variants.{Halts, Holds, Opens, OpensTwo, OpensBehind, Mutates, Shuts, ShutsBefore, ShutsRange, ShutsRangeBefore, ShutsOpenRange, ShutsRest, PassesOn, ShutsTop, AddsField, AddsLastField}
@@ -120,8 +120,8 @@ DecidesWholeBound text from to move =
       ≡ fitMove text false (spotOf from to) (shutsRange (closedNode from (boundNode (wholeValue (decimalIn text (spotOf from to)))) 0))
 
 -- a closing mark where a pattern may begin
-abbrev pub closingMove : ℕ → ℕ → ℕ → NodeMove
-closingMove top m from = cond (closes top m) ShutsTop (Halts from)
+abbrev pub DecidesClosing : ℕ → ℕ → ℕ → NodeMove → Type 0
+DecidesClosing top m from move = (text names : List ℕ) → moveOf text names move ≡ cond (closes top m) shutsTop (halts from)
 
 -- a value is over 16 bytes
 abbrev pub overIn : Bool → Value → Bool
@@ -194,3 +194,21 @@ DecidesField h flags m from move =
     (text names : List ℕ) (to : ℕ)
     → moveOf text names move
       ≡ fieldMove (namedHeld (h .at) (eqb flags 1 || eqb flags 3) (leb 2 flags) (heldName names h)) m (spotOf from to)
+
+-- where nothing is held, an integer behind a minus, an integer that is a field, and in a record
+abbrev pub DecidesIn : List ℕ → ReadState → ℕ → ℕ → ℕ → ℕ → NodeMove → Type 0
+DecidesIn text s top m from to move = (names : List ℕ) → moveOf text names move ≡ markMove text s nothingHeld top m (spotOf from to)
+
+abbrev pub DecidesMinus : List ℕ → ℕ → ℕ → ℕ → ℕ → ℕ → NodeMove → Type 0
+DecidesMinus text at top m from to move =
+    (names : List ℕ) → moveOf text names move ≡ markMove text AtMinus (placeHeld at) top m (spotOf from to)
+
+abbrev pub DecidesIndex : List ℕ → ℕ → ℕ → ℕ → ℕ → NodeMove → Type 0
+DecidesIndex text from to start end move =
+    (names : List ℕ) → bytesFrom names start end ≡ bytesFrom text from to
+    → moveOf text names move ≡ fitMove text false (spotOf from to) (holds AtIndex (nameHeld (indexName text (spotOf from to))))
+
+abbrev pub DecidesBrace : List ℕ → ℕ → ℕ → ℕ → ℕ → ℕ → NodeMove → Type 0
+DecidesBrace text m from to start end move =
+    (names : List ℕ) → (eqb m integerMark ≡ true → bytesFrom names start end ≡ bytesFrom text from to)
+    → moveOf text names move ≡ markMove text AtBrace nothingHeld 0 m (spotOf from to)

@@ -2,6 +2,7 @@
 mod behind;
 mod makers;
 mod starts;
+pub mod states;
 
 use node_rows::NodeRow;
 use parsing_machine::ReadState;

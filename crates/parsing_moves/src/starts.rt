@@ -12,7 +12,7 @@ ghost use mathlib.Core.Path.{_≡_};
 ghost use Prim.Native.Nat.{_+_, _*_, _^_, _<_};
 ghost use lib.Dec.{ltb};
 ghost use Rattle.pattern_grammar.specs.Lexemes.{wide, strictly};
-ghost use Rattle.parsing_moves.specs.Rows.{DecidesStart, DecidesBound, DecidesDots, DecidesWhole, DecidesWholeBound, closingMove, spotOf, overIn};
+ghost use Rattle.parsing_moves.specs.Rows.{DecidesStart, DecidesBound, DecidesDots, DecidesWhole, DecidesWholeBound, DecidesClosing, spotOf, overIn};
 
 // 2^127 is below a value in halves.
 fn over_halves(low: u64, high: u64) -> bool
@@ -110,7 +110,7 @@ pub fn bound_move(text: &[u8], m: u16, from: u16, to: u16, other: NodeMove) -> N
 
 // A closing mark where a pattern may begin.
 pub fn closing_move(top: u16, m: u16, from: u16) -> NodeMove
-    ensures { λ r. ⌜ r ≡ closingMove top m from ⌝ }
+    ensures { λ r. ⌜ DecidesClosing top m from r ⌝ }
 {
     if top == 11 {
         if m == 4 {
