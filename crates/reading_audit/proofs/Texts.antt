@@ -11,7 +11,7 @@ use Rattle.pattern_grammar.specs.Machine.{failed}
 use Rattle.pattern_grammar.specs.Parsed.{lexemes, parsed}
 use Rattle.pattern_grammar.proofs.Verdicts.{Refused}
 use Rattle.pattern_reading.specs.Reads.{imageOf, refusedWith, readPattern}
-use Rattle.image_validity.specs.Validity.{IsBytes}
+use Rattle.image_growth.specs.Growing.{IsBytes}
 use Rattle.reading_audit.specs.Texts.{IsRead, FirstPlace}
 use Rattle.reading_audit.proofs.Told as told
 

@@ -31,7 +31,7 @@ use Rattle.pattern_typing.specs.Failing.{refusedIn}
 use Rattle.pattern_images.specs.Drafts.{Draft}
 use Rattle.pattern_images.specs.Imaging.{imageWith, withinImageLimits}
 use Rattle.pattern_reading.specs.Reads.{Answer, imageOf, refusedWith, Outcome, treeIs, failsAt, outcome, draftOf, imaged, unlessRefused, readTyped, readTree, afterParsing, readPattern}
-use Rattle.image_validity.specs.Validity.{IsBytes, Readable}
+use Rattle.image_growth.specs.Growing.{IsBytes}
 use Rattle.image_validity.proofs.Valid.{image-valid}
 use Rattle.tree_forms.proofs.Forms.{tree-read, tree-formed}
 use Rattle.reading_audit.specs.Texts.{OneTree, IsRead, FirstPlace}

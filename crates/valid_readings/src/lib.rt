@@ -1,1 +1,0 @@
-// What a text is read as is a valid image: see proofs/.
