@@ -177,6 +177,8 @@ each script the number of its first line in `crates/replay/stdout`, its name, an
   is added to the sheet, or the refusal. A record is a byte 6, the sheet as the records above have
   their image, the name table behind its length in four big-endian bytes, the expected type as
   a big-endian word, and the text behind its length in four bytes. No program replays it yet.
+- `reading_theorems.py`: writes `crates/reading_samples/proofs`, in which the definitions of reading
+  are computed on 400 of these calls and held to the judge's answers.
 
 The program that reads a text is to take on standard input the type sheet and the name table, each
 beginning with its own length in four big-endian bytes, as all in the house form do; the

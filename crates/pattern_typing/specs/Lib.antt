@@ -4,3 +4,4 @@ pub mod Making
 pub mod Resolving
 pub mod Failing
 pub mod Closed
+pub mod Downward

@@ -1,7 +1,7 @@
 // Reads an image: every byte string is an image, whose tables' places are answered, or is refused.
 pub mod frame; // frame.rt: the bytes before the tables, and the limits
-mod patterns; // patterns.rt: the rows of patterns, and the numbers of their subpatterns
-mod tables_hold; // tables_hold.rt: the rows of types, variants and bindings
+pub mod patterns; // patterns.rt: the rows of patterns, and the numbers of their subpatterns
+pub mod tables_hold; // tables_hold.rt: the rows of types, variants and bindings
 
 use frame::read_frame;
 use image::Tables;

@@ -1,0 +1,4 @@
+pub mod Stacks
+pub mod Fitting
+pub mod Upward
+pub mod Growing

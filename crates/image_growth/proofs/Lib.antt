@@ -1,0 +1,5 @@
+pub mod Standing
+pub mod Places
+pub mod Grows
+pub mod Operands
+pub mod Bytes

@@ -1,0 +1,15 @@
+pub mod Tests
+pub mod Keeping
+pub mod Extending
+pub mod Added
+pub mod Steps
+pub mod Bindings
+pub mod Emits
+pub mod Makes
+pub mod Types
+pub mod Contexts
+pub mod Resolves
+pub mod Nodes
+pub mod Whole
+pub mod Valid
+pub mod Corners

@@ -1,0 +1,5 @@
+pub mod ByKind
+pub mod Names
+pub mod Ways
+pub mod BoundRests
+pub mod Kept

@@ -1,0 +1,19 @@
+use borrow.Author.Needs.{needs}
+use Rattle.node_resolving.proofs.leaves.resolve_reference.Statement.{statement}
+use Rattle.node_resolving.proofs.leaves.resolve_reference.Tie as tie
+use Rattle.node_resolving.proofs.leaves.resolve_reference.Reads as reads
+use Rattle.node_resolving.proofs.leaves.resolve_reference.Lts as lts
+use Rattle.node_resolving.proofs.rows.made.Reads as made-reads
+use borrow.Author.Tests.{eq-eqb, ne-eqb, lt-ltb, le-ltb, le-leb, lt-leb}
+use native.Mathlib.Omega.{arith}
+use mathlib.Core.Path.{_≡_, refl, sym, _∙_}
+use Rattle.node_resolving.specs.Gives.{refusedOf, resolvedOf, namedAs, hasName, fieldRow, restBoundTo}
+use Rattle.node_rows.specs.Makings.{makingOf}
+use Rattle.type_parts.specs.Parts.{partsOf}
+
+returns : tie.Need-returns
+unfolding resolvedOf refusedOf makingOf partsOf
+returns c = rw (c .made .ensures) (record { same = λ text names. refl; parts = refl })
+
+pub resolve-reference-spec : {M : Type 1} → statement M
+resolve-reference-spec = tie.close (tie.spec (λ c κs. search needs) returns)

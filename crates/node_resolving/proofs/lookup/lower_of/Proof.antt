@@ -1,0 +1,17 @@
+use Rattle.node_resolving.proofs.lookup.lower_of.Statement.{statement}
+use Rattle.node_resolving.proofs.lookup.lower_of.Tie as tie
+use Rattle.node_resolving.proofs.lookup.lower_of.Reads as reads
+use Rattle.node_resolving.proofs.lookup.lower_of.Lts as lts
+use borrow.Author.Tests.{eq-eqb, ne-eqb, lt-ltb, le-ltb, le-leb, lt-leb}
+use native.Mathlib.Omega.{arith}
+use mathlib.Core.Path.{_≡_, refl, sym, _∙_}
+use Rattle.node_resolving.proofs.Names.{lower-first, lower-second}
+
+returns : tie.Need-returns
+returns c = sym (lower-second _ _ (c .if1 .taken))
+
+returns-2 : tie.Need-returns-2
+returns-2 c = sym (lower-first _ _ (c .if1 .left))
+
+pub lower-of-spec : {M : Type 1} → statement M
+lower-of-spec = tie.close (tie.spec returns returns-2)

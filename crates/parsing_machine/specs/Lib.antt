@@ -1,0 +1,4 @@
+pub mod Waiting
+pub mod Moves
+pub mod Parser
+pub mod Answers

@@ -1,0 +1,27 @@
+use borrow.Author.Needs.{needs}
+use Rattle.parsing_moves.proofs.behind.field_mark.Statement.{statement}
+use Rattle.parsing_moves.proofs.behind.field_mark.Tie as tie
+use Rattle.parsing_moves.proofs.behind.field_mark.Reads as reads
+use Rattle.parsing_moves.proofs.behind.field_mark.Lts as lts
+use Rattle.parsing_moves.proofs.behind.field_move.Reads as field-move-reads
+use mathlib.Core.Path.{_≡_, refl, sym, ap, _∙_}
+use mathlib.Core.Bool.{true, false, cond}
+use native.Mathlib.Omega.{arith}
+use native.Mathlib.Numerals.{add-one}
+use borrow.Author.Tests.{eq-eqb, ne-eqb, lt-ltb, le-ltb, not-true, not-false}
+use Rattle.pattern_grammar.specs.Lexemes.{wide, over}
+use Rattle.parsing_machine.specs.Waiting.{closes}
+use Rattle.parsing_machine.specs.Moves.{markMove, startMove, boundMove, rangedMove, fitMove, pathMove, fieldMove}
+use Rattle.node_rows.specs.Nodes.{closedNodeOf, nodeOf, literalIn, numberIn, nameIn}
+use Rattle.parsing_moves.specs.Rows.{moveOf, heldIn, overIn, isIndex}
+use Rattle.parsing_moves.proofs.Deciding.{closes-not, over-equal, over-other, over-over, over-plain, over-minus}
+
+field-move-requires : tie.Need-field-move-requires
+field-move-requires c κs = search needs
+
+returns : tie.Need-returns
+unfolding markMove startMove moveOf heldIn closedNodeOf nodeOf literalIn rangedMove fitMove numberIn nameIn boundMove closes pathMove fieldMove isIndex
+returns c = c .field-move .ensures
+
+pub field-mark-spec : {M : Type 1} → statement M
+field-mark-spec = tie.close (tie.spec field-move-requires returns)

@@ -1,0 +1,31 @@
+use borrow.Author.Needs.{needs}
+use Rattle.parsing_moves.proofs.starts.is_wide.Statement.{statement}
+use Rattle.parsing_moves.proofs.starts.is_wide.Tie as tie
+use Rattle.parsing_moves.proofs.starts.is_wide.Reads as reads
+use Rattle.parsing_moves.proofs.starts.is_wide.Lts as lts
+use Rattle.decimal_values.proofs.integer_value.Reads as integer-value-reads
+use Rattle.parsing_moves.proofs.starts.is_over.Reads as is-over-reads
+use mathlib.Core.Path.{_≡_, refl, sym, ap, _∙_}
+use mathlib.Core.Bool.{true, false, cond}
+use native.Mathlib.Omega.{arith}
+use native.Mathlib.Numerals.{add-one}
+use borrow.Author.Tests.{eq-eqb, ne-eqb, lt-ltb, le-ltb, not-true}
+use Rattle.pattern_grammar.specs.Lexemes.{wide, over}
+use Rattle.parsing_machine.specs.Waiting.{closes}
+use Rattle.parsing_machine.specs.Moves.{markMove, startMove, boundMove, rangedMove, fitMove, pathMove, fieldMove}
+use Rattle.node_rows.specs.Nodes.{closedNodeOf, nodeOf, literalIn, numberIn, nameIn}
+use Rattle.parsing_moves.specs.Rows.{moveOf, heldIn, overIn, isIndex}
+use Rattle.parsing_moves.proofs.Deciding.{closes-not}
+
+integer-value-requires : tie.Need-integer-value-requires
+integer-value-requires c κs = search needs
+
+is-over-requires : tie.Need-is-over-requires
+is-over-requires c κs = search needs
+
+returns : tie.Need-returns
+unfolding wide
+returns c = c .is-over .ensures ∙ ap (overIn _) (c .before .integer-value .ensures)
+
+pub is-wide-spec : {M : Type 1} → statement M
+is-wide-spec = tie.close (tie.spec integer-value-requires is-over-requires returns)

@@ -1,0 +1,40 @@
+-- The auditor's page on patterns as text, request S-14: each theorem is a sentence of the request, proved by one citation. What is read is the definition
+-- `readPattern`. Assumes nothing.
+use Prim.Native.Nat.{ℕ, _<_}
+use mathlib.Core.Path.{_≡_}
+use mathlib.Core.Bool.{true}
+use mathlib.Core.Logic.{_⊎_}
+use mathlib.Core.List.{List}
+use lib.ListN.{length}
+use Rattle.image.specs.Valid.{valid}
+use Rattle.pattern_grammar.specs.Machine.{failed}
+use Rattle.pattern_grammar.specs.Parsed.{lexemes, parsed}
+use Rattle.pattern_grammar.proofs.Verdicts.{Refused}
+use Rattle.pattern_reading.specs.Reads.{imageOf, refusedWith, readPattern}
+use Rattle.image_growth.specs.Growing.{IsBytes}
+use Rattle.reading_audit.specs.Texts.{IsRead, FirstPlace}
+use Rattle.reading_audit.proofs.Told as told
+
+-- A text, a sheet, a name table and an expected type.
+module _ (text sheet names : List ℕ) (expected : ℕ) where
+  -- "Every text not refused has one tree, and the image made is that tree's"
+  pub a-text-that-is-not-refused-has-one-tree-and-its-image : (bytes : List ℕ) → readPattern text sheet names expected ≡ imageOf bytes → IsRead text sheet names expected bytes
+  a-text-that-is-not-refused-has-one-tree-and-its-image = told.read-one text sheet names expected
+
+  -- "and accepted": of a sheet of bytes
+  pub the-image-made-is-accepted : (bytes : List ℕ) → IsBytes sheet → readPattern text sheet names expected ≡ imageOf bytes → valid bytes ≡ true
+  the-image-made-is-accepted = told.read-valid text sheet names expected
+
+  -- "19, text outside the grammar .., with the byte position of the first token or end that fails": a text over 16,384 bytes at 16,384, any other at the first token with which
+  -- no admitted text begins, or where what that token shows to be wrong stands (`Cause`)
+  pub a-refusal-by-19-is-at-the-first-token-with-which-no-pattern-begins :
+      (at : ℕ) → readPattern text sheet names expected ≡ refusedWith 19 at → ((16384 < length text) × (at ≡ 16384)) ⊎ Refused text (lexemes text) at
+  a-refusal-by-19-is-at-the-first-token-with-which-no-pattern-begins = told.refused-19 text sheet names expected
+
+  -- "19 is tried first": by the text alone, whatever the sheet, the names and the type are
+  pub a-text-without-a-tree-is-refused-by-19 : (at : ℕ) → parsed text ≡ failed at → readPattern text sheet names expected ≡ refusedWith 19 at
+  a-text-without-a-tree-is-refused-by-19 = told.no-tree-19 text sheet names expected
+
+  -- "20, the first path or record field .., variant or constant .., or subpattern .., with its position"
+  pub a-refusal-by-20-is-at-the-first-place-that-is-refused : (at : ℕ) → readPattern text sheet names expected ≡ refusedWith 20 at → FirstPlace text sheet names expected at
+  a-refusal-by-20-is-at-the-first-place-that-is-refused = told.refused-20 text sheet names expected

@@ -1,0 +1,1 @@
+// The auditor's page on patterns as text: see specs/ and proofs/.

@@ -1,0 +1,3 @@
+pub mod Chars
+pub mod Rests
+pub mod Forms

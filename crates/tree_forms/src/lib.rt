@@ -1,0 +1,1 @@
+// Every tree that a text has is formed: see proofs/.

@@ -1,0 +1,39 @@
+use borrow.Author.Needs.{needs}
+use Rattle.type_parts.proofs.contexts.argument_context.Statement.{statement}
+use Rattle.type_parts.proofs.contexts.argument_context.Tie as tie
+use Rattle.type_parts.proofs.contexts.argument_context.Reads as reads
+use Rattle.type_parts.proofs.contexts.argument_context.Lts as lts
+use Rattle.type_parts.proofs.contexts.field_context.Reads as field-context-reads
+use Rattle.type_parts.proofs.contexts.stands_before.Reads as stands-before-reads
+use borrow.Author.Tests.{eq-eqb, ne-eqb, lt-ltb, le-ltb, le-leb, lt-leb}
+use mathlib.Core.Path.{_≡_, refl, sym, _∙_}
+use Rattle.type_parts.specs.Parts.{contextOf, partsOf}
+use Rattle.pattern_typing.specs.Contexts.{argumentContext}
+
+returns : tie.Need-returns
+unfolding argumentContext
+returns c = rw (sym (c .before .before .stands-before .ensures) ∙ c .before .if1 .taken) (c .field-context .ensures)
+
+returns-2 : tie.Need-returns-2
+unfolding argumentContext contextOf
+returns-2 c = rw (sym (c .before .before .before .before .stands-before .ensures) ∙ c .before .before .before .if1 .left, lt-leb _ _ (c .if2 .taken))
+
+returns-3 : tie.Need-returns-3
+unfolding argumentContext
+returns-3 c = rw (sym (c .before .before .before .before .before .before .stands-before .ensures) ∙ c .before .before .before .before .before .if1 .left, le-leb _ _ (c .before .before .if2 .left)) (c .field-context2 .ensures)
+
+pub argument-context-spec : {M : Type 1} → statement M
+argument-context-spec =
+    tie.close
+    (tie.spec
+    (λ c κs. search needs)
+    (λ c κs. search needs)
+    returns
+    (λ c. search needs)
+    (λ c. search needs)
+    (λ c. search needs)
+    returns-2
+    (λ c. search needs)
+    (λ c. search needs)
+    (λ c κs. search needs)
+    returns-3)

@@ -1,0 +1,40 @@
+use borrow.Author.Needs.{needs}
+use Rattle.type_parts.proofs.contexts.item_context.Statement.{statement}
+use Rattle.type_parts.proofs.contexts.item_context.Tie as tie
+use Rattle.type_parts.proofs.contexts.item_context.Reads as reads
+use Rattle.type_parts.proofs.contexts.item_context.Lts as lts
+use Rattle.type_parts.proofs.contexts.is_rest_item.Reads as is-rest-item-reads
+use Rattle.type_parts.proofs.contexts.one_less.Reads as one-less-reads
+use Rattle.type_parts.proofs.sheet.type_in.Reads as type-in-reads
+use borrow.Author.Tests.{eq-eqb, ne-eqb, lt-ltb, le-ltb, le-leb, lt-leb}
+use mathlib.Core.Path.{_≡_, refl, sym, _∙_}
+use Rattle.type_parts.specs.Parts.{contextOf, partsOf}
+use Rattle.pattern_typing.specs.Contexts.{itemContext}
+
+returns : tie.Need-returns
+unfolding itemContext contextOf
+returns c = rw (sym (c .before .before .is-rest-item .ensures) ∙ c .before .if1 .taken, c .one-less .ensures)
+
+returns-2 : tie.Need-returns-2
+unfolding itemContext contextOf
+returns-2 c = rw (sym (c .before .before .before .before .is-rest-item .ensures) ∙ c .before .before .before .if1 .left, ← c .before .before .type-in .ensures, eq-eqb _ 8 (c .if2 .taken))
+
+returns-3 : tie.Need-returns-3
+unfolding itemContext contextOf
+returns-3 c = rw (sym (c .before .before .before .before .before .before .is-rest-item .ensures) ∙ c .before .before .before .before .before .if1 .left, ← c .before .before .before .before .type-in .ensures, ne-eqb _ 8 (c .before .before .if2 .left), eq-eqb _ 9 (c .if3 .taken))
+
+returns-4 : tie.Need-returns-4
+unfolding itemContext contextOf
+returns-4 c = rw (sym (c .before .before .before .before .before .before .is-rest-item .ensures) ∙ c .before .before .before .before .before .if1 .left, ← c .before .before .before .before .type-in .ensures, ne-eqb _ 8 (c .before .before .if2 .left), ne-eqb _ 9 (c .if3 .left))
+
+pub item-context-spec : {M : Type 1} → statement M
+item-context-spec =
+    tie.close
+    (tie.spec
+    (λ c κs. search needs)
+    (λ c κs. search needs)
+    returns
+    (λ c κs. search needs)
+    returns-2
+    returns-3
+    returns-4)

@@ -1,0 +1,19 @@
+use Rattle.type_parts.proofs.contexts.stands_before.Statement.{statement}
+use Rattle.type_parts.proofs.contexts.stands_before.Tie as tie
+use Rattle.type_parts.proofs.contexts.stands_before.Reads as reads
+use Rattle.type_parts.proofs.contexts.stands_before.Lts as lts
+use borrow.Author.Tests.{eq-eqb, ne-eqb, lt-ltb, le-ltb, le-leb, lt-leb}
+use mathlib.Core.Path.{_≡_, refl, sym, _∙_}
+use Rattle.node_rows.specs.Nodes.{numberIn}
+use Rattle.pattern_typing.specs.Contexts.{standsBefore}
+
+returns : tie.Need-returns
+unfolding standsBefore numberIn
+returns c = rw (eq-eqb _ 65535 (c .if1 .taken))
+
+returns-2 : tie.Need-returns-2
+unfolding standsBefore numberIn
+returns-2 c = rw (ne-eqb _ 65535 (c .if1 .left))
+
+pub stands-before-spec : {M : Type 1} → statement M
+stands-before-spec = tie.close (tie.spec returns returns-2)

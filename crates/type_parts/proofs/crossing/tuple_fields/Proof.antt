@@ -1,0 +1,20 @@
+use borrow.Author.Needs.{needs}
+use Rattle.type_parts.proofs.crossing.tuple_fields.Statement.{statement}
+use Rattle.type_parts.proofs.crossing.tuple_fields.Tie as tie
+use Rattle.type_parts.proofs.crossing.tuple_fields.Reads as reads
+use Rattle.type_parts.proofs.crossing.tuple_fields.Lts as lts
+use Rattle.type_parts.proofs.sheet.type_in.Reads as type-in-reads
+use borrow.Author.Tests.{eq-eqb, ne-eqb, lt-ltb, le-ltb, le-leb, lt-leb}
+use mathlib.Core.Path.{_≡_, refl, sym, _∙_}
+use Rattle.pattern_typing.specs.Crossing.{hasVariantOf, tupleFields, variantFieldsOf}
+
+returns : tie.Need-returns
+unfolding tupleFields
+returns c = rw (← c .before .before .type-in .ensures, ne-eqb _ 5 (c .if1 .taken))
+
+returns-2 : tie.Need-returns-2
+unfolding tupleFields
+returns-2 c = rw (← c .before .before .type-in .ensures, eq-eqb _ 5 (c .if1 .left))
+
+pub tuple-fields-spec : {M : Type 1} → statement M
+tuple-fields-spec = tie.close (tie.spec (λ c κs. search needs) returns returns-2)

@@ -1,0 +1,15 @@
+use borrow.Author.Needs.{needs}
+use Rattle.type_parts.proofs.sheet.listed_in.Statement.{statement}
+use Rattle.type_parts.proofs.sheet.listed_in.Tie as tie
+use Rattle.type_parts.proofs.sheet.listed_in.Reads as reads
+use Rattle.type_parts.proofs.sheet.listed_in.Lts as lts
+use Rattle.type_parts.proofs.sheet.sheet_word.Reads as sheet-word-reads
+use Rattle.image.specs.Rows.{listAt}
+
+returns : tie.Need-returns
+unfolding listAt
+returns c = rw (← c .before .before .before .pre .list) (c .sheet-word .ensures)
+
+pub listed-in-spec : {M : Type 1} → statement M
+listed-in-spec =
+    tie.close (tie.spec (λ c. search needs) (λ c. search needs) (λ c. search needs) (λ c κs. search needs) returns)
