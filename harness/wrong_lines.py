@@ -154,7 +154,7 @@ CHANGES = (
      "(andThen (recordUnless held st l) (λ st₁. cond held (ok st₁) (tryStatement st₁ (liveRow block l))))", "counted-as-document-01-counts"),
     ("a temporary is not recorded", "lower", "Temps",
      "(andThen (tryLocal st word) (λ st₁. markLive false st₁ (nextLocal st) block))",
-     "(andThen (tryLocal st word) (λ st₁. markLive true st₁ (nextLocal st) block))", "a-temporary's-local-is-held-by-no-scope"),
+     "(andThen (tryLocal st word) (λ st₁. markLive mathlib.Core.Bool.true st₁ (nextLocal st) block))", "a-temporary's-local-is-held-by-no-scope"),
     # What is counted.
     ("one visit in Check, whatever the Ors above", "counting", "Counting", "checkVisits r = r .ors + 1", "checkVisits r = 1", "every-reached-pattern-was-visited-k-plus-2-times"),
     ("a new else is not counted", "counting", "Counting", "elseMade fails OptBlock.None = one fails", "elseMade fails OptBlock.None = 0", "counted-as-document-01-counts"),
