@@ -243,7 +243,8 @@ module _ (sheet : List ℕ) (d : Draft) (image : List ℕ) (g : Grown sheet d im
       let shape = patternShapeHolds (patKind (row .kind)) sheet row in
       let old = sheet-pattern sheet holds p lt in
       rw (g .patterns .kept p lt)
-      (and-three (namesType image (row .ty)) few (patternShapeHolds (patKind (row .kind)) image row) (names-kept (row .ty) (and-first named few shape old)) (and-second named few shape old)
+      (and-three (namesType image (row .ty)) few (patternShapeHolds (patKind (row .kind)) image row) (names-kept (row .ty) (and-first named few shape old))
+      (and-second named few shape old)
       (pattern-shape-kept (patKind (row .kind)) row (and-third named few shape old)))
 
   -- a pattern of the sheet has the same subpatterns

@@ -36,7 +36,8 @@ image-same : (a b : List ℕ) → imageOf a ≡ imageOf b → a ≡ b
 image-same a b e = cc
 
 -- a tree that is formed and is read as an image is read as a valid one
-tree-valid : (sheet names : List ℕ) (expected : ℕ) (w : Written) (image : List ℕ) → IsBytes sheet → formed w inPattern ≡ true → readTree sheet names expected w ≡ imageOf image → valid image ≡ true
+tree-valid : (sheet names : List ℕ) (expected : ℕ) (w : Written) (image : List ℕ) → IsBytes sheet → formed w inPattern ≡ true → readTree sheet names expected w ≡ imageOf image →
+    valid image ≡ true
 unfolding readTree imaged unlessRefused
 tree-valid sheet names expected w image bytes form read =
     by (sheetHolds sheet) refl (ltb expected (typeCount sheet) && namesHold sheet names) refl (refusedIn sheet names w (typed expected byValue)) refl
@@ -46,7 +47,8 @@ tree-valid sheet names expected w image bytes form read =
     made = imageWith sheet (draftOf sheet names expected w)
 
     by :
-        (a : Bool) → sheetHolds sheet ≡ a → (b : Bool) → ltb expected (typeCount sheet) && namesHold sheet names ≡ b → (o : Option ℕ) → refusedIn sheet names w (typed expected byValue) ≡ o
+        (a : Bool) → sheetHolds sheet ≡ a → (b : Bool) → ltb expected (typeCount sheet) && namesHold sheet names ≡ b → (o : Option ℕ) →
+        refusedIn sheet names w (typed expected byValue) ≡ o
         → (c : Bool) → withinImageLimits sheet (draftOf sheet names expected w) ≡ c
         → cond a (cond b (unlessRefused o (cond c (imageOf made) (refusedWith 1 absent))) (refusedWith 2 absent)) (refusedWith 1 absent) ≡ imageOf image → valid image ≡ true
     by false p b q o r c s e = refusal-not image 1 absent e
