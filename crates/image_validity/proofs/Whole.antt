@@ -25,7 +25,7 @@ use Rattle.image_validity.proofs.Contexts.{Fits, ReadsFit}
 use Rattle.image_validity.proofs.Nodes.{resolves}
 
 -- where neither of two is refused
-neither : (a b : Option ℕ) → earlier a b ≡ none → (a ≡ none) × (b ≡ none)
+pub neither : (a b : Option ℕ) → earlier a b ≡ none → (a ≡ none) × (b ≡ none)
 unfolding earlier
 neither none b e = (refl, e)
 neither (some x) none e =
