@@ -20,14 +20,14 @@ use Rattle.image_growth.specs.Growing.{IsBytes, AreWords, EachWords, Bou
 use Rattle.image_growth.proofs.Limits.{Few, few}
 use Rattle.image_growth.proofs.Grows.{sheet-filled, length-tables, image-long}
 
-bytes-none : IsBytes []
+pub bytes-none : IsBytes []
 bytes-none k = omega arith
 
-bytes-more : (b : ℕ) (xs : List ℕ) → b < 256 → IsBytes xs → IsBytes (b ∷ xs)
+pub bytes-more : (b : ℕ) (xs : List ℕ) → b < 256 → IsBytes xs → IsBytes (b ∷ xs)
 bytes-more b xs h g zero = h
 bytes-more b xs h g (suc k) = g k
 
-bytes-join : (xs ys : List ℕ) → IsBytes xs → IsBytes ys → IsBytes (xs ++ ys)
+pub bytes-join : (xs ys : List ℕ) → IsBytes xs → IsBytes ys → IsBytes (xs ++ ys)
 bytes-join [] ys h g k = g k
 bytes-join (x ∷ xs) ys h g zero = h 0
 bytes-join (x ∷ xs) ys h g (suc k) = bytes-join xs ys (λ i. h (suc i)) g k

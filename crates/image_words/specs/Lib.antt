@@ -1,0 +1,2 @@
+pub mod Ellipses
+pub mod Bounds
