@@ -102,7 +102,7 @@ module _ (sheet : List ℕ) (whole : Draft) (image : List ℕ) (g : Grown sheet 
       good-unless (likeIn sheet e (arrayRow element many copy)) (arrayRow element many copy) e good
       (array-good element many copy (length (e .types)) (let l = h .0 in omega (arith, l, g .typesAre)) (h .1 .0) (h .1 .1))
 
-  bound-below : (at : BoundAt) (e : Draft) → BoundHolds sheet at → Extends e whole → Extends (withBoundAt sheet at e) whole → boundType sheet at e < typeCount image
+  pub bound-below : (at : BoundAt) (e : Draft) → BoundHolds sheet at → Extends e whole → Extends (withBoundAt sheet at e) whole → boundType sheet at e < typeCount image
   unfolding withBoundAt boundType
   bound-below (boundAtType t) e h x y = omega (arith, h, g .typesAre)
   bound-below (boundAtArray element many copy) e h x y = number-below (likeIn sheet e (arrayRow element many copy)) (arrayRow element many copy) e refl x y
@@ -126,7 +126,7 @@ module _ (sheet : List ℕ) (whole : Draft) (image : List ℕ) (g : Grown sheet 
       by true = good
       by false = good-unless (likeIn sheet e (referenceRow t mode)) (referenceRow t mode) e good (reference-good t mode (length (e .types)) h)
 
-  mode-below : (mode t : ℕ) (e : Draft) → t < typeCount image → Extends e whole → Extends (withMode sheet mode t e) whole → modeType sheet mode t e < typeCount image
+  pub mode-below : (mode t : ℕ) (e : Draft) → t < typeCount image → Extends e whole → Extends (withMode sheet mode t e) whole → modeType sheet mode t e < typeCount image
   unfolding withMode modeType
   mode-below mode t e h x y = by (eqb mode byValue) y
     where
