@@ -24,7 +24,7 @@ use Rattle.pattern_images.specs.Emitting.{listFrom, withList, firstOr, arrayRow
 use Rattle.image_growth.specs.Growing.{AreWords, typeWords, Grown}
 use Rattle.image_growth.proofs.Limits.{Few}
 use Rattle.image_validity.specs.Standing.{Step}
-use Rattle.image_validity.proofs.Tests.{and-first}
+use Rattle.image_validity.proofs.Keeping.{operand-inside}
 use Rattle.image_validity.proofs.Extending.{Extends, extends-on, extends-pattern, extends-binding, extends-mode, extends-with-binding, begins-long}
 use Rattle.image_validity.proofs.Added.{length-little-endian, list-room}
 use Rattle.image_validity.proofs.Bindings.{BoundHolds, bound-below, mode-below, binding-below}
@@ -113,11 +113,7 @@ module _ (sheet : List ℕ) (whole : Draft) (image : List ℕ) (g : Grown sheet 
       draft-bytes (literalBytes v) _ (draft-words _ e h (literal-kind v, (byte-word e x, (omega (arith, long), tt)))) (literal-bytes v)
 
   named-word : (o : ℕ) → operandHolds image o ≡ true → IsWord o
-  unfolding operandHolds
-  named-word o h =
-      let row = operandAt image o in
-      let inside = leb-true (o + 3) (listCount image) (and-first (leb (o + 3) (listCount image)) (operandLies image row) (operandValueHolds (operandKind (row .kind)) (operandBytes image row)) h) in
-      list-word o (omega (arith, inside))
+  named-word o h = list-word o (let l = operand-inside image o h in omega (arith, l))
 
   bound-word : (b : Bool) (stands : List ℕ) (i : ℕ) → AreWords stands → IsWord (cond b (getD stands i absent) absent)
   bound-word true stands i h = words-at stands i absent h (omega arith)
