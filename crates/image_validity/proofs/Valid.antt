@@ -173,7 +173,7 @@ limits-hold sheet whole image g f some =
     (le-leb (nextByte sheet whole) 16384 (f .bytes)))
 
 -- nothing is added
-good-empty : (sheet image : List ℕ) → Good sheet image emptyDraft
+pub good-empty : (sheet image : List ℕ) → Good sheet image emptyDraft
 good-empty sheet image = record { called = refl; types = tt; patterns = tt; bindings = tt }
 
 -- The theorem.
