@@ -23,7 +23,7 @@ use Rattle.pattern_typing.specs.Making.{Making, orAbsent}
 use Rattle.pattern_typing.specs.Resolving.{Resolved, refusedHere, resolvedTo, whereNamed, pathMade, resolvedPath, Marked, resolvedIdent, restHolds, resolvedBoundRest, resolvedRest, bindsIn, fieldName, tupleStructAs, recordAs, resolvedNode, resolvedField, resolved}
 use Rattle.image_validity.proofs.Keeping.{sheet-variant, operand-inside}
 use Rattle.image_validity.proofs.Types.{row-serves, variant-named, value-named}
-use Rattle.image_words.specs.Ellipses.{ellipsisFits}
+use Rattle.tree_forms.specs.Ellipses.{ellipsisFits}
 use Rattle.image_words.specs.Bounds.{IsWord, BringsWords}
 
 module _ (sheet names : List ℕ) (holds : sheetHolds sheet ≡ true) (named : namesHold sheet names ≡ true) (variants : variantCount sheet ≤ 512) (words : listCount sheet ≤ 2048) where

@@ -31,7 +31,7 @@ use Rattle.image_validity.proofs.Contexts.{Fits, ReadsFit}
 use Rattle.image_validity.proofs.Nodes.{resolves}
 use Rattle.image_validity.proofs.Whole.{neither, parts-step}
 use Rattle.image_validity.proofs.Valid.{good-empty}
-use Rattle.image_words.specs.Ellipses.{ellipsisFits, ellipsesFit, partsEllipsesFit}
+use Rattle.tree_forms.specs.Ellipses.{ellipsisFits, ellipsesFit, partsEllipsesFit}
 use Rattle.image_words.specs.Bounds.{DraftWords, MadeWords}
 use Rattle.image_words.proofs.Lists.{words-join, draft-empty, draft-bounded}
 use Rattle.image_words.proofs.Emits.{emits-words}

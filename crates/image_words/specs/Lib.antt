@@ -1,2 +1,1 @@
-pub mod Ellipses
 pub mod Bounds

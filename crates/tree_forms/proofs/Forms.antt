@@ -243,7 +243,7 @@ unfolding reduced
 reduced-formed text p k h = one-formed text (alternatives text p) (pattern-formed text p k h .0)
 
 -- a reading with a tree is over with it
-tree-read : (r : Reading) (p : Pattern) → Over r → outcome r ≡ treeIs p → (e : Spot) × (r ≡ done p e)
+pub tree-read : (r : Reading) (p : Pattern) → Over r → outcome r ≡ treeIs p → (e : Spot) × (r ≡ done p e)
 unfolding outcome
 tree-read _ p (Over.whole q e) h = (e, ap (λ (x : Pattern). done x e) (same q p h))
   where
