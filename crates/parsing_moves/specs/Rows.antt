@@ -83,6 +83,9 @@ holdsFlags s at more = Holds s (record { at = at; more = more; spot = 0; from = 
 abbrev pub holdsLiteral : ℕ → ℕ → ℕ → ℕ → NodeMove
 holdsLiteral at sort from to = Holds AtLiteral (record { at = at; more = sort; spot = 0; from = from; to = to })
 
+abbrev pub holdsName : ReadState → ℕ → ℕ → ℕ → ℕ → ℕ → NodeMove
+holdsName s at more spot start end = Holds s (record { at = at; more = more; spot = spot; from = start; to = end })
+
 abbrev pub opensRow : ReadState → ℕ → ℕ → ℕ → ℕ → NodeMove
 opensRow s kind at more to = Opens s (record { kind = kind; at = at; parts = 0; more = more; spot = 0; from = 0; to = to })
 
