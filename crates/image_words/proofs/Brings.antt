@@ -44,8 +44,8 @@ module _ (sheet names : List ℕ) (holds : sheetHolds sheet ≡ true) (named : n
   path-brings (some i) name c e =
       let row = nameRowAt names i in
       let number : IsWord (row .number) =
-        value-named sheet names named (name .bytes) i e (λ _ h. variant-word (row .number) h)
-        (λ _ h. place-word (row .number) (and-left (operandHolds sheet (row .number)) (eqb (operandAt sheet (row .number) .kind) 8) h))
+      value-named sheet names named (name .bytes) i e (λ _ h. variant-word (row .number) h)
+      (λ _ h. place-word (row .number) (and-left (operandHolds sheet (row .number)) (eqb (operandAt sheet (row .number) .kind) 8) h))
       in
       (omega arith, (kind-word (eqb (row .kind) 1), (number, (omega arith, omega arith))))
 

@@ -105,6 +105,7 @@ draft-bounded d h few = record { types = h .types; patterns = rows (d .patterns)
     rows [] g e = tt
     rows (r ∷ rs) g e =
         let less = leb-true (r .derefs) 16 (and-left (leb (r .derefs) 16) (derefsWithin rs) e) in
-        let own = g .0 in
-        ((own .0, (own .1 .0, (omega (arith, less), (own .1 .1 .0, (own .1 .1 .1 .0, (own .1 .1 .1 .1 .0, (own .1 .1 .1 .1 .1 .0, tt))))))),
-        rows rs (g .1) (and-right (leb (r .derefs) 16) (derefsWithin rs) e))
+        let own = g .0 in (
+          (own .0, (own .1 .0, (omega (arith, less), (own .1 .1 .0, (own .1 .1 .1 .0, (own .1 .1 .1 .1 .0, (own .1 .1 .1 .1 .1 .0, tt))))))),
+          rows rs (g .1) (and-right (leb (r .derefs) 16) (derefsWithin rs) e),
+        )

@@ -41,6 +41,7 @@ module _ (sheet names : List ℕ) (whole : Draft) (image : List ℕ) (g : Grown 
     (bytes : IsBytes sheet) (f : Few sheet whole) where
   mutual
     unfolding partCount nodeIn formed partsFormed refusedIn refusedAmong emitted emittedParts ellipsesFit partsEllipsesFit
+
     tree-words : (w : Written) (s : Stand) (c : Context) (d : Draft) → formed w s ≡ true → ellipsesFit w ≡ true → Fits sheet c (nodeIn w) s → refusedIn sheet names w c ≡ none →
         Good sheet image d → DraftWords d → Extends (emitted sheet names w c d .draft) whole → MadeWords (emitted sheet names w c d)
     tree-words (written at n ps) s c d form dots fits taken good words x =
@@ -54,8 +55,8 @@ module _ (sheet names : List ℕ) (whole : Draft) (image : List ℕ) (g : Grown 
         let own = and-left (stands && node && rest) below form in
         let parts = and-right (stands && node && rest) below form in
         let fit =
-          resolves sheet names whole image g holds named bytes c s n at ps fits (and-first stands node rest own) (and-second stands node rest own)
-          (and-third stands node rest own) (free .0)
+        resolves sheet names whole image g holds named bytes c s n at ps fits (and-first stands node rest own) (and-second stands node rest own)
+        (and-third stands node rest own) (free .0)
         in
         let early = extends-on (node-extends sheet (r .making) (partCount ps) (m .stands) (m .draft)) x in
         let step = parts-step sheet names whole image g holds named bytes ps (standsIn n) (r .reads) d parts (fit .reads) (free .1) good early in
@@ -75,8 +76,8 @@ module _ (sheet names : List ℕ) (whole : Draft) (image : List ℕ) (g : Grown 
         let step = parts-step sheet names whole image g holds named bytes ps s reads d parts (fits .0) (free .1) good early in
         let first = parts-words ps s reads d parts (and-left (partsEllipsesFit ps) (ellipsesFit w) dots) (fits .0) (free .1) good words early in
         let last =
-          tree-words w s c (m .draft) (and-right (partsFormed ps s) (formed w s) form) (and-right (partsEllipsesFit ps) (ellipsesFit w) dots) (fits .1) (free .0) (step .good)
-          (first .draft) x
+        tree-words w s c (m .draft) (and-right (partsFormed ps s) (formed w s) form) (and-right (partsEllipsesFit ps) (ellipsesFit w) dots) (fits .1) (free .0) (step .good)
+        (first .draft) x
         in
         record { draft = last .draft; stands = words-join (m .stands) _ (first .stands) (last .stands) }
 
@@ -88,7 +89,7 @@ tree-bytes sheet names expected w readable dots =
     let holds = readable .sheet-holds in
     let f = few sheet whole holds (readable .within) in
     let made =
-      tree-words sheet names whole image (grown sheet whole holds) holds (readable .names-hold) (readable .bytes) f w inPattern (typed expected byValue) emptyDraft
-      (readable .is-formed) dots (readable .exists, omega arith) (readable .taken) (good-empty sheet image) draft-empty (extends-same whole)
+    tree-words sheet names whole image (grown sheet whole holds) holds (readable .names-hold) (readable .bytes) f w inPattern (typed expected byValue) emptyDraft
+    (readable .is-formed) dots (readable .exists, omega arith) (readable .taken) (good-empty sheet image) draft-empty (extends-same whole)
     in
     image-bytes sheet whole (readable .bytes) holds (draft-bounded whole (made .draft) (f .derefs)) (readable .within)

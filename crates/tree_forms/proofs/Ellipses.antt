@@ -84,6 +84,7 @@ module _ (text : List ℕ) where
 
   mutual
     unfolding patternT altT plainT itemsT fieldsT fieldT itemCount alternatives writtenAlt writtenPlain writtenIdent writtenItems writtenFields writtenFieldOf ellipsesFit partsEllipsesFit ellipsisFits
+
     pattern-fits : (p : Pattern) (k : List Lexeme) → Short (patternT p k) → partsEllipsesFit (alternatives text p) ≡ true
     pattern-fits (alone none a) k h = alt-fits a k (shorter (optional-longer none orMark (altT a k)) h)
     pattern-fits (alone (some q) a) k h = begun-fits (q .from) (writtenAlt text a) (alt-fits a k (shorter (optional-longer (some q) orMark (altT a k)) h))

@@ -64,6 +64,7 @@ record-longer r k = behind one-more (path-longer (r .path) _)
 
 mutual
   unfolding patternT altT plainT itemsT fieldsT fieldT itemCount
+
   pub pattern-longer : (p : Pattern) (k : List Lexeme) → Longer 0 k (patternT p k)
   pattern-longer (alone lead a) k = behind (alt-longer a k) (optional-longer lead orMark (altT a k))
   pattern-longer (or p c a) k = behind (behind (alt-longer a k) one-more) (pattern-longer p (mark orMark c ∷ altT a k))
