@@ -1,7 +1,6 @@
-// Patterns of the draft: a row and its number on the stack, with the list that it may have.
+// Patterns of the draft: a row and its number on the stack.
 use draft_tables::DraftCounts;
 use draft_tables::DraftStep;
-use draft_tables::push_list;
 use draft_tables::push_pattern;
 use draft_tables::push_stack;
 use image::Tables;

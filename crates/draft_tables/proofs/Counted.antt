@@ -19,7 +19,7 @@ room-within tables c room =
     record { types = omega (arith, room .types); patterns = omega (arith, room .patterns); bindings = omega (arith, room .bindings); words = omega (arith, room .words); bytes = omega (arith, room .bytes); height = room .height }
 
 -- what a list holds does not go by what would stand for what it lacks
-default-free {ℓ} : {A : Type ℓ} (l : List A) (j : ℕ) (x y : A) → j < length l → getD l j x ≡ getD l j y
+pub default-free {ℓ} : {A : Type ℓ} (l : List A) (j : ℕ) (x y : A) → j < length l → getD l j x ≡ getD l j y
 default-free [] j x y h = absurd (omega arith)
 default-free (a ∷ l) zero x y h = refl
 default-free (a ∷ l) (suc j) x y h = default-free l j x y (omega arith)

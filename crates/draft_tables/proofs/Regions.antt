@@ -9,7 +9,7 @@ use lib.Seq.{length-take-le, take-nil, take-add, take-at, drop-append-le, drop-a
 use Rattle.row_tables.specs.Rows.{rowsOf, stored}
 use Rattle.row_tables.proofs.Tables.{before-stored, past-stored, rows-same, rows-push}
 
-take-drop : (n m : ℕ) (l : List ℕ) → take m (drop n l) ≡ drop n (take (n + m) l)
+pub take-drop : (n m : ℕ) (l : List ℕ) → take m (drop n l) ≡ drop n (take (n + m) l)
 take-drop zero m l = ap (λ (k : ℕ). take k l) (sym (zero-add m))
 take-drop (suc n) m [] = take-nil m ∙ sym (ap (drop (suc n)) (take-nil (suc n + m)))
 take-drop (suc n) m (x ∷ l) = take-drop n m l ∙ sym (ap (λ (k : ℕ). drop (suc n) (take k (x ∷ l))) (suc-add n m))

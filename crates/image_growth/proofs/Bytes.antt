@@ -17,16 +17,17 @@ use Rattle.type_sheets.specs.Sheets.{withinSheetLimits, sheetRules, sheetHolds}
 use Rattle.pattern_images.specs.Drafts.{Draft, nextType, nextPattern, nextBinding, nextWord, nextByte}
 use Rattle.pattern_images.specs.Imaging.{wordBytes, wordsBytes, longBytes, typeBytes, patternBytes, bindingBytes, tableOf, tablesWith, behindLength, imageWith, derefsWithin, withinImageLimits}
 use Rattle.image_growth.specs.Growing.{IsBytes, AreWords, EachWords, Bounded, typeWords, patternWords, bindingWords}
+use Rattle.image_growth.proofs.Limits.{Few, few}
 use Rattle.image_growth.proofs.Grows.{sheet-filled, length-tables, image-long}
 
-bytes-none : IsBytes []
+pub bytes-none : IsBytes []
 bytes-none k = omega arith
 
-bytes-more : (b : ℕ) (xs : List ℕ) → b < 256 → IsBytes xs → IsBytes (b ∷ xs)
+pub bytes-more : (b : ℕ) (xs : List ℕ) → b < 256 → IsBytes xs → IsBytes (b ∷ xs)
 bytes-more b xs h g zero = h
 bytes-more b xs h g (suc k) = g k
 
-bytes-join : (xs ys : List ℕ) → IsBytes xs → IsBytes ys → IsBytes (xs ++ ys)
+pub bytes-join : (xs ys : List ℕ) → IsBytes xs → IsBytes ys → IsBytes (xs ++ ys)
 bytes-join [] ys h g k = g k
 bytes-join (x ∷ xs) ys h g zero = h 0
 bytes-join (x ∷ xs) ys h g (suc k) = bytes-join xs ys (λ i. h (suc i)) g k
@@ -85,48 +86,21 @@ tables-bytes sheet d h b =
     let r3 = s3 ++ (patternBytes (d .patterns) ++ r4) in
     let r2 = s2 ++ r3 in
     let b6 = bytes-join s6 (d .bytes) (table-bytes sheet (dataAt sheet) (dataCount sheet) h) (b .bytes) in
-    let b5 = bytes-join s5 (wordsBytes (d .words) ++ r6) (table-bytes sheet (listStart sheet) (2 * listCount sheet) h) (bytes-join (wordsBytes (d .words)) r6 (words-are-bytes (d .words) (b .words)) b6) in
-    let b4 = bytes-join s4 (bindingBytes (d .bindings) ++ r5) (table-bytes sheet (bindingsAt sheet) (4 * bindingCount sheet) h) (bytes-join (bindingBytes (d .bindings)) r5 (binding-bytes (d .bindings) (b .bindings)) b5) in
-    let b3 = bytes-join s3 (patternBytes (d .patterns) ++ r4) (table-bytes sheet (patternsAt sheet) (14 * patternCount sheet) h) (bytes-join (patternBytes (d .patterns)) r4 (pattern-bytes (d .patterns) (b .patterns)) b4) in
+    let b5 =
+    bytes-join s5 (wordsBytes (d .words) ++ r6) (table-bytes sheet (listStart sheet) (2 * listCount sheet) h)
+    (bytes-join (wordsBytes (d .words)) r6 (words-are-bytes (d .words) (b .words)) b6)
+    in
+    let b4 =
+    bytes-join s4 (bindingBytes (d .bindings) ++ r5) (table-bytes sheet (bindingsAt sheet) (4 * bindingCount sheet) h)
+    (bytes-join (bindingBytes (d .bindings)) r5 (binding-bytes (d .bindings) (b .bindings)) b5)
+    in
+    let b3 =
+    bytes-join s3 (patternBytes (d .patterns) ++ r4) (table-bytes sheet (patternsAt sheet) (14 * patternCount sheet) h)
+    (bytes-join (patternBytes (d .patterns)) r4 (pattern-bytes (d .patterns) (b .patterns)) b4)
+    in
     let b2 = bytes-join s2 r3 (table-bytes sheet (variantsAt sheet) (6 * variantCount sheet) h) b3 in
-    bytes-join s1 (typeBytes (d .types) ++ r2) (table-bytes sheet (typesAt sheet) (10 * typeCount sheet) h) (bytes-join (typeBytes (d .types)) r2 (type-bytes (d .types) (b .types)) b2)
-
--- no count passes a limit
-record Few (sheet : List ℕ) (d : Draft) : Type 0 where
-  types : nextType sheet d ≤ 256
-  variants : variantCount sheet ≤ 512
-  patterns : nextPattern sheet d ≤ 512
-  bindings : nextBinding sheet d ≤ 256
-  words : nextWord sheet d ≤ 2048
-  bytes : nextByte sheet d ≤ 16384
-
-few : (sheet : List ℕ) (d : Draft) → sheetHolds sheet ≡ true → withinImageLimits sheet d ≡ true → Few sheet d
-unfolding sheetHolds withinSheetLimits withinImageLimits
-few sheet d holds within =
-    let a = leb (nextType sheet d) 256 in
-    let b = leb (nextPattern sheet d) 512 in
-    let c = leb (nextBinding sheet d) 256 in
-    let e = leb (nextWord sheet d) 2048 in
-    let f = leb (nextByte sheet d) 16384 in
-    let five = and-left (a && b && c && e && f) (derefsWithin (d .patterns)) within in
-    let four = and-left (a && b && c && e) f five in
-    let three = and-left (a && b && c) e four in
-    let two = and-left (a && b) c three in
-    let t = leb (typeCount sheet) 256 in
-    let v = leb (variantCount sheet) 512 in
-    let p = leb (patternCount sheet) 512 in
-    let q = leb (bindingCount sheet) 256 in
-    let l = leb (listCount sheet) 2048 in
-    let own = all-true-at (sheetRules sheet) 10 holds in
-    let variants = and-right t v (and-left (t && v) p (and-left (t && v && p) q (and-left (t && v && p && q) l (and-left (t && v && p && q && l) (leb (dataCount sheet) 16384) own)))) in
-    record {
-      types = leb-true (nextType sheet d) 256 (and-left a b two);
-      variants = leb-true (variantCount sheet) 512 variants;
-      patterns = leb-true (nextPattern sheet d) 512 (and-right a b two);
-      bindings = leb-true (nextBinding sheet d) 256 (and-right (a && b) c three);
-      words = leb-true (nextWord sheet d) 2048 (and-right (a && b && c) e four);
-      bytes = leb-true (nextByte sheet d) 16384 (and-right (a && b && c && e) f five);
-    }
+    bytes-join s1 (typeBytes (d .types) ++ r2) (table-bytes sheet (typesAt sheet) (10 * typeCount sheet) h)
+    (bytes-join (typeBytes (d .types)) r2 (type-bytes (d .types) (b .types)) b2)
 
 long-is-bytes : (n : ℕ) → n < 65536 * 65536 → IsBytes (longBytes n)
 unfolding longBytes

@@ -39,6 +39,11 @@ found test (suc many) at i e = by (λ q. found test many (suc at) i q) (test at)
         (ap test (sym same) ∙ t, omega (arith, same))
     by later false t q = let own = later q in (own .0, let l = own .1 in omega (arith, l))
 
+-- 1 and 0 are flags
+pub flag-one : (b : Bool) → isFlag (cond b 1 0) ≡ true
+flag-one true = refl
+flag-one false = refl
+
 -- what a name is bound at exists in the sheet
 abbrev pub BoundHolds : List ℕ → BoundAt → Type 0
 BoundHolds sheet (boundAtType t) = t < typeCount sheet
@@ -67,16 +72,13 @@ module _ (sheet : List ℕ) (whole : Draft) (image : List ℕ) (g : Grown sheet 
   unless-bindings none row e = refl
   unless-bindings (some t) row e = refl
 
-  number-below : (o : Option ℕ) (row : TypeRow) (e : Draft) → likeIn sheet e row ≡ o → Extends e whole → Extends (addUnless o row e) whole → numberOr o (nextType sheet e) < typeCount image
+  number-below : (o : Option ℕ) (row : TypeRow) (e : Draft) → likeIn sheet e row ≡ o → Extends e whole → Extends (addUnless o row e) whole →
+      numberOr o (nextType sheet e) < typeCount image
   unfolding addUnless addType numberOr likeIn
   number-below none row e q x y = omega (arith, begins-long (y .types), length-append (e .types) (row ∷ []), g .typesAre)
   number-below (some t) row e q x y =
       let own = found (λ t. alike row (typeIn sheet e t)) (nextType sheet e) 0 t q .1 in
       omega (arith, own, types-most e x)
-
-  flag-one : (b : Bool) → isFlag (cond b 1 0) ≡ true
-  flag-one true = refl
-  flag-one false = refl
 
   reference-good : (t mode n : ℕ) → t < typeCount image → TypeGood image n (referenceRow t mode)
   unfolding typeShapeHolds variantsBy
@@ -100,7 +102,7 @@ module _ (sheet : List ℕ) (whole : Draft) (image : List ℕ) (g : Grown sheet 
       good-unless (likeIn sheet e (arrayRow element many copy)) (arrayRow element many copy) e good
       (array-good element many copy (length (e .types)) (let l = h .0 in omega (arith, l, g .typesAre)) (h .1 .0) (h .1 .1))
 
-  bound-below : (at : BoundAt) (e : Draft) → BoundHolds sheet at → Extends e whole → Extends (withBoundAt sheet at e) whole → boundType sheet at e < typeCount image
+  pub bound-below : (at : BoundAt) (e : Draft) → BoundHolds sheet at → Extends e whole → Extends (withBoundAt sheet at e) whole → boundType sheet at e < typeCount image
   unfolding withBoundAt boundType
   bound-below (boundAtType t) e h x y = omega (arith, h, g .typesAre)
   bound-below (boundAtArray element many copy) e h x y = number-below (likeIn sheet e (arrayRow element many copy)) (arrayRow element many copy) e refl x y
@@ -124,7 +126,7 @@ module _ (sheet : List ℕ) (whole : Draft) (image : List ℕ) (g : Grown sheet 
       by true = good
       by false = good-unless (likeIn sheet e (referenceRow t mode)) (referenceRow t mode) e good (reference-good t mode (length (e .types)) h)
 
-  mode-below : (mode t : ℕ) (e : Draft) → t < typeCount image → Extends e whole → Extends (withMode sheet mode t e) whole → modeType sheet mode t e < typeCount image
+  pub mode-below : (mode t : ℕ) (e : Draft) → t < typeCount image → Extends e whole → Extends (withMode sheet mode t e) whole → modeType sheet mode t e < typeCount image
   unfolding withMode modeType
   mode-below mode t e h x y = by (eqb mode byValue) y
     where

@@ -67,7 +67,8 @@ module _ (sheet : List ℕ) where
       by true e = (h i (ltb-true i (fields .count) e), le)
       by false e = tt
 
-  argument-fits : (fields : FieldTypes) (mode : ℕ) (before : Option ℕ) (many i : ℕ) (n : Node) → FieldsHold sheet fields → mode ≤ 2 → Fits sheet (argumentContext sheet fields mode before many i) n inPattern
+  argument-fits : (fields : FieldTypes) (mode : ℕ) (before : Option ℕ) (many i : ℕ) (n : Node) → FieldsHold sheet fields → mode ≤ 2 →
+      Fits sheet (argumentContext sheet fields mode before many i) n inPattern
   unfolding argumentContext
   argument-fits fields mode before many i n h le = by (standsBefore before i) (leb many (fields .count + i))
     where
@@ -76,7 +77,8 @@ module _ (sheet : List ℕ) where
       by false true = field-fits fields mode (fields .count + i - many) n h le
       by false false = tt
 
-  pub arguments-fit : (fields : FieldTypes) (mode : ℕ) (before : Option ℕ) (many : ℕ) (ps : Parts) → FieldsHold sheet fields → mode ≤ 2 → ReadsFit sheet (argumentParts fields mode before many) ps inPattern
+  pub arguments-fit : (fields : FieldTypes) (mode : ℕ) (before : Option ℕ) (many : ℕ) (ps : Parts) → FieldsHold sheet fields → mode ≤ 2 →
+      ReadsFit sheet (argumentParts fields mode before many) ps inPattern
   unfolding partContext
   arguments-fit fields mode before many ps h le = each-fits (argumentParts fields mode before many) inPattern (λ i n. argument-fits fields mode before many i n h le) ps
 
@@ -104,11 +106,13 @@ module _ (sheet : List ℕ) where
         by true e = (item-element sheet holds t (h .0) e, h .1)
         by false e = tt
 
-    item-fits : (t mode : ℕ) (before : Option ℕ) (many i : ℕ) (n : Node) → TypedHolds sheet t mode → (isRestItem before i ≡ true → mayBeRest n ≡ true) → Fits sheet (itemContext sheet t mode before many i) n inPattern
+    item-fits : (t mode : ℕ) (before : Option ℕ) (many i : ℕ) (n : Node) → TypedHolds sheet t mode → (isRestItem before i ≡ true → mayBeRest n ≡ true) →
+        Fits sheet (itemContext sheet t mode before many i) n inPattern
     unfolding itemContext
     item-fits t mode before many i n h rest = by (isRestItem before i) refl
       where
-        by : (b : Bool) → isRestItem before i ≡ b → Fits sheet (cond b (restAmong t (many - 1) mode) (cond (isArray sheet t || isSlice sheet t) (typed (typeAt sheet t .a) mode) partless)) n inPattern
+        by : (b : Bool) → isRestItem before i ≡ b →
+            Fits sheet (cond b (restAmong t (many - 1) mode) (cond (isArray sheet t || isSlice sheet t) (typed (typeAt sheet t .a) mode) partless)) n inPattern
         by true e = (h, rest e)
         by false e = element-fits t mode n h
 
@@ -118,7 +122,8 @@ module _ (sheet : List ℕ) where
     rest-behind noParts before h = refl
     rest-behind (more ps w) before h = rw (ne-eqb before (partCount ps) (λ e. omega (arith, e, h))) (rest-behind ps before (omega arith))
 
-    pub items-fit : (ps : Parts) (t mode : ℕ) (before : Option ℕ) (many : ℕ) → TypedHolds sheet t mode → restPartFormed before ps ≡ true → ReadsFit sheet (itemParts t mode before many) ps inPattern
+    pub items-fit : (ps : Parts) (t mode : ℕ) (before : Option ℕ) (many : ℕ) → TypedHolds sheet t mode → restPartFormed before ps ≡ true →
+        ReadsFit sheet (itemParts t mode before many) ps inPattern
     unfolding partContext restPartFormed isRestItem
     items-fit noParts t mode before many h r = tt
     items-fit (more ps w) t mode none many h r =

@@ -29,7 +29,7 @@ use Rattle.image_validity.proofs.Tests.{times-join, in-both, and-three,
 use Rattle.image_validity.proofs.Extending.{Extends, extends-on, extends-pattern, extends-with-binding}
 use Rattle.image_validity.proofs.Added.{operand-there}
 use Rattle.image_validity.proofs.Steps.{step-pattern, good-words, good-bytes}
-use Rattle.image_validity.proofs.Bindings.{BoundHolds, named, binding-good, binding-patterns, binding-below}
+use Rattle.image_validity.proofs.Bindings.{flag-one, BoundHolds, named, binding-good, binding-patterns, binding-below}
 
 -- what is made of a node with so many parts: what its rows name exists, and its parts stand for what it asks for
 pub data Sound (sheet image : List ℕ) : Making → ℕ → Stand → Stand → Type 0 where
@@ -114,10 +114,6 @@ upper-there false true n e q = omega (arith, e)
 upper-there true false n e q = absurd (false≢true q)
 upper-there false false n e q = absurd (false≢true q)
 
-flag-one : (b : Bool) → isFlag (cond b 1 0) ≡ true
-flag-one true = refl
-flag-one false = refl
-
 -- the items of a slice without its rest, and the rest
 pub items-times : (q : ℕ) (before : Option ℕ) (many : ℕ) (xs : List ℕ) → length xs ≡ many → restWithin before many ≡ true →
     times q (itemWords before xs) + times q (ifPresent (restWord before xs)) ≤ times q xs
@@ -144,11 +140,13 @@ items-in test (some before) many xs long h t =
     let w = getD xs before absent in
     let split : allIn test (take before xs ++ w ∷ drop (suc before) xs) ≡ true = rw (split-at xs before absent (omega (arith, inside, long))) at t in
     let behind = Rattle.image.proofs.Bools.all-in-right test (take before xs) (w ∷ drop (suc before) xs) split in (
-      in-both test (take before xs) (drop (suc before) xs) (Rattle.image.proofs.Bools.all-in-left test (take before xs) (w ∷ drop (suc before) xs) split) (and-right (test w) _ behind),
+      in-both test (take before xs) (drop (suc before) xs) (Rattle.image.proofs.Bools.all-in-left test (take before xs) (w ∷ drop (suc before) xs) split)
+          (and-right (test w) _ behind),
       present-in test w (and-left (test w) (allIn test (drop (suc before) xs)) behind),
     )
 
-pub items-count : (before : Option ℕ) (many : ℕ) (xs : List ℕ) → length xs ≡ many → restWithin before many ≡ true → length (itemWords before xs) ≡ prefixCount before many + suffixCount before many
+pub items-count : (before : Option ℕ) (many : ℕ) (xs : List ℕ) → length xs ≡ many → restWithin before many ≡ true →
+    length (itemWords before xs) ≡ prefixCount before many + suffixCount before many
 unfolding itemWords restWithin prefixCount suffixCount
 items-count none many xs long h = omega (arith, long)
 items-count (some before) many xs long h =
@@ -197,7 +195,8 @@ module _ (sheet : List ℕ) (whole : Draft) (image : List ℕ) (g : Grown sheet 
       (record { named = type-named t h; shape = operand-added v e formed (extends-on (extends-pattern row (addOperand sheet v e)) x); subs = refl })
       (λ q. rw same (omega (arith, step .once q)))
 
-  pub emits-operand : (v : LiteralValue) (many : ℕ) (p : Stand) (d : Draft) (m : Made) → literalFormed v ≡ true → Step sheet image p many d m → Extends (addOperand sheet v (m .draft)) whole →
+  pub emits-operand : (v : LiteralValue) (many : ℕ) (p : Stand) (d : Draft) (m : Made) → literalFormed v ≡ true → Step sheet image p many d m →
+      Extends (addOperand sheet v (m .draft)) whole →
       Step sheet image inRange 1 d (made (addOperand sheet v (m .draft)) (nextWord sheet (m .draft) ∷ []))
   unfolding times allIn
   emits-operand v many p d m formed step x =
@@ -209,7 +208,8 @@ module _ (sheet : List ℕ) (whole : Draft) (image : List ℕ) (g : Grown sheet 
         stood = (refl, rw (operand-added v e formed x));
       }
 
-  pub emits-named : (o many : ℕ) (p : Stand) (d : Draft) (m : Made) → operandHolds image o ≡ true → Step sheet image p many d m → Step sheet image inRange 1 d (made (m .draft) (o ∷ []))
+  pub emits-named : (o many : ℕ) (p : Stand) (d : Draft) (m : Made) → operandHolds image o ≡ true → Step sheet image p many d m →
+      Step sheet image inRange 1 d (made (m .draft) (o ∷ []))
   unfolding times allIn
   emits-named o many p d m h step = record { good = step .good; once = λ q. omega (arith, step .once q); stood = (refl, rw h) }
 
@@ -219,7 +219,8 @@ module _ (sheet : List ℕ) (whole : Draft) (image : List ℕ) (g : Grown sheet 
   bound-holds true stands i lt h = or-right (eqb (getD stands i absent) absent) (operandHolds image (getD stands i absent)) (in-at (operandHolds image) stands i absent h (lt refl))
   bound-holds false stands i lt h = refl
 
-  pub emits-range : (t derefs : ℕ) (lower upper dots : Bool) (many : ℕ) (d : Draft) (m : Made) → t < typeCount sheet → many ≡ oneIf lower + oneIf upper → Step sheet image inRange many d m →
+  pub emits-range : (t derefs : ℕ) (lower upper dots : Bool) (many : ℕ) (d : Draft) (m : Made) → t < typeCount sheet → many ≡ oneIf lower + oneIf upper →
+      Step sheet image inRange many d m →
       Step sheet image inPattern 1 d (emitNode sheet (rangeMade t derefs lower upper dots) many (m .stands) (m .draft))
   unfolding emitNode patternShapeHolds subpatternsBy times allIn
   emits-range t derefs lower upper dots many d m h count step =
@@ -234,7 +235,8 @@ module _ (sheet : List ℕ) (whole : Draft) (image : List ℕ) (g : Grown sheet 
       })
       (λ q. omega (arith, step .once q))
 
-  pub emits-bind : (t mode annotation : ℕ) (name : List ℕ) (at : BoundAt) (many : ℕ) (d : Draft) (m : Made) → t < typeCount sheet → mode ≤ 2 → annotation ≤ 2 → BoundHolds sheet at →
+  pub emits-bind : (t mode annotation : ℕ) (name : List ℕ) (at : BoundAt) (many : ℕ) (d : Draft) (m : Made) → t < typeCount sheet → mode ≤ 2 → annotation ≤ 2 →
+      BoundHolds sheet at →
       Step sheet image inPattern many d m → Extends (emitNode sheet (bindMade t mode annotation name at) many (m .stands) (m .draft) .draft) whole →
       Step sheet image inPattern 1 d (emitNode sheet (bindMade t mode annotation name at) many (m .stands) (m .draft))
   unfolding emitNode patternShapeHolds subpatternsBy
@@ -248,7 +250,8 @@ module _ (sheet : List ℕ) (whole : Draft) (image : List ℕ) (g : Grown sheet 
       step-pattern sheet image _ d b (binding-good sheet whole image g o mode name at e bound (step .good) early bounded)
       (record {
         named = type-named t h;
-        shape = and-three _ _ _ (lt-ltb _ (bindingCount image) (binding-below sheet whole image g o mode name at e refl (step .good) early bounded)) (le-leb mode 2 modes) (le-leb annotation 2 notes);
+        shape = and-three _ _ _ (lt-ltb _ (bindingCount image) (binding-below sheet whole image g o mode name at e refl (step .good) early bounded)) (le-leb mode 2 modes)
+            (le-leb annotation 2 notes);
         subs = rw same (first-in _ (m .stands) (step .stood .1));
       })
       (λ q. rw same (let l = first-times q (m .stands) in omega (arith, step .once q, l)))

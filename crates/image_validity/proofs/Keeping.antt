@@ -63,6 +63,14 @@ pattern-shape image p h =
     let shape = patternShapeHolds (patKind (row .kind)) image row in
     and-third (namesType image (row .ty)) (leb (row .derefs) 16) shape h
 
+-- the three words of an operand that holds lie in the list
+pub operand-inside : (image : List ℕ) (o : ℕ) → operandHolds image o ≡ true → o + 3 ≤ listCount image
+unfolding operandHolds
+operand-inside image o e =
+    let row = operandAt image o in
+    leb-true (o + 3) (listCount image)
+    (and-first (leb (o + 3) (listCount image)) (operandLies image row) (operandValueHolds (operandKind (row .kind)) (operandBytes image row)) e)
+
 module _ (sheet : List ℕ) (d : Draft) (image : List ℕ) (g : Grown sheet d image) (holds : sheetHolds sheet ≡ true) where
   pub names-kept : (t : ℕ) → namesType sheet t ≡ true → namesType image t ≡ true
   names-kept t e = ltb-more t (typeCount sheet) (typeCount image) (omega (arith, g .typesAre)) e
@@ -141,13 +149,6 @@ module _ (sheet : List ℕ) (d : Draft) (image : List ℕ) (g : Grown sheet d im
       (and-right (namesType sheet (row .ty)) (isFlag (row .picked)) old))
 
   -- an operand of the sheet is one of the image
-  pub operand-inside : (o : ℕ) → operandHolds sheet o ≡ true → o + 3 ≤ listCount sheet
-  unfolding operandHolds
-  operand-inside o e =
-      let row = operandAt sheet o in
-      leb-true (o + 3) (listCount sheet)
-      (and-first (leb (o + 3) (listCount sheet)) (operandLies sheet row) (operandValueHolds (operandKind (row .kind)) (operandBytes sheet row)) e)
-
   pub operand-holds-kept : (o : ℕ) → operandHolds sheet o ≡ true → operandHolds image o ≡ true
   unfolding operandHolds
   operand-holds-kept o e =
@@ -155,7 +156,7 @@ module _ (sheet : List ℕ) (d : Draft) (image : List ℕ) (g : Grown sheet d im
       let first = leb (o + 3) (listCount sheet) in
       let value = operandValueHolds (operandKind (row .kind)) (operandBytes sheet row) in
       let lies = leb-true (row .offset + row .count) (dataCount sheet) (and-second first (operandLies sheet row) value e) in
-      let inside = operand-inside o e in
+      let inside = operand-inside sheet o e in
       rw (operand-kept sheet d image g o inside)
       (and-three (leb (o + 3) (listCount image)) (operandLies image row) (operandValueHolds (operandKind (row .kind)) (operandBytes image row))
       (le-leb (o + 3) (listCount image) (omega (arith, g .wordsAre, inside)))
@@ -166,7 +167,7 @@ module _ (sheet : List ℕ) (d : Draft) (image : List ℕ) (g : Grown sheet d im
   constant-kept o e =
       let old = operandHolds sheet o in
       let eight = eqb (operandAt sheet o .kind) 8 in
-      rw (operand-kept sheet d image g o (operand-inside o (and-left old eight e)))
+      rw (operand-kept sheet d image g o (operand-inside sheet o (and-left old eight e)))
       (and-true (operandHolds image o) eight (operand-holds-kept o (and-left old eight e)) (and-right old eight e))
 
   pub variant-number-kept : (v : ℕ) → ltb v (variantCount sheet) ≡ true → ltb v (variantCount image) ≡ true
@@ -243,7 +244,8 @@ module _ (sheet : List ℕ) (d : Draft) (image : List ℕ) (g : Grown sheet d im
       let shape = patternShapeHolds (patKind (row .kind)) sheet row in
       let old = sheet-pattern sheet holds p lt in
       rw (g .patterns .kept p lt)
-      (and-three (namesType image (row .ty)) few (patternShapeHolds (patKind (row .kind)) image row) (names-kept (row .ty) (and-first named few shape old)) (and-second named few shape old)
+      (and-three (namesType image (row .ty)) few (patternShapeHolds (patKind (row .kind)) image row) (names-kept (row .ty) (and-first named few shape old))
+      (and-second named few shape old)
       (pattern-shape-kept (patKind (row .kind)) row (and-third named few shape old)))
 
   -- a pattern of the sheet has the same subpatterns

@@ -12,4 +12,5 @@ pub mod Resolves
 pub mod Nodes
 pub mod Whole
 pub mod Valid
+pub mod Roots
 pub mod Corners

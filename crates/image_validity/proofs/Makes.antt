@@ -28,7 +28,7 @@ use Rattle.image_validity.proofs.Steps.{step-pattern, good-words}
 use Rattle.image_validity.proofs.Emits.{Sound, soundRow, soundLiteral, soundOperand, soundNamed, soundRange, soundBind, soundReference, soundItems, soundFields, soundSlice, soundField, items-times, items-in, items-count, type-named, emits-row, emits-literal, emits-operand, emits-named, emits-range, emits-bind, emits-reference}
 
 module _ (sheet : List ℕ) (whole : Draft) (image : List ℕ) (g : Grown sheet whole image) where
-  words-begin : (row : PatRow) (ws : List ℕ) (e : Draft) → Extends (addPattern row (addWords ws e)) whole → Begins (e .words ++ ws) (whole .words)
+  pub words-begin : (row : PatRow) (ws : List ℕ) (e : Draft) → Extends (addPattern row (addWords ws e)) whole → Begins (e .words ++ ws) (whole .words)
   unfolding addPattern addWords
   words-begin row ws e x = x .words
 

@@ -20,10 +20,12 @@ use Rattle.image_validity.proofs.Types.{variant-hold}
 use Rattle.image_validity.proofs.Contexts.{TypedHolds, Fits, none-fits, field-part-fits}
 use Rattle.image_validity.proofs.Resolves.{Resolves, refused-not, where-resolves, rest-sound, typed-resolves, bound-resolves, name-rest-resolves}
 
-module _ (sheet names : List ℕ) (whole : Draft) (image : List ℕ) (g : Grown sheet whole image) (holds : sheetHolds sheet ≡ true) (named : namesHold sheet names ≡ true) (bytes : IsBytes sheet) where
+module _ (sheet names : List ℕ) (whole : Draft) (image : List ℕ) (g : Grown sheet whole image) (holds : sheetHolds sheet ≡ true) (named : namesHold sheet names ≡ true)
+    (bytes : IsBytes sheet) where
   -- `..` or a name bound to it
   rest-resolves : (n : Node) (at : ℕ) (ps : Parts) (t others mode : ℕ) → TypedHolds sheet t mode → mayBeRest n ≡ true → nodeFormed n (partCount ps) ≡ true →
-      resolvedRest sheet names at (bindsIn n) t others mode .refusedAt ≡ none → Resolves sheet names whole image g holds named bytes (resolvedRest sheet names at (bindsIn n) t others mode) ps inPattern (standsIn n)
+      resolvedRest sheet names at (bindsIn n) t others mode .refusedAt ≡ none →
+      Resolves sheet names whole image g holds named bytes (resolvedRest sheet names at (bindsIn n) t others mode) ps inPattern (standsIn n)
   unfolding mayBeRest nodeFormed bindsIn standsIn resolvedRest
   rest-resolves wildcardNode at ps t others mode h may formed taken = absurd (false≢true may)
   rest-resolves restNode at ps t others mode h may formed taken =
@@ -45,7 +47,8 @@ module _ (sheet names : List ℕ) (whole : Draft) (image : List ℕ) (g : Grown 
 
   -- a field of a record
   field-resolves : (n : Node) (ps : Parts) (t v mode : ℕ) → TypedHolds sheet t mode → mayStand n inRecord ≡ true → nodeFormed n (partCount ps) ≡ true →
-      resolvedField sheet names (fieldName n) t v mode .refusedAt ≡ none → Resolves sheet names whole image g holds named bytes (resolvedField sheet names (fieldName n) t v mode) ps inRecord (standsIn n)
+      resolvedField sheet names (fieldName n) t v mode .refusedAt ≡ none →
+      Resolves sheet names whole image g holds named bytes (resolvedField sheet names (fieldName n) t v mode) ps inRecord (standsIn n)
   unfolding mayStand nodeFormed fieldName standsIn resolvedField
   field-resolves wildcardNode ps t v mode h stands formed taken = absurd (false≢true stands)
   field-resolves restNode ps t v mode h stands formed taken = absurd (false≢true stands)
@@ -71,8 +74,10 @@ module _ (sheet names : List ℕ) (whole : Draft) (image : List ℕ) (g : Grown 
   field-resolves orNode ps t v mode h stands formed taken = absurd (false≢true stands)
 
   -- a node that is read at what fits it
-  pub resolves : (c : Context) (s : Stand) (n : Node) (at : ℕ) (ps : Parts) → Fits sheet c n s → mayStand n s ≡ true → nodeFormed n (partCount ps) ≡ true → restPartFormed (restPlace n) ps ≡ true →
-      resolved sheet names at n (partCount ps) c .refusedAt ≡ none → Resolves sheet names whole image g holds named bytes (resolved sheet names at n (partCount ps) c) ps s (standsIn n)
+  pub resolves : (c : Context) (s : Stand) (n : Node) (at : ℕ) (ps : Parts) → Fits sheet c n s → mayStand n s ≡ true → nodeFormed n (partCount ps) ≡ true →
+      restPartFormed (restPlace n) ps ≡ true →
+      resolved sheet names at n (partCount ps) c .refusedAt ≡ none →
+      Resolves sheet names whole image g holds named bytes (resolved sheet names at n (partCount ps) c) ps s (standsIn n)
   unfolding resolved
   resolves (typed t mode) inPattern n at ps h stands formed rest taken = typed-resolves sheet names whole image g holds named bytes n ps t mode h stands formed rest taken
   resolves (typed t mode) inRange n at ps h stands formed rest taken = bound-resolves sheet names whole image g holds named bytes n ps t mode stands formed taken

@@ -69,7 +69,8 @@ refused-not at e =
     let z : _≡_ {A = ℕ} 0 1 = cc in
     absurd (omega arith)
 
-module _ (sheet names : List ℕ) (whole : Draft) (image : List ℕ) (g : Grown sheet whole image) (holds : sheetHolds sheet ≡ true) (named : namesHold sheet names ≡ true) (bytes : IsBytes sheet) where
+module _ (sheet names : List ℕ) (whole : Draft) (image : List ℕ) (g : Grown sheet whole image) (holds : sheetHolds sheet ≡ true) (named : namesHold sheet names ≡ true)
+    (bytes : IsBytes sheet) where
   -- sound, and its parts fit
   pub record Resolves (r : Resolved) (ps : Parts) (s p : Stand) : Type 0 where
     pub sound : Sound sheet image (r .making) (partCount ps) s p
@@ -80,7 +81,8 @@ module _ (sheet names : List ℕ) (whole : Draft) (image : List ℕ) (g : Grown 
   unfolding pathHolds
   variant-path kind number e h = rw e (variant-number-kept sheet whole image g holds number h)
 
-  constant-path : (kind number : ℕ) → kind ≡ 3 → operandHolds sheet number && eqb (operandAt sheet number .kind) 8 ≡ true → pathHolds (pathKind (cond (eqb kind 1) 1 3)) image number ≡ true
+  constant-path : (kind number : ℕ) → kind ≡ 3 → operandHolds sheet number && eqb (operandAt sheet number .kind) 8 ≡ true →
+      pathHolds (pathKind (cond (eqb kind 1) 1 3)) image number ≡ true
   unfolding pathHolds
   constant-path kind number e h = rw e (constant-kept sheet whole image g holds number h)
 
@@ -92,7 +94,8 @@ module _ (sheet names : List ℕ) (whole : Draft) (image : List ℕ) (g : Grown 
       soundRow _ many p t (value-named sheet names named name i e (variant-path (row .kind) (row .number)) (constant-path (row .kind) (row .number))) refl
 
   pub where-resolves : (wanted : Use) (bs : List ℕ) (o : Option ℕ) (name : Name) (go : ℕ → Resolved) (ps : Parts) (s p : Stand) → rowFor names wanted bs ≡ o →
-      ((i : ℕ) → rowFor names wanted bs ≡ some i → Resolves (go (nameRowAt names i .number)) ps s p) → whereNamed names o name go .refusedAt ≡ none → Resolves (whereNamed names o name go) ps s p
+      ((i : ℕ) → rowFor names wanted bs ≡ some i → Resolves (go (nameRowAt names i .number)) ps s p) → whereNamed names o name go .refusedAt ≡ none →
+      Resolves (whereNamed names o name go) ps s p
   unfolding whereNamed
   where-resolves wanted bs none name go ps s p e each h = refused-not (name .at) h
   where-resolves wanted bs (some i) name go ps s p e each h = each i e
@@ -116,7 +119,8 @@ module _ (sheet names : List ℕ) (whole : Draft) (image : List ℕ) (g : Grown 
   unfolding resolvedIdent
   ident-resolves m none t mode ps e known few h =
       record {
-        sound = soundBind t (modeOf m mode) (annotationOf m) (m .called .bytes) (boundAtType t) (partCount ps) (known .0) (mode-most m mode (known .1)) (annotation-most m) (known .0) (leb-true (partCount ps) 1 few);
+        sound = soundBind t (modeOf m mode) (annotationOf m) (m .called .bytes) (boundAtType t) (partCount ps) (known .0) (mode-most m mode (known .1)) (annotation-most m)
+            (known .0) (leb-true (partCount ps) 1 few);
         reads = same-fits sheet t mode inPattern ps known pattern-not-record;
       }
   ident-resolves m (some i) t mode ps e known few h = by (m .reference || m .mutable || leb 1 (partCount ps)) refl h
@@ -147,7 +151,8 @@ module _ (sheet names : List ℕ) (whole : Draft) (image : List ℕ) (g : Grown 
   struct-sound : (c : Crossed) (w v many : ℕ) → c .ty < typeCount sheet → ltb v (variantCount sheet) ≡ true → Sound sheet image (listRow 12 c w v) many inPattern inPattern
   unfolding patternShapeHolds subpatternsBy
   struct-sound c w v many t h =
-      soundItems _ many t (λ from n le. and-true (inTable from n (listCount image)) (variantOrAbsent image v) (le-leb (from + n) (listCount image) le) (variant-there v h)) (λ from n. refl)
+      soundItems _ many t (λ from n le. and-true (inTable from n (listCount image)) (variantOrAbsent image v) (le-leb (from + n) (listCount image) le) (variant-there v h))
+      (λ from n. refl)
 
   record-sound : (c : Crossed) (v many : ℕ) → c .ty < typeCount sheet → ltb v (variantCount sheet) ≡ true → Sound sheet image (listRow 6 c v 0) many inPattern inRecord
   unfolding patternShapeHolds subpatternsBy
@@ -164,7 +169,8 @@ module _ (sheet names : List ℕ) (whole : Draft) (image : List ℕ) (g : Grown 
   wild-sound t many p h = soundRow _ many p h refl refl
 
   -- a node that stands in a pattern
-  pub typed-resolves : (n : Node) (ps : Parts) (t mode : ℕ) → TypedHolds sheet t mode → mayStand n inPattern ≡ true → nodeFormed n (partCount ps) ≡ true → restPartFormed (restPlace n) ps ≡ true →
+  pub typed-resolves : (n : Node) (ps : Parts) (t mode : ℕ) → TypedHolds sheet t mode → mayStand n inPattern ≡ true → nodeFormed n (partCount ps) ≡ true →
+      restPartFormed (restPlace n) ps ≡ true →
       resolvedNode sheet names n (partCount ps) t mode .refusedAt ≡ none → Resolves (resolvedNode sheet names n (partCount ps) t mode) ps inPattern (standsIn n)
   unfolding mayStand nodeFormed restPlace standsIn resolvedNode tupleStructAs recordAs
   typed-resolves wildcardNode ps t mode h stands formed rest taken = record { sound = wild-sound t (partCount ps) inPattern (h .0); reads = none-fits sheet unseenParts inPattern ps formed }
@@ -200,7 +206,8 @@ module _ (sheet names : List ℕ) (whole : Draft) (image : List ℕ) (g : Grown 
       where-resolves asVariant (n .bytes) (rowFor names asVariant (n .bytes)) n (tupleStructAs sheet c before (partCount ps)) ps inPattern inPattern refl
       (λ i e. record {
         sound = struct-sound c (orAbsent before) (nameRowAt names i .number) (partCount ps) (own .0) (variant-named sheet names named (n .bytes) i e);
-        reads = arguments-fit sheet (variantFieldsOf sheet (c .ty) (nameRowAt names i .number)) (c .mode) before (partCount ps) ps (variant-hold sheet holds (c .ty) (nameRowAt names i .number) (own .0)) (own .1);
+        reads = arguments-fit sheet (variantFieldsOf sheet (c .ty) (nameRowAt names i .number)) (c .mode) before (partCount ps) ps
+            (variant-hold sheet holds (c .ty) (nameRowAt names i .number) (own .0)) (own .1);
       })
       taken
   typed-resolves (sliceNode before) ps t mode h stands formed rest taken =
@@ -234,7 +241,8 @@ module _ (sheet names : List ℕ) (whole : Draft) (image : List ℕ) (g : Grown 
   bound-resolves (boundPathNode n) ps t mode stands formed taken =
       where-resolves asConstant (n .bytes) (rowFor names asConstant (n .bytes)) n (λ number. resolvedTo (Making.operandNamed number) unseenParts) ps inRange inPattern refl
       (λ i e. record {
-        sound = soundNamed (nameRowAt names i .number) (partCount ps) inPattern (operand-holds-kept sheet whole image g holds (nameRowAt names i .number) (constant-named sheet names named (n .bytes) i e));
+        sound = soundNamed (nameRowAt names i .number) (partCount ps) inPattern
+            (operand-holds-kept sheet whole image g holds (nameRowAt names i .number) (constant-named sheet names named (n .bytes) i e));
         reads = none-fits sheet unseenParts inPattern ps formed;
       })
       taken
@@ -271,7 +279,8 @@ module _ (sheet names : List ℕ) (whole : Draft) (image : List ℕ) (g : Grown 
   unfolding resolvedBoundRest
   bound-rest-resolves m none t others mode ps h few taken =
       record {
-        sound = soundBind t (modeOf m mode) (annotationOf m) (m .called .bytes) (restBoundAt sheet t others) (partCount ps) (h .0) (mode-most m mode (h .1)) (annotation-most m) (rest-bound t others (h .0)) (leb-true (partCount ps) 1 few);
+        sound = soundBind t (modeOf m mode) (annotationOf m) (m .called .bytes) (restBoundAt sheet t others) (partCount ps) (h .0) (mode-most m mode (h .1)) (annotation-most m)
+            (rest-bound t others (h .0)) (leb-true (partCount ps) 1 few);
         reads = same-fits sheet t mode inPattern ps h pattern-not-record;
       }
   bound-rest-resolves m (some i) t others mode ps h few taken = refused-not (m .called .at) taken

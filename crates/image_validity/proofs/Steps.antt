@@ -69,12 +69,12 @@ module _ (sheet : List ℕ) (image : List ℕ) where
   -- nothing is done
   pub step-none : (s : Stand) (d : Draft) → Good sheet image d → Step sheet image s 0 d (made d [])
   unfolding times seconds allIn
-  step-none s d h = record { good = h; once = λ q. by s q; stood = stands s }
+  step-none s d h = record { good = h; once = λ q. omega (arith, bare s q); stood = stands s }
     where
-      by : (k : Stand) (q : ℕ) → times q (used image (d .patterns)) + times q (openIn k []) + below q (nextPattern sheet d) ≤ times q (used image (d .patterns)) + below q (nextPattern sheet d)
-      by inPattern q = omega arith
-      by inRange q = omega arith
-      by inRecord q = omega arith
+      bare : (k : Stand) (q : ℕ) → times q (openIn k []) ≡ 0
+      bare inPattern q = refl
+      bare inRange q = refl
+      bare inRecord q = refl
 
       stands : (k : Stand) → Stood sheet image k 0 d []
       stands inPattern = (refl, refl)
@@ -95,7 +95,8 @@ module _ (sheet : List ℕ) (image : List ℕ) where
   open-join inRange many d xs ys h = refl
   open-join inRecord many d xs ys h = seconds-join many xs ys (h .0)
 
-  stood-join : (s : Stand) (many : ℕ) (d e : Draft) (xs ys : List ℕ) → nextPattern sheet d ≤ nextPattern sheet e → Stood sheet image s many d xs → Stood sheet image s 1 e ys → Stood sheet image s (suc many) e (xs ++ ys)
+  stood-join : (s : Stand) (many : ℕ) (d e : Draft) (xs ys : List ℕ) → nextPattern sheet d ≤ nextPattern sheet e → Stood sheet image s many d xs → Stood sheet image s 1 e ys →
+      Stood sheet image s (suc many) e (xs ++ ys)
   stood-join inPattern many d e xs ys le h g = (
     omega (arith, length-append xs ys, h .0, g .0),
     in-both _ xs ys (in-weaker _ _ xs (λ q. ltb-more q (nextPattern sheet d) (nextPattern sheet e) le) (h .1)) (g .1),

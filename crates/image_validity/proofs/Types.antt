@@ -110,7 +110,8 @@ module _ (sheet : List ℕ) (holds : sheetHolds sheet ≡ true) where
   unfolding variantFieldsOf variantHolds
   variant-hold t v lt = by (hasVariantOf sheet t v) refl
     where
-      by : (b : Bool) → hasVariantOf sheet t v ≡ b → FieldsHold sheet (cond b (record { start = variantAt sheet v .fields; count = variantAt sheet v .count }) (record { start = 0; count = 0 }))
+      by : (b : Bool) → hasVariantOf sheet t v ≡ b →
+          FieldsHold sheet (cond b (record { start = variantAt sheet v .fields; count = variantAt sheet v .count }) (record { start = 0; count = 0 }))
       by true e =
           let row = variantAt sheet v in
           listed-hold (row .fields) (row .count)
@@ -145,7 +146,8 @@ module _ (sheet : List ℕ) (holds : sheetHolds sheet ≡ true) where
 
 -- a row that is found serves the use, and names something
 module _ (sheet names : List ℕ) (holds : namesHold sheet names ≡ true) where
-  pub row-serves : (wanted : Use) (name : List ℕ) (i : ℕ) → rowFor names wanted name ≡ some i → (serves wanted (nameRowAt names i) ≡ true) × (namesSomething sheet (nameRowAt names i) ≡ true)
+  pub row-serves : (wanted : Use) (name : List ℕ) (i : ℕ) → rowFor names wanted name ≡ some i →
+      (serves wanted (nameRowAt names i) ≡ true) × (namesSomething sheet (nameRowAt names i) ≡ true)
   unfolding rowFor isNamed namesHold nameRowHolds
   row-serves wanted name i e =
       let row = nameRowAt names i in

@@ -35,6 +35,7 @@ use Rattle.pattern_reading.specs.Reads.{draftOf}
 use Rattle.image_growth.specs.Growing.{Grown}
 use Rattle.image_validity.specs.Validity.{Readable, HasValidImage}
 use Rattle.image_growth.proofs.Grows.{grown}
+use Rattle.image_growth.proofs.Limits.{Few, few}
 use Rattle.image_validity.specs.Standing.{BindingGood, Good, PatternGood, TypeGood, below, one, times, used}
 use Rattle.image_validity.proofs.Tests.{below-all, in-weaker, ltb-more, and-three, gather-split, in-gathered, times-join, distinct-by-times, times-distinct, times-failing}
 use Rattle.image_validity.proofs.Keeping.{sheet-below, sheet-once, type-kept, variant-kept, binding-kept, pattern-kept, below-kept, used-kept, adts-kept}
@@ -54,15 +55,7 @@ old-and-added f old added n e first second = below-all f n (λ k lt. by k lt (lt
         let place : k ≡ old + (k - old) = omega (arith, le) in
         ap f place ∙ second (k - old) (omega (arith, le, lt, e))
 
--- six tests in a row
-and-six : (a b c d e f : Bool) → a && b && c && d && e && f ≡ true → (a ≡ true) × ((b ≡ true) × ((c ≡ true) × ((d ≡ true) × ((e ≡ true) × (f ≡ true)))))
-and-six a b c d e f h =
-    let five = and-left (a && b && c && d && e) f h in
-    let four = and-left (a && b && c && d) e five in
-    let three = and-left (a && b && c) d four in
-    let two = and-left (a && b) c three in
-    (and-left a b two, (and-right a b two, (and-right (a && b) c three, (and-right (a && b && c) d four, (and-right (a && b && c && d) e five, and-right (a && b && c && d && e) f h)))))
-
+-- the derefs of each row
 derefs-at : (rs : List PatRow) (i : ℕ) (other : PatRow) → derefsWithin rs ≡ true → i < length rs → leb (getD rs i other .derefs) 16 ≡ true
 unfolding derefsWithin
 derefs-at [] i other h lt = absurd (omega arith)
@@ -77,11 +70,6 @@ noPattern = patternRow 0 0 0 0 0 0 0
 
 abbrev noBinding : BindingRow
 noBinding = record { ty = 0; picked = 0 }
-
-derefs-within : (sheet : List ℕ) (d : Draft) → withinImageLimits sheet d ≡ true → derefsWithin (d .patterns) ≡ true
-unfolding withinImageLimits
-derefs-within sheet d h =
-    and-six (leb (nextType sheet d) 256) (leb (nextPattern sheet d) 512) (leb (nextBinding sheet d) 256) (leb (nextWord sheet d) 2048) (leb (nextByte sheet d) 16384) (derefsWithin (d .patterns)) h .1 .1 .1 .1 .1
 
 -- the subpatterns of rows that stand one behind the other
 gather-used : (image : List ℕ) (rs : List PatRow) (from : ℕ) → ((i : ℕ) → i < length rs → patAt image (from + i) ≡ getD rs i noPattern) →
@@ -142,7 +130,8 @@ module _ (sheet : List ℕ) (whole : Draft) (image : List ℕ) (g : Grown sheet 
       by false e =
           let none = times-failing (λ k. ltb k (patternCount sheet)) q (gather (subpatterns sheet) 0 (patternCount sheet))
           (in-gathered (subpatterns sheet) (λ k. ltb k (patternCount sheet)) 0 (patternCount sheet)
-          (λ i lt. in-weaker (λ k. ltb k (0 + i)) (λ k. ltb k (patternCount sheet)) (subpatterns sheet (0 + i)) (λ k. ltb-more k (0 + i) (patternCount sheet) (omega arith)) (sheet-below sheet holds (0 + i) (omega arith))))
+          (λ i lt. in-weaker (λ k. ltb k (0 + i)) (λ k. ltb k (patternCount sheet)) (subpatterns sheet (0 + i)) (λ k. ltb-more k (0 + i) (patternCount sheet) (omega arith))
+          (sheet-below sheet holds (0 + i) (omega arith))))
           e
           in
           omega (arith, none)
@@ -161,23 +150,30 @@ module _ (sheet : List ℕ) (whole : Draft) (image : List ℕ) (g : Grown sheet 
       distinct-by-times (gather (subpatterns image) 0 (patternCount image))
       (λ q. omega (arith, ap (times q) all-used, times-join q (gather (subpatterns sheet) 0 (patternCount sheet)) (used image (whole .patterns)), sheet-uses q, h q))
 
-frame-holds : (sheet : List ℕ) (whole : Draft) (image : List ℕ) → Grown sheet whole image → (countsWhatFollows image ≡ true) × ((versionIsOne image ≡ true) × (tablesFillTheRest image ≡ true))
+frame-holds : (sheet : List ℕ) (whole : Draft) (image : List ℕ) → Grown sheet whole image →
+    (countsWhatFollows image ≡ true) × ((versionIsOne image ≡ true) × (tablesFillTheRest image ≡ true))
 unfolding countsWhatFollows versionIsOne tablesFillTheRest
 frame-holds sheet whole image g = (
-  and-true (leb 4 (length image)) (eqb (length image) (4 + longAt image 0)) (le-leb 4 (length image) (omega (arith, g .counted))) (eq-eqb (length image) (4 + longAt image 0) (g .counted)),
+  and-true (leb 4 (length image)) (eqb (length image) (4 + longAt image 0)) (le-leb 4 (length image) (omega (arith, g .counted)))
+      (eq-eqb (length image) (4 + longAt image 0) (g .counted)),
   (eq-eqb (byteAt image 4) 1 (g .version), eq-eqb (length image) (tablesEnd image) (g .filled)),
 )
 
-limits-hold : (sheet : List ℕ) (whole : Draft) (image : List ℕ) → Grown sheet whole image → sheetHolds sheet ≡ true → withinImageLimits sheet whole ≡ true → 1 ≤ nextPattern sheet whole → withinLimits image ≡ true
-unfolding withinLimits withinImageLimits withinSheetLimits sheetHolds
-limits-hold sheet whole image g holds within some =
-    let l = and-six (leb (nextType sheet whole) 256) (leb (nextPattern sheet whole) 512) (leb (nextBinding sheet whole) 256) (leb (nextWord sheet whole) 2048) (leb (nextByte sheet whole) 16384) (derefsWithin (whole .patterns)) within in
-    let s = and-six (leb (typeCount sheet) 256) (leb (variantCount sheet) 512) (leb (patternCount sheet) 512) (leb (bindingCount sheet) 256) (leb (listCount sheet) 2048) (leb (dataCount sheet) 16384) (all-true-at (sheetRules sheet) 10 holds) in
+limits-hold : (sheet : List ℕ) (whole : Draft) (image : List ℕ) → Grown sheet whole image → Few sheet whole → 1 ≤ nextPattern sheet whole → withinLimits image ≡ true
+unfolding withinLimits
+limits-hold sheet whole image g f some =
     rw (g .typesAre, g .variantsAre, g .patternsAre, g .bindingsAre, g .wordsAre, g .bytesAre)
-    (and-true _ _ (and-true _ _ (and-true _ _ (and-three _ _ _ (l .0) (s .1 .0) (and-true _ _ (le-leb 1 (nextPattern sheet whole) some) (l .1 .0))) (l .1 .1 .0)) (l .1 .1 .1 .0)) (l .1 .1 .1 .1 .0))
+    (and-true _ _
+    (and-true _ _
+    (and-true _ _
+    (and-three _ _ _ (le-leb (nextType sheet whole) 256 (f .types)) (le-leb (variantCount sheet) 512 (f .variants))
+    (and-true _ _ (le-leb 1 (nextPattern sheet whole) some) (le-leb (nextPattern sheet whole) 512 (f .patterns))))
+    (le-leb (nextBinding sheet whole) 256 (f .bindings)))
+    (le-leb (nextWord sheet whole) 2048 (f .words)))
+    (le-leb (nextByte sheet whole) 16384 (f .bytes)))
 
 -- nothing is added
-good-empty : (sheet image : List ℕ) → Good sheet image emptyDraft
+pub good-empty : (sheet image : List ℕ) → Good sheet image emptyDraft
 good-empty sheet image = record { called = refl; types = tt; patterns = tt; bindings = tt }
 
 -- The theorem.
@@ -192,8 +188,12 @@ image-valid sheet names expected w readable =
     (readable .exists, omega arith) (readable .taken) (good-empty sheet image) (extends-same whole) in
     let good = step .good in
     let frame = frame-holds sheet whole image g in
-    let root = ltb-true _ (nextPattern sheet whole) (in-at (λ q. ltb q (nextPattern sheet whole)) (emitted sheet names w (typed expected byValue) emptyDraft .stands) 0 0 (step .stood .1) (let l = step .stood .0 in omega (arith, l))) in
-    let few = derefs-within sheet whole (readable .within) in
+    let root =
+    ltb-true _ (nextPattern sheet whole)
+    (in-at (λ q. ltb q (nextPattern sheet whole)) (emitted sheet names w (typed expected byValue) emptyDraft .stands) 0 0 (step .stood .1)
+    (let l = step .stood .0 in omega (arith, l)))
+    in
+    let f = few sheet whole holds (readable .within) in
     let start : nextPattern sheet emptyDraft ≡ patternCount sheet = add-zero (patternCount sheet) in
     let once : (q : ℕ) → times q (used image (whole .patterns)) + below q (patternCount sheet) ≤ 1 =
     λ q. let l = step .once q in omega (arith, l, ap (below q) start, below-one q (nextPattern sheet whole))
@@ -204,8 +204,8 @@ image-valid sheet names expected w readable =
     (and-true _ _ (all-types sheet whole image g holds good)
     (and-true _ _ (all-variants sheet whole image g holds good)
     (and-true _ _ (no-shared-variant sheet whole image g holds good)
-    (and-true _ _ (all-patterns sheet whole image g holds good few)
+    (and-true _ _ (all-patterns sheet whole image g holds good (f .derefs))
     (and-true _ _ (all-bindings sheet whole image g holds good)
     (and-true _ _ (all-below sheet whole image g holds good)
     (and-true _ _ (once-all sheet whole image g holds good once)
-    (and-true _ _ (limits-hold sheet whole image g holds (readable .within) (omega (arith, root))) refl))))))))))
+    (and-true _ _ (limits-hold sheet whole image g f (omega (arith, root))) refl))))))))))

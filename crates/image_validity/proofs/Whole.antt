@@ -25,7 +25,7 @@ use Rattle.image_validity.proofs.Contexts.{Fits, ReadsFit}
 use Rattle.image_validity.proofs.Nodes.{resolves}
 
 -- where neither of two is refused
-neither : (a b : Option ℕ) → earlier a b ≡ none → (a ≡ none) × (b ≡ none)
+pub neither : (a b : Option ℕ) → earlier a b ≡ none → (a ≡ none) × (b ≡ none)
 unfolding earlier
 neither none b e = (refl, e)
 neither (some x) none e =
@@ -35,7 +35,8 @@ neither (some x) (some y) e =
     let z : _≡_ {A = ℕ} 0 1 = cc in
     absurd (omega arith)
 
-module _ (sheet names : List ℕ) (whole : Draft) (image : List ℕ) (g : Grown sheet whole image) (holds : sheetHolds sheet ≡ true) (named : namesHold sheet names ≡ true) (bytes : IsBytes sheet) where
+module _ (sheet names : List ℕ) (whole : Draft) (image : List ℕ) (g : Grown sheet whole image) (holds : sheetHolds sheet ≡ true) (named : namesHold sheet names ≡ true)
+    (bytes : IsBytes sheet) where
   mutual
     unfolding partCount nodeIn formed partsFormed refusedIn refusedAmong emitted emittedParts
 
@@ -50,12 +51,16 @@ module _ (sheet names : List ℕ) (whole : Draft) (image : List ℕ) (g : Grown 
         let rest = restPartFormed (restPlace n) ps in
         let below = partsFormed ps (standsIn n) in
         let own = and-left (stands && node && rest) below form in
-        let fit = resolves sheet names whole image g holds named bytes c s n at ps fits (and-first stands node rest own) (and-second stands node rest own) (and-third stands node rest own) (free .0) in
+        let fit =
+        resolves sheet names whole image g holds named bytes c s n at ps fits (and-first stands node rest own) (and-second stands node rest own) (and-third stands node rest own)
+        (free .0)
+        in
         let early = extends-on (node-extends sheet (r .making) (partCount ps) (m .stands) (m .draft)) x in
         emits sheet whole image g (r .making) (partCount ps) s (standsIn n) d m (fit .sound)
         (parts-step ps (standsIn n) (r .reads) d (and-right (stands && node && rest) below form) (fit .reads) (free .1) good early) x
 
-    pub parts-step : (ps : Parts) (s : Stand) (reads : PartsRead) (d : Draft) → partsFormed ps s ≡ true → ReadsFit sheet reads ps s → refusedAmong sheet names ps reads ≡ none → Good sheet image d →
+    pub parts-step : (ps : Parts) (s : Stand) (reads : PartsRead) (d : Draft) → partsFormed ps s ≡ true → ReadsFit sheet reads ps s → refusedAmong sheet names ps reads ≡ none →
+        Good sheet image d →
         Extends (emittedParts sheet names ps reads d .draft) whole → Step sheet image s (partCount ps) d (emittedParts sheet names ps reads d)
     parts-step noParts s reads d form fits taken good x = step-none sheet image s d good
     parts-step (more ps w) s reads d form fits taken good x =

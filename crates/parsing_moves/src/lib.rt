@@ -1,6 +1,7 @@
 // What the parser does at a token, as numbers and rows.
 mod behind;
 mod makers;
+pub mod names;
 mod starts;
 pub mod states;
 

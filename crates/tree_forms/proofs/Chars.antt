@@ -239,8 +239,11 @@ kind-lexeme Kind.Fails q h = tt
 lexemes-from : (n : ℕ) (text : List ℕ) (at : ℕ) → AllOk (lexemesFrom n text at)
 unfolding lexemesFrom lexeme
 lexemes-from zero text at = tt
-lexemes-from (suc n) text at =
-    (kind-lexeme (tokenAt text at .kind) _ (token-ok text at), rest (isLast (lexeme (tokenAt text at))) (lexemesFrom n text (tokenAt text at .to)) (lexemes-from n text (tokenAt text at .to)))
+lexemes-from (suc n) text at = (
+  kind-lexeme (tokenAt text at .kind) _ (token-ok text at),
+  rest (isLast (lexeme (tokenAt text at))) (lexemesFrom n text (tokenAt text at .to))
+      (lexemes-from n text (tokenAt text at .to)),
+)
   where
     rest : (b : Bool) (ts : List Lexeme) → AllOk ts → AllOk (cond b [] ts)
     rest true ts h = tt

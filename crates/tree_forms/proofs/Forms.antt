@@ -150,7 +150,8 @@ module _ (text : List ℕ) where
   unfolding formed partsFormed mayStand nodeFormed restPlace restPartFormed standsIn partCount
   range-formed-upper at dots a h = h
 
-  literal-node-formed : (l : LiteralPattern) (at : ℕ) → literalFormed (literalValue text l) ≡ true → formed (written at (Node.literalNode (literalValue text l)) noParts) inPattern ≡ true
+  literal-node-formed : (l : LiteralPattern) (at : ℕ) → literalFormed (literalValue text l) ≡ true →
+      formed (written at (Node.literalNode (literalValue text l)) noParts) inPattern ≡ true
   unfolding formed partsFormed mayStand nodeFormed restPlace restPartFormed standsIn partCount
   literal-node-formed l at h = rw h
 
@@ -217,8 +218,11 @@ module _ (text : List ℕ) where
     items-formed noItem h k t = (refl, t)
     items-formed (item is p c) h k t =
         let items = items-formed is h _ t in
-        let own = pattern-formed p _ (items .1) in
-        (parts-if (isPart h p) _ _ (more-formed (writtenItems text h is) (oneOf (alternatives text p)) inPattern (items .0) (one-formed (alternatives text p) (own .0))) (items .0), own .1 .1)
+        let own = pattern-formed p _ (items .1) in (
+          parts-if (isPart h p) _ _ (more-formed (writtenItems text h is) (oneOf (alternatives text p)) inPattern (items .0) (one-formed (alternatives text p) (own .0)))
+              (items .0),
+          own .1 .1,
+        )
 
     fields-formed : (fs : RecordFields) (k : List Lexeme) → AllOk (fieldsT fs k) → Both (partsFormed (writtenFields text fs) inRecord) k
     fields-formed noField k t = (refl, t)

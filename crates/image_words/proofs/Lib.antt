@@ -1,0 +1,4 @@
+pub mod Lists
+pub mod Emits
+pub mod Brings
+pub mod Trees

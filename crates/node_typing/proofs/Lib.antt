@@ -1,0 +1,4 @@
+pub mod Stored
+pub mod Stacks
+pub mod Passing
+pub mod Typings

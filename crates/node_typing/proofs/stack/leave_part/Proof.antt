@@ -1,0 +1,36 @@
+use borrow.Author.Needs.{needs}
+use Rattle.node_typing.proofs.stack.leave_part.Statement.{statement}
+use Rattle.node_typing.proofs.stack.leave_part.Tie as tie
+use Rattle.node_typing.proofs.stack.leave_part.Reads as reads
+use Rattle.node_typing.proofs.stack.leave_part.Lts as lts
+use Rattle.node_typing.proofs.tables.store_waiting.Reads as store-waiting-reads
+use Rattle.node_typing.proofs.tables.waiting_at.Reads as waiting-at-reads
+use borrow.Author.Tests.{eq-eqb, ne-eqb, lt-ltb, le-ltb, le-leb, lt-leb}
+use native.Mathlib.Omega.{arith}
+use mathlib.Core.Path.{_≡_, refl, sym, ap, _∙_}
+use Rattle.node_typing.proofs.Stacks.{none-wait, one-waits, none-left, parent-left, part-left, no-parent, no-part, last-part}
+
+returns : tie.Need-returns
+returns c = none-left _ _ (c .if1 .taken)
+
+returns-2 : tie.Need-returns-2
+returns-2 c = parent-left _ _ (c .before .before .before .before .if1 .left) (c .before .before .waiting-at .ensures) (c .if2 .taken)
+
+returns-3 : tie.Need-returns-3
+returns-3 c = part-left _ _ (c .before .before .before .before .before .before .before .before .before .before .before .pre .0) (c .before .before .before .before .before .before .before .before .before .before .before .pre .1) (c .before .before .before .before .before .before .before .before .before .if1 .left) (c .before .before .before .before .before .before .before .waiting-at .ensures) (c .before .before .before .before .before .if2 .left) (c .before .before .store-waiting .ensures)
+
+pub leave-part-spec : {M : Type 1} → statement M
+leave-part-spec =
+    tie.close
+    (tie.spec
+    returns
+    (λ c. search needs)
+    (λ c κs. search needs)
+    (λ c. search needs)
+    (λ c. search needs)
+    returns-2
+    (λ c. search needs)
+    (λ c. search needs)
+    (λ c κs. search needs)
+    (λ c. search needs)
+    returns-3)

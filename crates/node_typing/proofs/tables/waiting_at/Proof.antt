@@ -1,0 +1,37 @@
+use borrow.Author.Needs.{needs}
+use Rattle.node_typing.proofs.tables.waiting_at.Statement.{statement}
+use Rattle.node_typing.proofs.tables.waiting_at.Tie as tie
+use Rattle.node_typing.proofs.tables.waiting_at.Reads as reads
+use Rattle.node_typing.proofs.tables.waiting_at.Lts as lts
+use mathlib.Core.Path.{refl}
+use Rattle.node_typing.proofs.Stored.{waiting-read}
+
+returns : tie.Need-returns
+returns c = waiting-read _ _ _ refl
+
+pub waiting-at-spec : {M : Type 1} → statement M
+waiting-at-spec =
+    tie.close
+    (tie.spec
+    (λ c. search needs)
+    (λ c. search needs)
+    (λ c. search needs)
+    (λ c. search needs)
+    (λ c. search needs)
+    (λ c. search needs)
+    (λ c. search needs)
+    (λ c. search needs)
+    (λ c. search needs)
+    (λ c. search needs)
+    (λ c. search needs)
+    (λ c. search needs)
+    (λ c. search needs)
+    (λ c. search needs)
+    (λ c. search needs)
+    (λ c. search needs)
+    (λ c. search needs)
+    (λ c. search needs)
+    (λ c. search needs)
+    (λ c. search needs)
+    (λ c. search needs)
+    returns)
