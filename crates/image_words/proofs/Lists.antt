@@ -1,14 +1,14 @@
 -- Laws of lists of words and bytes, and of drafts of them. Assumes nothing.
-use Prim.Native.Nat.{ℕ, zero, suc, _+_, _-_, _/_, _%_, _^_, _≤_, _<_}
-use mathlib.Core.Path.{_≡_, refl}
-use mathlib.Core.Bool.{Bool, true, false, cond, _&&_}
+use Prim.Native.Nat.{ℕ, zero, suc, _/_, _%_}
+use mathlib.Core.Path.{_≡_}
+use mathlib.Core.Bool.{true, false}
 use mathlib.Core.Option.{Option, none, some}
 use mathlib.Core.List.{List, [], _∷_, _++_}
 use native.Mathlib.Nat.{mod-lt}
 use native.Mathlib.Omega.{arith}
 use borrow.Author.Tests.{leb-true}
 use lib.Dec.{leb}
-use lib.ListN.{length, getD, take, drop}
+use lib.ListN.{getD, take, drop}
 use Rattle.image.specs.declared.rows.TypeRow.{TypeRow}
 use Rattle.image.specs.declared.rows.PatRow.{PatRow}
 use Rattle.image.specs.declared.rows.BindingRow.{BindingRow}
@@ -105,6 +105,7 @@ draft-bounded d h few = record { types = h .types; patterns = rows (d .patterns)
     rows [] g e = tt
     rows (r ∷ rs) g e =
         let less = leb-true (r .derefs) 16 (and-left (leb (r .derefs) 16) (derefsWithin rs) e) in
-        let own = g .0 in
-        ((own .0, (own .1 .0, (omega (arith, less), (own .1 .1 .0, (own .1 .1 .1 .0, (own .1 .1 .1 .1 .0, (own .1 .1 .1 .1 .1 .0, tt))))))),
-        rows rs (g .1) (and-right (leb (r .derefs) 16) (derefsWithin rs) e))
+        let own = g .0 in (
+          (own .0, (own .1 .0, (omega (arith, less), (own .1 .1 .0, (own .1 .1 .1 .0, (own .1 .1 .1 .1 .0, (own .1 .1 .1 .1 .1 .0, tt))))))),
+          rows rs (g .1) (and-right (leb (r .derefs) 16) (derefsWithin rs) e),
+        )

@@ -50,7 +50,9 @@ optional-longer (some q) m k = one-more
 
 pub name-longer : (b : BoundName) (k : List Lexeme) → Longer 0 k (nameT b k)
 unfolding nameT
-name-longer b k = behind (behind one-more (optional-longer (b .mutable) mutMark (name (b .called) ∷ k))) (optional-longer (b .byRef) refMark (optionalT (b .mutable) mutMark (name (b .called) ∷ k)))
+name-longer b k =
+    behind (behind one-more (optional-longer (b .mutable) mutMark (name (b .called) ∷ k)))
+    (optional-longer (b .byRef) refMark (optionalT (b .mutable) mutMark (name (b .called) ∷ k)))
 
 pub head-longer : (h : ListHead) (k : List Lexeme) → Longer 0 k (headT h k)
 unfolding headT
@@ -64,6 +66,7 @@ record-longer r k = behind one-more (path-longer (r .path) _)
 
 mutual
   unfolding patternT altT plainT itemsT fieldsT fieldT itemCount
+
   pub pattern-longer : (p : Pattern) (k : List Lexeme) → Longer 0 k (patternT p k)
   pattern-longer (alone lead a) k = behind (alt-longer a k) (optional-longer lead orMark (altT a k))
   pattern-longer (or p c a) k = behind (behind (alt-longer a k) one-more) (pattern-longer p (mark orMark c ∷ altT a k))
