@@ -1,21 +1,18 @@
 -- The image of a sheet of bytes and a bounded draft within the limits is bytes. Assumes nothing.
-use Prim.Native.Nat.{ℕ, zero, suc, _+_, _*_, _/_, _%_, _≤_, _<_}
+use Prim.Native.Nat.{ℕ, zero, suc, _+_, _*_, _/_, _%_, _<_}
 use mathlib.Core.Path.{_≡_}
-use mathlib.Core.Bool.{true, _&&_}
+use mathlib.Core.Bool.{true}
 use mathlib.Core.List.{List, [], _∷_, _++_}
 use native.Mathlib.Nat.{mod-lt, div-add-mod'}
 use native.Mathlib.Omega.{arith}
-use borrow.Author.Tests.{leb-true}
-use lib.Dec.{leb}
 use lib.ListN.{length, take, drop}
 use Rattle.image.specs.declared.rows.TypeRow.{TypeRow}
 use Rattle.image.specs.declared.rows.PatRow.{PatRow}
 use Rattle.image.specs.declared.rows.BindingRow.{BindingRow}
 use Rattle.image.specs.Tables.{typeCount, variantCount, patternCount, bindingCount, listCount, dataCount, typesAt, variantsAt, patternsAt, bindingsAt, listStart, dataAt}
-use Rattle.image.proofs.Bools.{and-left, and-right, all-true-at}
-use Rattle.type_sheets.specs.Sheets.{withinSheetLimits, sheetRules, sheetHolds}
+use Rattle.type_sheets.specs.Sheets.{sheetHolds}
 use Rattle.pattern_images.specs.Drafts.{Draft, nextType, nextPattern, nextBinding, nextWord, nextByte}
-use Rattle.pattern_images.specs.Imaging.{wordBytes, wordsBytes, longBytes, typeBytes, patternBytes, bindingBytes, tableOf, tablesWith, behindLength, imageWith, derefsWithin, withinImageLimits}
+use Rattle.pattern_images.specs.Imaging.{wordBytes, wordsBytes, longBytes, typeBytes, patternBytes, bindingBytes, tableOf, tablesWith, behindLength, imageWith, withinImageLimits}
 use Rattle.image_growth.specs.Growing.{IsBytes, AreWords, EachWords, Bounded, typeWords, patternWords, bindingWords}
 use Rattle.image_growth.proofs.Limits.{Few, few}
 use Rattle.image_growth.proofs.Grows.{sheet-filled, length-tables, image-long}

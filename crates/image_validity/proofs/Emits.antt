@@ -14,7 +14,7 @@ use Rattle.image.specs.Kinds.{patKind}
 use Rattle.image.specs.Tables.{typeCount, bindingCount, listCount}
 use Rattle.image.specs.Lists.{allIn}
 use Rattle.image.specs.Operands.{operandHolds}
-use Rattle.image.specs.Rules.{absent, isFlag, namesType, listed}
+use Rattle.image.specs.Rules.{absent, namesType, listed}
 use Rattle.image.specs.Subpatterns.{ifPresent, subpatternsBy}
 use Rattle.image.specs.Patterns.{operandOrAbsent, patternShapeHolds}
 use Rattle.image.proofs.Bools.{and-left, and-right}

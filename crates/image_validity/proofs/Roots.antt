@@ -1,18 +1,18 @@
 -- The last pattern of the image is the whole pattern's. Assumes nothing.
-use Prim.Native.Nat.{ℕ, _+_, _-_}
+use Prim.Native.Nat.{ℕ, _-_}
 use mathlib.Core.Path.{_≡_, refl, sym, ap, _∙_}
 use mathlib.Core.Bool.{true, _&&_}
 use mathlib.Core.Option.{none}
 use mathlib.Core.List.{List, [], _∷_}
 use native.Mathlib.Omega.{arith}
-use lib.ListN.{length, length-append}
+use lib.ListN.{length-append}
 use Rattle.image.specs.declared.rows.PatRow.{PatRow}
 use Rattle.image.specs.Tables.{patternCount}
 use Rattle.image.proofs.Bools.{and-left}
 use Rattle.type_sheets.specs.Sheets.{sheetHolds}
 use Rattle.name_tables.specs.Names.{namesHold}
 use Rattle.pattern_syntax.specs.Written.{Written, written, partCount}
-use Rattle.pattern_syntax.specs.Formed.{nodeFormed, Stand, inPattern, inRange, inRecord, standsIn, mayStand, restPlace, nodeIn, restPartFormed, formed, partsFormed}
+use Rattle.pattern_syntax.specs.Formed.{nodeFormed, Stand, inPattern, standsIn, mayStand, restPlace, nodeIn, restPartFormed, formed, partsFormed}
 use Rattle.pattern_typing.specs.Crossing.{byValue}
 use Rattle.pattern_typing.specs.Contexts.{Context, typed}
 use Rattle.pattern_typing.specs.Making.{Making}

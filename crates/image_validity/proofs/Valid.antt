@@ -1,7 +1,7 @@
 -- The image of a sheet and what a text adds to it is valid. Assumes nothing.
 use Prim.Native.Nat.{ℕ, zero, suc, _+_, _-_, _≤_, _<_}
 use mathlib.Core.Path.{_≡_, refl, sym, ap, ap₂, _∙_}
-use mathlib.Core.Bool.{Bool, true, false, _&&_}
+use mathlib.Core.Bool.{Bool, true, false}
 use mathlib.Core.Option.{none}
 use mathlib.Core.List.{List, [], _∷_, _++_}
 use native.Mathlib.Nat.{zero-add, add-zero}
@@ -13,7 +13,7 @@ use Rattle.image.specs.declared.rows.TypeRow.{TypeRow}
 use Rattle.image.specs.declared.rows.PatRow.{PatRow}
 use Rattle.image.specs.declared.rows.BindingRow.{BindingRow}
 use Rattle.image.specs.Bytes.{byteAt, longAt}
-use Rattle.image.specs.Tables.{typeCount, variantCount, patternCount, bindingCount, listCount, dataCount, tablesEnd}
+use Rattle.image.specs.Tables.{typeCount, variantCount, patternCount, bindingCount, tablesEnd}
 use Rattle.image.specs.Kinds.{patKind}
 use Rattle.image.specs.Rows.{patAt}
 use Rattle.image.specs.Lists.{allBelow, allTrue, gather}
@@ -21,8 +21,8 @@ use Rattle.image.specs.Rules.{countsWhatFollows, versionIsOne, tablesFillTheRes
 use Rattle.image.specs.Subpatterns.{subpatternsBy, subpatterns}
 use Rattle.image.specs.Patterns.{patternHolds, subpatternsBelow, usedOnce}
 use Rattle.image.specs.Valid.{valid}
-use Rattle.image.proofs.Bools.{and-left, and-right, and-true, all-true-at}
-use Rattle.type_sheets.specs.Sheets.{withinSheetLimits, sheetRules, sheetHolds}
+use Rattle.image.proofs.Bools.{and-left, and-right, and-true}
+use Rattle.type_sheets.specs.Sheets.{sheetHolds}
 use Rattle.pattern_syntax.specs.Written.{Written}
 use Rattle.pattern_syntax.specs.Formed.{inPattern}
 use Rattle.pattern_typing.specs.Crossing.{byValue}
@@ -30,7 +30,7 @@ use Rattle.pattern_typing.specs.Contexts.{typed}
 use Rattle.pattern_typing.specs.Making.{patternRow}
 use Rattle.pattern_images.specs.Drafts.{Draft, emptyDraft, nextType, nextPattern, nextBinding, nextWord, nextByte}
 use Rattle.pattern_images.specs.Emitting.{emitted}
-use Rattle.pattern_images.specs.Imaging.{imageWith, derefsWithin, withinImageLimits}
+use Rattle.pattern_images.specs.Imaging.{imageWith, derefsWithin}
 use Rattle.pattern_reading.specs.Reads.{draftOf}
 use Rattle.image_growth.specs.Growing.{Grown}
 use Rattle.image_validity.specs.Validity.{Readable, HasValidImage}

@@ -1,31 +1,28 @@
 -- What is added for a node whose making is sound and brings words is of words and bytes. Assumes nothing.
-use Prim.Native.Nat.{ℕ, suc, _+_, _*_, _-_, _^_, _≤_, _<_}
-use mathlib.Core.Path.{_≡_, refl, sym, ap, _∙_}
-use mathlib.Core.Bool.{Bool, true, false, cond, _&&_}
+use Prim.Native.Nat.{ℕ, _+_, _-_, _^_, _≤_, _<_}
+use mathlib.Core.Path.{_≡_, refl}
+use mathlib.Core.Bool.{Bool, true, false, cond}
 use mathlib.Core.Option.{Option, none, some}
-use mathlib.Core.List.{List, [], _∷_, _++_}
+use mathlib.Core.List.{List, [], _∷_}
 use native.Mathlib.Omega.{arith}
-use borrow.Author.Tests.{ltb-true, leb-true}
-use lib.Dec.{eqb, ltb, leb}
+use lib.Dec.{eqb}
 use lib.ListN.{length, getD}
 use Rattle.image.specs.declared.rows.TypeRow.{TypeRow}
 use Rattle.image.specs.declared.rows.PatRow.{PatRow}
-use Rattle.image.specs.Tables.{typeCount, bindingCount, listCount}
-use Rattle.image.specs.Kinds.{operandKind}
-use Rattle.image.specs.Rows.{operandAt, operandBytes}
-use Rattle.image.specs.Operands.{operandValueHolds, operandLies, operandHolds}
+use Rattle.image.specs.Tables.{typeCount, listCount}
+use Rattle.image.specs.Operands.{operandHolds}
 use Rattle.image.specs.Rules.{absent}
 use Rattle.pattern_syntax.specs.Written.{LiteralValue, boolValue, charValue, wholeValue, minusValue}
-use Rattle.pattern_syntax.specs.Formed.{restWithin, Stand, inPattern, inRange, inRecord}
+use Rattle.pattern_syntax.specs.Formed.{restWithin, Stand}
 use Rattle.pattern_typing.specs.Crossing.{byValue, byRef}
 use Rattle.pattern_typing.specs.Making.{BoundAt, boundAtType, boundAtArray, Making, patternRow}
-use Rattle.pattern_images.specs.Drafts.{Draft, Made, nextType, nextPattern, nextWord, nextByte, addPattern, addWords, addBytes, addOperand, likeIn, addUnless, withType, numberOfType, literalBytes, operandKindOf, bindingFor}
-use Rattle.pattern_images.specs.Emitting.{listFrom, withList, firstOr, arrayRow, withBoundAt, boundType, referenceRow, withMode, modeType, newBinding, withBinding, bindingNumber, itemWords, prefixCount, suffixCount, restWord, emitNode}
+use Rattle.pattern_images.specs.Drafts.{Draft, Made, nextPattern, nextWord, nextByte, addPattern, addWords, addOperand, likeIn, addUnless, withType, literalBytes, bindingFor}
+use Rattle.pattern_images.specs.Emitting.{listFrom, withList, arrayRow, withBoundAt, boundType, referenceRow, withMode, modeType, newBinding, withBinding, itemWords, prefixCount, suffixCount, restWord, emitNode}
 use Rattle.image_growth.specs.Growing.{AreWords, typeWords, Grown}
 use Rattle.image_growth.proofs.Limits.{Few}
 use Rattle.image_validity.specs.Standing.{Step}
 use Rattle.image_validity.proofs.Keeping.{operand-inside}
-use Rattle.image_validity.proofs.Extending.{Extends, extends-on, extends-pattern, extends-binding, extends-mode, extends-with-binding, begins-long}
+use Rattle.image_validity.proofs.Extending.{Extends, extends-on, extends-pattern, extends-binding, extends-mode, begins-long}
 use Rattle.image_validity.proofs.Added.{length-little-endian, list-room}
 use Rattle.image_validity.proofs.Bindings.{BoundHolds, bound-below, mode-below, binding-below}
 use Rattle.image_validity.proofs.Emits.{Sound, soundRow, soundLiteral, soundOperand, soundNamed, soundRange, soundBind, soundReference, soundItems, soundFields, soundSlice, soundField, items-count}
@@ -60,7 +57,8 @@ module _ (sheet : List ℕ) (whole : Draft) (image : List ℕ) (g : Grown sheet 
   list-word n h = omega (arith, h, g .wordsAre, few .words)
 
   -- a pattern is added
-  with-pattern : (row : PatRow) (d : Draft) → DraftWords d → AreWords (ownWords row) → Extends (addPattern row d) whole → MadeWords (record { draft = addPattern row d; stands = nextPattern sheet d ∷ [] })
+  with-pattern : (row : PatRow) (d : Draft) → DraftWords d → AreWords (ownWords row) → Extends (addPattern row d) whole →
+      MadeWords (record { draft = addPattern row d; stands = nextPattern sheet d ∷ [] })
   with-pattern row d h own x = record { draft = draft-pattern row d h own; stands = (pattern-word d (extends-on (extends-pattern row d) x), tt) }
 
   -- types and bindings
@@ -92,7 +90,8 @@ module _ (sheet : List ℕ) (whole : Draft) (image : List ℕ) (g : Grown sheet 
           unless-words (likeIn sheet d (referenceRow t mode)) (referenceRow t mode) d h
           (omega arith, (type-word t lt, (omega arith, (omega arith, (flag-word (eqb mode byRef), tt)))))
 
-  binding-words : (o : Option ℕ) (mode : ℕ) (name : List ℕ) (at : BoundAt) (e : Draft) → BoundHolds sheet at → DraftWords e → Extends e whole → Extends (withBinding sheet o mode name at e) whole →
+  binding-words : (o : Option ℕ) (mode : ℕ) (name : List ℕ) (at : BoundAt) (e : Draft) → BoundHolds sheet at → DraftWords e → Extends e whole →
+      Extends (withBinding sheet o mode name at e) whole →
       DraftWords (withBinding sheet o mode name at e)
   unfolding withBinding newBinding
   binding-words none mode name at e b h x y =
@@ -141,7 +140,8 @@ module _ (sheet : List ℕ) (whole : Draft) (image : List ℕ) (g : Grown sheet 
       (brings .0, (t, (list-word from (omega (arith, room)), (list-word many (omega (arith, room, fewer)), (brings .1 .0, (brings .1 .1, tt)))))) x
 
   -- any node
-  pub emits-words : (making : Making) (many : ℕ) (s p : Stand) (d : Draft) (m : Made) → Sound sheet image making many s p → BringsWords making → Step sheet image p many d m → MadeWords m →
+  pub emits-words : (making : Making) (many : ℕ) (s p : Stand) (d : Draft) (m : Made) → Sound sheet image making many s p → BringsWords making → Step sheet image p many d m →
+      MadeWords m →
       Extends (m .draft) whole → Extends (emitNode sheet making many (m .stands) (m .draft) .draft) whole → MadeWords (emitNode sheet making many (m .stands) (m .draft))
   unfolding emitNode
   emits-words _ _ _ _ d m (soundRow row many p t shape bare) b step h early x =

@@ -1,11 +1,10 @@
 -- The image of a tree whose ellipses are words is a string of bytes. Assumes nothing.
-use Prim.Native.Nat.{ℕ, _+_, _≤_}
+use Prim.Native.Nat.{ℕ}
 use mathlib.Core.Path.{_≡_}
 use mathlib.Core.Bool.{true, _&&_}
 use mathlib.Core.Option.{none}
 use mathlib.Core.List.{List}
 use native.Mathlib.Omega.{arith}
-use Rattle.image.specs.Tables.{variantCount, listCount}
 use Rattle.image.proofs.Bools.{and-left, and-right}
 use Rattle.type_sheets.specs.Sheets.{sheetHolds}
 use Rattle.name_tables.specs.Names.{namesHold}
@@ -15,8 +14,8 @@ use Rattle.pattern_typing.specs.Crossing.{byValue}
 use Rattle.pattern_typing.specs.Contexts.{Context, typed, PartsRead, partContext}
 use Rattle.pattern_typing.specs.Resolving.{resolved}
 use Rattle.pattern_typing.specs.Failing.{refusedIn, refusedAmong}
-use Rattle.pattern_images.specs.Drafts.{Draft, emptyDraft, nextWord}
-use Rattle.pattern_images.specs.Emitting.{emitNode, emitted, emittedParts}
+use Rattle.pattern_images.specs.Drafts.{Draft, emptyDraft}
+use Rattle.pattern_images.specs.Emitting.{emitted, emittedParts}
 use Rattle.pattern_images.specs.Imaging.{imageWith}
 use Rattle.pattern_reading.specs.Reads.{draftOf}
 use Rattle.image_growth.specs.Growing.{IsBytes, Grown}
@@ -65,7 +64,8 @@ module _ (sheet names : List ℕ) (whole : Draft) (image : List ℕ) (g : Grown 
         (parts-words ps (standsIn n) (r .reads) d parts (and-right (ellipsisFits n) (partsEllipsesFit ps) dots) (fit .reads) (free .1) good words early) early x
 
     parts-words : (ps : Parts) (s : Stand) (reads : PartsRead) (d : Draft) → partsFormed ps s ≡ true → partsEllipsesFit ps ≡ true → ReadsFit sheet reads ps s →
-        refusedAmong sheet names ps reads ≡ none → Good sheet image d → DraftWords d → Extends (emittedParts sheet names ps reads d .draft) whole → MadeWords (emittedParts sheet names ps reads d)
+        refusedAmong sheet names ps reads ≡ none → Good sheet image d → DraftWords d → Extends (emittedParts sheet names ps reads d .draft) whole →
+        MadeWords (emittedParts sheet names ps reads d)
     parts-words noParts s reads d form dots fits taken good words x = record { draft = words; stands = tt }
     parts-words (more ps w) s reads d form dots fits taken good words x =
         let c = partContext sheet reads (partCount ps) in
@@ -82,7 +82,8 @@ module _ (sheet names : List ℕ) (whole : Draft) (image : List ℕ) (g : Grown 
         record { draft = last .draft; stands = words-join (m .stands) _ (first .stands) (last .stands) }
 
 -- The theorem.
-pub tree-bytes : (sheet names : List ℕ) (expected : ℕ) (w : Written) → Readable sheet names expected w → ellipsesFit w ≡ true → IsBytes (imageWith sheet (draftOf sheet names expected w))
+pub tree-bytes : (sheet names : List ℕ) (expected : ℕ) (w : Written) → Readable sheet names expected w → ellipsesFit w ≡ true →
+    IsBytes (imageWith sheet (draftOf sheet names expected w))
 tree-bytes sheet names expected w readable dots =
     let whole = draftOf sheet names expected w in
     let image = imageWith sheet whole in

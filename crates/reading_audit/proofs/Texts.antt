@@ -21,8 +21,8 @@ module _ (text sheet names : List ℕ) (expected : ℕ) where
   pub a-text-that-is-not-refused-has-one-tree-and-its-image : (bytes : List ℕ) → readPattern text sheet names expected ≡ imageOf bytes → IsRead text sheet names expected bytes
   a-text-that-is-not-refused-has-one-tree-and-its-image = told.read-one text sheet names expected
 
-  -- "and accepted": of a sheet of bytes
-  pub the-image-made-is-accepted : (bytes : List ℕ) → IsBytes sheet → readPattern text sheet names expected ≡ imageOf bytes → valid bytes ≡ true
+  -- "and accepted": of a sheet of bytes, it is a string of bytes that keeps every rule of an image
+  pub the-image-made-is-accepted : (bytes : List ℕ) → IsBytes sheet → readPattern text sheet names expected ≡ imageOf bytes → (valid bytes ≡ true) × IsBytes bytes
   the-image-made-is-accepted = told.read-valid text sheet names expected
 
   -- "19, text outside the grammar .., with the byte position of the first token or end that fails": a text over 16,384 bytes at 16,384, any other at the first token with which

@@ -32,8 +32,11 @@ use Rattle.pattern_images.specs.Drafts.{Draft}
 use Rattle.pattern_images.specs.Imaging.{imageWith, withinImageLimits}
 use Rattle.pattern_reading.specs.Reads.{Answer, imageOf, refusedWith, Outcome, treeIs, failsAt, outcome, draftOf, imaged, unlessRefused, readTyped, readTree, afterParsing, readPattern}
 use Rattle.image_growth.specs.Growing.{IsBytes}
+use Rattle.image_validity.specs.Validity.{Readable}
 use Rattle.image_validity.proofs.Valid.{image-valid}
+use Rattle.image_words.proofs.Trees.{tree-bytes}
 use Rattle.tree_forms.proofs.Forms.{tree-read, tree-formed}
+use Rattle.tree_forms.proofs.Ellipses.{tree-ellipses}
 use Rattle.reading_audit.specs.Texts.{OneTree, IsRead, FirstPlace}
 use Rattle.reading_audit.proofs.First.{first-refused}
 
@@ -200,13 +203,14 @@ module _ (text sheet names : List ℕ) (expected : ℕ) where
         image = passed sheet names expected (reduced text (f .tree)) bytes (f .reads) .image;
       }
 
-  pub read-valid : (bytes : List ℕ) → IsBytes sheet → readPattern text sheet names expected ≡ imageOf bytes → valid bytes ≡ true
+  pub read-valid : (bytes : List ℕ) → IsBytes sheet → readPattern text sheet names expected ≡ imageOf bytes → (valid bytes ≡ true) × IsBytes bytes
   unfolding readPattern
   read-valid bytes are-bytes e =
       let f = from-tree text sheet names expected (outcome (parsed text)) bytes refl e in
       let p = passed sheet names expected (reduced text (f .tree)) bytes (f .reads) in
-      rw (p .image)
-      (image-valid sheet names expected (reduced text (f .tree)) (record {
+      let w = reduced text (f .tree) in
+      let readable : Readable sheet names expected w =
+      record {
         bytes = are-bytes;
         sheet-holds = p .sheet-holds;
         names-hold = p .names-hold;
@@ -214,7 +218,10 @@ module _ (text sheet names : List ℕ) (expected : ℕ) where
         is-formed = tree-formed text (f .tree) (f .has);
         taken = p .taken;
         within = p .within;
-      }))
+      }
+      in
+      let own = tree-bytes sheet names expected w readable (tree-ellipses text (f .tree) (f .has)) in
+      (ap valid (p .image) ∙ image-valid sheet names expected w readable, λ k. rw (sym (p .image)) at (own k))
 
   pub refused-19 : (at : ℕ) → readPattern text sheet names expected ≡ refusedWith 19 at → ((16384 < length text) × (at ≡ 16384)) ⊎ Refused text (lexemes text) at
   unfolding readPattern

@@ -1,7 +1,7 @@
 -- The number of items before `..` is a word in every tree that a text has. Assumes nothing.
-use Prim.Native.Nat.{ℕ, suc, _+_, _≤_, _<_}
+use Prim.Native.Nat.{ℕ, _<_}
 use mathlib.Core.Path.{_≡_, refl, ap}
-use mathlib.Core.Bool.{Bool, true, false, cond, _&&_}
+use mathlib.Core.Bool.{Bool, true, false, cond}
 use mathlib.Core.Option.{Option, none, some}
 use mathlib.Core.List.{List, [], _∷_}
 use native.Mathlib.Omega.{arith}
@@ -9,7 +9,7 @@ use borrow.Author.Tests.{ltb-false, lt-ltb}
 use lib.Dec.{ltb}
 use lib.ListN.{length}
 use Rattle.image.proofs.Bools.{and-true}
-use Rattle.pattern_grammar.specs.Lexemes.{Spot, Lexeme, name, mark, commaMark, orMark, closeBraceMark, mutMark, bindMark, dotDotMark, endMark, strictly}
+use Rattle.pattern_grammar.specs.Lexemes.{Spot, Lexeme, mark, commaMark, orMark, closeBraceMark, mutMark, bindMark, dotDotMark, endMark, strictly}
 use Rattle.pattern_grammar.specs.Trees.{Ampersand, single, double, ListHead, tupleAt, structAt, sliceAt, closer, Pattern, alone, or, NoTopAlt, plain, between, upward, upTo, WithoutRange, literal, ident, identAt, wild, rest, reference, path, list, listTo, recordOf, recordTo, recordDots, ListItems, noItem, item, RecordFields, noField, field, RecordField, keyed, short, RangeBound, constant, place, patternT, altT, plainT, itemsT, fieldsT, fieldT}
 use Rattle.pattern_grammar.specs.Admitted.{isRest}
 use Rattle.pattern_grammar.specs.Machine.{done, failed, feed, fresh}
@@ -68,7 +68,8 @@ module _ (text : List ℕ) where
   reference-fits (single q) m w h = h
   reference-fits (double q) m w h = h
 
-  list-fits : (h : ListHead) (at : ℕ) (before : Option ℕ) (ps : Parts) → orAbsent before < 65536 → partsEllipsesFit ps ≡ true → ellipsesFit (written at (listNode text h before) ps) ≡ true
+  list-fits : (h : ListHead) (at : ℕ) (before : Option ℕ) (ps : Parts) → orAbsent before < 65536 → partsEllipsesFit ps ≡ true →
+      ellipsesFit (written at (listNode text h before) ps) ≡ true
   unfolding listNode ellipsesFit ellipsisFits
   list-fits (tupleAt q) at before ps e h = rw (lt-ltb (orAbsent before) 65536 e) h
   list-fits (structAt p q) at before ps e h = rw (lt-ltb (orAbsent before) 65536 e) h
@@ -127,7 +128,8 @@ module _ (text : List ℕ) where
     plain-fits (recordTo h fs f q) k t =
         let behind = fieldT f (mark closeBraceMark q ∷ k) in
         let fields = shorter (record-longer h (fieldsT fs behind)) t in
-        more-fits (writtenFields text fs) (writtenFieldOf text f) (fields-fits fs behind fields) (field-fits f (mark closeBraceMark q ∷ k) (shorter (fields-longer fs behind) fields))
+        more-fits (writtenFields text fs) (writtenFieldOf text f) (fields-fits fs behind fields)
+        (field-fits f (mark closeBraceMark q ∷ k) (shorter (fields-longer fs behind) fields))
     plain-fits (recordDots h fs d q) k t =
         let behind = mark dotDotMark d ∷ mark closeBraceMark q ∷ k in
         fields-fits fs behind (shorter (record-longer h (fieldsT fs behind)) t)
@@ -138,7 +140,8 @@ module _ (text : List ℕ) where
         let behind = patternT p (mark commaMark c ∷ k) in
         let all = items-fits is h behind t in
         parts-if (isPart h p) (more (writtenItems text h is) (oneOf (alternatives text p))) (writtenItems text h is)
-        (more-fits (writtenItems text h is) (oneOf (alternatives text p)) all (one-fits (alternatives text p) (pattern-fits p (mark commaMark c ∷ k) (shorter (items-longer is behind) t)))) all
+        (more-fits (writtenItems text h is) (oneOf (alternatives text p)) all
+        (one-fits (alternatives text p) (pattern-fits p (mark commaMark c ∷ k) (shorter (items-longer is behind) t)))) all
 
     fields-fits : (fs : RecordFields) (k : List Lexeme) → Short (fieldsT fs k) → partsEllipsesFit (writtenFields text fs) ≡ true
     fields-fits noField k t = refl

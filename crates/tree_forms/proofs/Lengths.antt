@@ -50,7 +50,9 @@ optional-longer (some q) m k = one-more
 
 pub name-longer : (b : BoundName) (k : List Lexeme) → Longer 0 k (nameT b k)
 unfolding nameT
-name-longer b k = behind (behind one-more (optional-longer (b .mutable) mutMark (name (b .called) ∷ k))) (optional-longer (b .byRef) refMark (optionalT (b .mutable) mutMark (name (b .called) ∷ k)))
+name-longer b k =
+    behind (behind one-more (optional-longer (b .mutable) mutMark (name (b .called) ∷ k)))
+    (optional-longer (b .byRef) refMark (optionalT (b .mutable) mutMark (name (b .called) ∷ k)))
 
 pub head-longer : (h : ListHead) (k : List Lexeme) → Longer 0 k (headT h k)
 unfolding headT

@@ -1,5 +1,4 @@
 -- Trees in which the number of items before `..` is a word. Assumes nothing: these are definitions.
-use Prim.Native.Nat.{ℕ}
 use mathlib.Core.Bool.{Bool, true, _&&_}
 use lib.Dec.{ltb}
 use Rattle.pattern_syntax.specs.Written.{Node, wildcardNode, restNode, literalNode, boundNode, boundPathNode, rangeNode, pathNode, identNode, referenceNode, tupleNode, tupleStructNode, sliceNode, recordNode, fieldNode, orNode, Written, written, Parts, noParts, more}
