@@ -39,18 +39,6 @@ module _ (sheet names : List ℕ) (holds : sheetHolds sheet ≡ true) (named : n
     kind-word true = omega arith
     kind-word false = omega arith
 
-<<<<<<< HEAD
-  path-brings : (o : Option ℕ) (name : Name) (c : Crossed) → rowFor names asValue (name .bytes) ≡ o → BringsWords (resolvedPath names o name c .making)
-  unfolding resolvedPath pathMade
-  path-brings none name c e = tt
-  path-brings (some i) name c e =
-      let row = nameRowAt names i in
-      let number : IsWord (row .number) =
-      value-named sheet names named (name .bytes) i e (λ _ h. variant-word (row .number) h)
-      (λ _ h. place-word (row .number) (and-left (operandHolds sheet (row .number)) (eqb (operandAt sheet (row .number) .kind) 8) h))
-      in
-      (omega arith, (kind-word (eqb (row .kind) 1), (number, (omega arith, omega arith))))
-=======
     path-brings : (o : Option ℕ) (name : Name) (c : Crossed) → rowFor names asValue (name .bytes) ≡ o → BringsWords (resolvedPath names o name c .making)
     unfolding resolvedPath pathMade
     path-brings none name c e = tt
@@ -61,7 +49,6 @@ module _ (sheet names : List ℕ) (holds : sheetHolds sheet ≡ true) (named : n
         (λ _ h. place-word (row .number) (and-left (operandHolds sheet (row .number)) (eqb (operandAt sheet (row .number) .kind) 8) h))
         in
         (omega arith, (kind-word (eqb (row .kind) 1), (number, (omega arith, omega arith))))
->>>>>>> s14valid
 
     -- a name that is looked up, and goes on with its row's number
     where-brings : (wanted : Use) (bs : List ℕ) (o : Option ℕ) (name : Name) (go : ℕ → Resolved) → rowFor names wanted bs ≡ o →
