@@ -1,11 +1,11 @@
 -- The ways through a rest that is bound to a name. Assumes nothing.
 use Prim.Native.Nat.{ℕ, _-_, _≤_, _<_}
 use mathlib.Core.Path.{_≡_, refl, sym, ap, _∙_}
-use mathlib.Core.Bool.{Bool, true, false, cond}
+use mathlib.Core.Bool.{true, false, cond}
 use mathlib.Core.Option.{Option, none, some}
 use mathlib.Core.List.{List}
 use native.Mathlib.Omega.{arith}
-use borrow.Author.Tests.{eq-eqb, ne-eqb, le-leb, lt-leb}
+use borrow.Author.Tests.{ne-eqb, le-leb, lt-leb}
 use lib.Dec.{eqb}
 use Rattle.image.specs.declared.rows.TypeRow.{TypeRow}
 use Rattle.image.specs.Tables.{typeCount}
@@ -14,8 +14,7 @@ use Rattle.image.specs.Types.{isSet}
 use Rattle.type_sheets.specs.Sheets.{sheetHolds}
 use Rattle.type_sheets.proofs.Known.{array-element, few-types}
 use Rattle.name_tables.specs.Names.{rowFor, asValue}
-use Rattle.pattern_typing.specs.Making.{BoundAt, boundAtType, boundAtArray}
-use Rattle.pattern_typing.specs.Resolving.{Resolved, refusedHere, Marked, restBoundAt, restHolds, resolvedBoundRest, resolvedRest}
+use Rattle.pattern_typing.specs.Resolving.{refusedHere, Marked, restBoundAt, restHolds, resolvedBoundRest, resolvedRest}
 use Rattle.node_resolving.specs.Gives.{restBoundTo, boundAtOf}
 
 -- a rest that is bound at what the definition says

@@ -2,13 +2,13 @@
 use Prim.Native.Nat.{ℕ}
 use mathlib.Core.Path.{_≡_, refl}
 use mathlib.Core.Bool.{Bool, true, false, cond, _||_, true≢false}
-use mathlib.Core.Option.{Option, none, some}
-use mathlib.Core.List.{List, []}
+use mathlib.Core.Option.{none, some}
+use mathlib.Core.List.{List}
 use lib.Dec.{eqb, leb}
 use borrow.Author.Tests.{ne-eqb}
 use Rattle.pattern_syntax.specs.Written.{Name, Node, wildcardNode, restNode, literalNode, boundNode, boundPathNode, rangeNode, pathNode, identNode, referenceNode, tupleNode, tupleStructNode, sliceNode, recordNode, fieldNode, orNode}
 use Rattle.pattern_syntax.specs.Reduced.{bytesFrom}
-use Rattle.pattern_typing.specs.Resolving.{Marked, bindsIn, fieldName}
+use Rattle.pattern_typing.specs.Resolving.{bindsIn, fieldName}
 use Rattle.node_rows.specs.declared.NodeRow.{NodeRow}
 use Rattle.node_rows.specs.Nodes.{literalIn, numberIn, nameIn, nodeOf}
 use Rattle.node_resolving.specs.Gives.{hasName, withoutName, fieldRow, markedIn}

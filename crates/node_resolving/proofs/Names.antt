@@ -1,6 +1,6 @@
 -- The bytes of a node's name, and what is found of it in the name table. Assumes nothing.
 use Prim.Native.Nat.{ℕ, zero, suc, _+_, _-_, _≤_, _<_}
-use mathlib.Core.Path.{_≡_, refl, sym, ap, _∙_}
+use mathlib.Core.Path.{_≡_, refl, sym, _∙_}
 use mathlib.Core.Bool.{Bool, true, false, cond}
 use mathlib.Core.Option.{Option, none, some}
 use mathlib.Core.List.{List, []}
@@ -8,10 +8,10 @@ use native.Mathlib.Omega.{arith}
 use borrow.Author.Tests.{ltb-true, ltb-false, lt-ltb, le-ltb}
 use lib.Dec.{ltb}
 use lib.ListN.{length, take, drop, length-drop}
-use lib.Seq.{take-all, take-nil, drop-length}
+use lib.Seq.{take-all, take-nil}
 use Rattle.pattern_syntax.specs.Reduced.{bytesFrom}
 use Rattle.pattern_typing.specs.Failing.{lower}
-use Rattle.name_tables.specs.Names.{rowCount, firstFrom, rowFor, Use, nameRowAt}
+use Rattle.name_tables.specs.Names.{rowCount, firstFrom, rowFor, Use}
 use Rattle.node_resolving.specs.declared.lookup.Named.{Named}
 use Rattle.node_resolving.specs.Gives.{namedAs}
 

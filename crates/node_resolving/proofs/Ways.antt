@@ -1,5 +1,5 @@
 -- The ways through resolving a node. Assumes nothing.
-use Prim.Native.Nat.{ℕ, _-_, _≤_, _<_}
+use Prim.Native.Nat.{ℕ, _-_, _≤_}
 use mathlib.Core.Path.{_≡_, refl, sym, ap, _∙_}
 use mathlib.Core.Bool.{Bool, true, false, cond, _||_}
 use mathlib.Core.Option.{Option, none, some}
@@ -21,7 +21,7 @@ use Rattle.type_parts.specs.declared.CrossedType.{CrossedType}
 use Rattle.type_parts.specs.Parts.{crossedOf, partsOf}
 use Rattle.node_resolving.specs.declared.Resolution.{Resolution}
 use Rattle.node_resolving.specs.declared.lookup.Named.{Named}
-use Rattle.node_resolving.specs.Gives.{refusedOf, resolvedOf, Gives, GivesAlways, refusedRow, notMadeRow, namedAs, markedIn, boundAtOf, bindResolution, pathResolution, restBoundTo, fieldRow}
+use Rattle.node_resolving.specs.Gives.{refusedOf, resolvedOf, Gives, GivesAlways, refusedRow, namedAs, markedIn, boundAtOf, bindResolution, pathResolution, restBoundTo, fieldRow}
 use Rattle.node_resolving.proofs.ByKind.{field-named}
 
 -- a word that is no number is read as none, and none is written as that word

@@ -13,7 +13,6 @@ use name_tables::NameUse;
 use node_rows::NodeRow;
 use type_parts::PartsRow;
 use type_parts::crossing::cross;
-ghost use mathlib.Core.Path.{_≡_};
 ghost use lib.Dec.{eqb};
 ghost use Rattle.image.specs.Tables.{Whole};
 ghost use Rattle.name_tables.specs.Names.{asConstant, rowFor};

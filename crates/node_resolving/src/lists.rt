@@ -8,7 +8,6 @@ use crate::rows::refused_here;
 use image::Tables;
 use name_tables::NameUse;
 use node_rows::NodeRow;
-use type_parts::CrossedType;
 use type_parts::FieldRun;
 use type_parts::PartsRow;
 use type_parts::crossing::cross;

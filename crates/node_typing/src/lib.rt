@@ -14,7 +14,6 @@ use steps::type_row;
 ghost use mathlib.Core.Path.{_≡_};
 ghost use mathlib.Core.Bool.{true};
 ghost use Prim.Native.Nat.{_<_, _≤_};
-ghost use lib.ListN.{length};
 ghost use Rattle.image.specs.Tables.{Whole, typeCount};
 ghost use Rattle.type_sheets.specs.Sheets.{sheetHolds};
 ghost use Rattle.name_tables.specs.Names.{namesHold};

@@ -1,15 +1,8 @@
 use borrow.Author.Needs.{needs}
 use Rattle.node_resolving.proofs.fields.field_row.Statement.{statement}
 use Rattle.node_resolving.proofs.fields.field_row.Tie as tie
-use Rattle.node_resolving.proofs.fields.field_row.Reads as reads
-use Rattle.node_resolving.proofs.fields.field_row.Lts as lts
-use Rattle.node_resolving.proofs.fields.has_name.Reads as has-name-reads
-use borrow.Author.Tests.{eq-eqb, ne-eqb, lt-ltb, le-ltb, le-leb, lt-leb}
-use native.Mathlib.Omega.{arith}
-use mathlib.Core.Path.{_≡_, refl, sym, _∙_}
-use Rattle.node_resolving.specs.Gives.{refusedOf, resolvedOf, namedAs, hasName, fieldRow, restBoundTo}
-use Rattle.node_rows.specs.Makings.{makingOf}
-use Rattle.type_parts.specs.Parts.{partsOf}
+use mathlib.Core.Path.{sym, _∙_}
+use Rattle.node_resolving.specs.Gives.{fieldRow}
 
 returns : tie.Need-returns
 unfolding fieldRow

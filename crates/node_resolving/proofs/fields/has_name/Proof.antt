@@ -1,10 +1,6 @@
 use Rattle.node_resolving.proofs.fields.has_name.Statement.{statement}
 use Rattle.node_resolving.proofs.fields.has_name.Tie as tie
-use Rattle.node_resolving.proofs.fields.has_name.Reads as reads
-use Rattle.node_resolving.proofs.fields.has_name.Lts as lts
-use borrow.Author.Tests.{eq-eqb, ne-eqb, lt-ltb, le-ltb, le-leb, lt-leb}
-use native.Mathlib.Omega.{arith}
-use mathlib.Core.Path.{_≡_, refl, sym, _∙_}
+use borrow.Author.Tests.{ne-eqb}
 use Rattle.node_resolving.specs.Gives.{hasName}
 
 returns : tie.Need-returns

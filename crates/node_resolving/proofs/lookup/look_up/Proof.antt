@@ -1,19 +1,9 @@
 use borrow.Author.Needs.{needs}
 use Rattle.node_resolving.proofs.lookup.look_up.Statement.{statement}
 use Rattle.node_resolving.proofs.lookup.look_up.Tie as tie
-use Rattle.node_resolving.proofs.lookup.look_up.Reads as reads
-use Rattle.node_resolving.proofs.lookup.look_up.Lts as lts
-use Rattle.name_tables.proofs.lookup.row_for.Reads as row-for-reads
-use Rattle.name_tables.proofs.name_row_at.Reads as name-row-at-reads
-use Rattle.node_resolving.proofs.lookup.name_bytes.Reads as name-bytes-reads
-use borrow.Author.Tests.{eq-eqb, ne-eqb, lt-ltb, le-ltb, le-leb, lt-leb}
 use native.Mathlib.Omega.{arith}
-use mathlib.Core.Path.{_≡_, refl, sym, _∙_}
-use Rattle.node_resolving.specs.Gives.{refusedOf, resolvedOf, namedAs, hasName, fieldRow, restBoundTo}
-use Rattle.node_rows.specs.Makings.{makingOf}
-use Rattle.type_parts.specs.Parts.{partsOf}
-use Rattle.name_tables.specs.Tested.{useOf, foundIn}
-use Rattle.node_rows.specs.Nodes.{nameIn, nodeOf}
+use Rattle.node_resolving.specs.Gives.{namedAs}
+use Rattle.name_tables.specs.Tested.{foundIn}
 use Rattle.node_resolving.proofs.Names.{row-below, lacking}
 
 returns : tie.Need-returns

@@ -1,10 +1,6 @@
 use Rattle.node_resolving.proofs.lookup.lower_of.Statement.{statement}
 use Rattle.node_resolving.proofs.lookup.lower_of.Tie as tie
-use Rattle.node_resolving.proofs.lookup.lower_of.Reads as reads
-use Rattle.node_resolving.proofs.lookup.lower_of.Lts as lts
-use borrow.Author.Tests.{eq-eqb, ne-eqb, lt-ltb, le-ltb, le-leb, lt-leb}
-use native.Mathlib.Omega.{arith}
-use mathlib.Core.Path.{_≡_, refl, sym, _∙_}
+use mathlib.Core.Path.{sym}
 use Rattle.node_resolving.proofs.Names.{lower-first, lower-second}
 
 returns : tie.Need-returns

@@ -1,12 +1,6 @@
 use borrow.Author.Needs.{needs}
 use Rattle.node_resolving.proofs.lookup.name_bytes.Statement.{statement}
 use Rattle.node_resolving.proofs.lookup.name_bytes.Tie as tie
-use Rattle.node_resolving.proofs.lookup.name_bytes.Reads as reads
-use Rattle.node_resolving.proofs.lookup.name_bytes.Lts as lts
-use Rattle.node_resolving.proofs.lookup.lower_of.Reads as lower-of-reads
-use borrow.Author.Tests.{eq-eqb, ne-eqb, lt-ltb, le-ltb, le-leb, lt-leb}
-use native.Mathlib.Omega.{arith}
-use mathlib.Core.Path.{_≡_, refl, sym, _∙_}
 use Rattle.node_resolving.proofs.Names.{end-within, start-within, cut-same}
 
 sub-result : tie.Need-sub-result

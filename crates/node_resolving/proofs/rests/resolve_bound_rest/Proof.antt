@@ -1,21 +1,7 @@
 use borrow.Author.Needs.{needs}
 use Rattle.node_resolving.proofs.rests.resolve_bound_rest.Statement.{statement}
 use Rattle.node_resolving.proofs.rests.resolve_bound_rest.Tie as tie
-use Rattle.node_resolving.proofs.rests.resolve_bound_rest.Reads as reads
-use Rattle.node_resolving.proofs.rests.resolve_bound_rest.Lts as lts
-use Rattle.node_resolving.proofs.rests.bind_rest.Reads as bind-rest-reads
-use Rattle.node_resolving.proofs.rests.flag_word.Reads as flag-word-reads
-use Rattle.node_resolving.proofs.rows.refused_here.Reads as refused-here-reads
-use Rattle.type_parts.proofs.sheet.type_in.Reads as type-in-reads
-use borrow.Author.Tests.{eq-eqb, ne-eqb, lt-ltb, le-ltb, le-leb, lt-leb}
-use native.Mathlib.Omega.{arith}
-use mathlib.Core.Path.{_≡_, refl, sym, _∙_}
-use Rattle.node_resolving.specs.Gives.{refusedOf, resolvedOf, namedAs, hasName, fieldRow, restBoundTo}
-use Rattle.node_rows.specs.Makings.{makingOf}
-use Rattle.type_parts.specs.Parts.{partsOf}
-use Rattle.name_tables.specs.Tested.{useOf, foundIn}
-use Rattle.node_rows.specs.Nodes.{nameIn, nodeOf}
-use Rattle.node_resolving.proofs.Ways.{or-absent, always, refused-gives, where-found, where-lacking, path-found, path-lacking, none-named, ident-found, rest-found, marked, bind-gives, path-gives, gives-as}
+use Rattle.node_resolving.proofs.Ways.{refused-gives, gives-as}
 use Rattle.node_resolving.proofs.BoundRests.{slice-rest, no-rest, short-rest, array-rest}
 
 returns : tie.Need-returns

@@ -1,13 +1,6 @@
 use borrow.Author.Needs.{needs}
 use Rattle.node_resolving.proofs.rows.refused_here.Statement.{statement}
 use Rattle.node_resolving.proofs.rows.refused_here.Tie as tie
-use Rattle.node_resolving.proofs.rows.refused_here.Reads as reads
-use Rattle.node_resolving.proofs.rows.refused_here.Lts as lts
-use Rattle.node_resolving.proofs.rows.made.Reads as made-reads
-use Rattle.node_resolving.proofs.rows.unseen_parts.Reads as unseen-parts-reads
-use borrow.Author.Tests.{eq-eqb, ne-eqb, lt-ltb, le-ltb, le-leb, lt-leb}
-use native.Mathlib.Omega.{arith}
-use mathlib.Core.Path.{_≡_, refl, sym, _∙_}
 
 returns : tie.Need-returns
 returns c = rw (c .before .made .ensures, c .unseen-parts .ensures)
