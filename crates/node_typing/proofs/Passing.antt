@@ -18,9 +18,9 @@ use Rattle.node_rows.specs.declared.NodeRow.{NodeRow}
 use Rattle.node_rows.specs.Nodes.{nodeRowAt, nodeOf, closedNodeOf, nodesIn}
 use Rattle.node_rows.specs.Makings.{makingRowAt, makingOf, closedMakingOf}
 use Rattle.type_parts.specs.Parts.{partsOf}
-use Rattle.node_resolving.specs.declared.Refused.{Refused}
-use Rattle.node_resolving.specs.declared.Resolution.{Resolution}
-use Rattle.node_resolving.specs.Gives.{refusedOf, resolvedOf, Gives}
+use Rattle.name_resolving.specs.declared.Refused.{Refused}
+use Rattle.name_resolving.specs.declared.Resolution.{Resolution}
+use Rattle.name_resolving.specs.Gives.{refusedOf, resolvedOf, Gives}
 use Rattle.node_resolving.proofs.Kept.{reads-known}
 use Rattle.node_typing.specs.declared.steps.TypedRow.{TypedRow}
 use Rattle.node_typing.specs.Rows.{makingWords, stackOf, StackKnown, Stacked, resolvedAt, RowTyped, untyped, NodesTyped}

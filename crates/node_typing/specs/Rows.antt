@@ -18,8 +18,8 @@ use Rattle.node_rows.specs.Nodes.{nodeRowAt, nodeOf, nodesIn}
 use Rattle.node_rows.specs.Makings.{makingRowAt, closedMakingOf, makingsIn}
 use Rattle.type_parts.specs.declared.PartsRow.{PartsRow}
 use Rattle.type_parts.specs.Parts.{partsOf}
-use Rattle.node_resolving.specs.declared.Refused.{Refused}
-use Rattle.node_resolving.specs.Gives.{refusedOf}
+use Rattle.name_resolving.specs.declared.Refused.{Refused}
+use Rattle.name_resolving.specs.Gives.{refusedOf}
 use Rattle.node_resolving.specs.Known.{PartsKnown}
 use Rattle.node_typing.specs.declared.tables.WaitingRow.{WaitingRow}
 use Rattle.node_typing.specs.declared.steps.TypedRow.{TypedRow}

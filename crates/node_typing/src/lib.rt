@@ -5,8 +5,8 @@ pub mod steps; // steps.rt: one row
 pub mod tables; // tables.rt: the rows of the lent tables
 
 use image::Tables;
-use node_resolving::Refused;
-use node_resolving::rows::same_parts;
+use name_resolving::Refused;
+use name_resolving::rows::same_parts;
 use node_rows::TEXT_BYTES;
 use stack::wait_for;
 use steps::first_refused;

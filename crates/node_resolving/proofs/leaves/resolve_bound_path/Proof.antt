@@ -2,12 +2,12 @@ use borrow.Author.Needs.{needs}
 use Rattle.node_resolving.proofs.leaves.resolve_bound_path.Statement.{statement}
 use Rattle.node_resolving.proofs.leaves.resolve_bound_path.Tie as tie
 use mathlib.Core.Path.{refl}
-use Rattle.node_resolving.specs.Gives.{refusedOf, resolvedOf}
+use Rattle.name_resolving.specs.Gives.{refusedOf, resolvedOf}
 use Rattle.node_rows.specs.Makings.{makingOf}
 use Rattle.type_parts.specs.Parts.{partsOf}
 use Rattle.name_tables.specs.Tested.{useOf}
 use Rattle.node_rows.specs.Nodes.{nameIn}
-use Rattle.node_resolving.proofs.Ways.{refused-gives, where-found, where-lacking, gives-as}
+use Rattle.name_resolving.proofs.Ways.{refused-gives, where-found, where-lacking, gives-as}
 
 returns : tie.Need-returns
 unfolding useOf nameIn

@@ -2,10 +2,10 @@ use borrow.Author.Needs.{needs}
 use Rattle.node_resolving.proofs.lists.resolve_tuple.Statement.{statement}
 use Rattle.node_resolving.proofs.lists.resolve_tuple.Tie as tie
 use mathlib.Core.Path.{refl}
-use Rattle.node_resolving.specs.Gives.{refusedOf, resolvedOf}
+use Rattle.name_resolving.specs.Gives.{refusedOf, resolvedOf}
 use Rattle.node_rows.specs.Makings.{makingOf}
 use Rattle.type_parts.specs.Parts.{partsOf}
-use Rattle.node_resolving.proofs.Ways.{or-absent}
+use Rattle.name_resolving.proofs.Ways.{or-absent}
 
 returns : tie.Need-returns
 unfolding resolvedOf refusedOf makingOf partsOf

@@ -2,11 +2,11 @@ use borrow.Author.Needs.{needs}
 use Rattle.node_resolving.proofs.nodes.resolve_node.Statement.{statement}
 use Rattle.node_resolving.proofs.nodes.resolve_node.Tie as tie
 use borrow.Author.Tests.{ne-eqb}
-use Rattle.node_resolving.specs.Gives.{refusedOf, resolvedOf}
+use Rattle.name_resolving.specs.Gives.{refusedOf, resolvedOf}
 use Rattle.node_rows.specs.Makings.{makingOf}
 use Rattle.type_parts.specs.Parts.{partsOf}
 use Rattle.node_rows.specs.Nodes.{nameIn, nodeOf}
-use Rattle.node_resolving.proofs.Ways.{refused-gives}
+use Rattle.name_resolving.proofs.Ways.{refused-gives}
 use Rattle.pattern_typing.specs.Resolving.{resolvedNode}
 
 returns : tie.Need-returns

@@ -2,7 +2,7 @@ use borrow.Author.Needs.{needs}
 use Rattle.node_typing.proofs.steps.first_refused.Statement.{statement}
 use Rattle.node_typing.proofs.steps.first_refused.Tie as tie
 use borrow.Author.Tests.{lt-ltb, le-ltb}
-use Rattle.node_resolving.specs.Gives.{refusedOf}
+use Rattle.name_resolving.specs.Gives.{refusedOf}
 use Rattle.pattern_typing.specs.Failing.{lower, earlier}
 
 returns : tie.Need-returns
