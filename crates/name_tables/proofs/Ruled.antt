@@ -1,22 +1,22 @@
 -- What is known of a name table that keeps its rules, and the ways through the test of its frame. Assumes nothing.
 use Prim.Native.Nat.{ℕ, _+_, _*_, _≤_, _<_}
-use mathlib.Core.Path.{_≡_, refl, sym, _∙_}
-use mathlib.Core.Bool.{Bool, true, false, cond, _&&_, false≢true}
+use mathlib.Core.Path.{_≡_}
+use mathlib.Core.Bool.{Bool, true, false, _&&_}
 use mathlib.Core.List.{List}
 use native.Mathlib.Omega.{arith}
 use borrow.Author.Tests.{eqb-true, leb-true, ltb-true, eq-eqb, ne-eqb, le-leb, lt-leb}
-use lib.Dec.{eqb, leb, ltb}
+use lib.Dec.{eqb, leb}
 use lib.ListN.{length}
 use Rattle.image.specs.Bytes.{byteAt, longAt, wordAt}
 use Rattle.image.specs.Lists.{allBelow}
 use Rattle.image.specs.Tables.{variantCount, listCount}
-use Rattle.image.specs.Rows.{variantAt, operandAt, operandBytes}
+use Rattle.image.specs.Rows.{operandAt, operandBytes}
 use Rattle.image.specs.Kinds.{operandKind}
 use Rattle.image.specs.Operands.{operandLies, operandValueHolds, operandHolds}
-use Rattle.image.proofs.Bools.{and-left, and-right, and-true, and-false-left, and-false-right, below-at}
+use Rattle.image.proofs.Bools.{and-left, and-right, below-at}
 use Rattle.name_tables.specs.declared.NameRow.{NameRow}
 use Rattle.name_tables.specs.Names.{rowCount, nameByteCount, nameBytesAt, nameFrameHolds, nameRowAt, nameRowHolds, namesSomething, namesHold}
-use Rattle.name_tables.specs.Tested.{namesField, namesConstant, NameBytesWithin}
+use Rattle.name_tables.specs.Tested.{NameBytesWithin}
 
 module _ (names : List ℕ) where
   abbrev long : Bool

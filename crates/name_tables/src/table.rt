@@ -12,7 +12,7 @@ ghost use Prim.Native.Nat.{_+_, _≤_};
 ghost use lib.ListN.{length};
 ghost use Rattle.image.specs.Lists.{allBelow};
 ghost use Rattle.image.specs.Tables.{Whole};
-ghost use Rattle.name_tables.specs.Names.{rowCount, nameByteCount, nameBytesAt, nameFrameHolds, nameRowAt, nameRowHolds, namesSomething, namesHold};
+ghost use Rattle.name_tables.specs.Names.{rowCount, nameBytesAt, nameFrameHolds, nameRowAt, nameRowHolds, namesSomething, namesHold};
 ghost use Rattle.name_tables.specs.Tested.{namesField, namesConstant, rowHolds};
 
 // The bytes before the rows, the limits, and that rows and names fill the rest.

@@ -1,13 +1,13 @@
 -- The types that contexts and parts name stay the sheet's: from parts to their contexts, and from a context to the parts of a node that is read
 -- at it. Assumes nothing.
 use Prim.Native.Nat.{ℕ, zero, suc, _+_, _-_, _≤_, _<_}
-use mathlib.Core.Path.{_≡_, refl, sym}
+use mathlib.Core.Path.{_≡_, refl}
 use mathlib.Core.Bool.{Bool, true, false, cond, _&&_, _||_}
 use mathlib.Core.Option.{Option, none, some}
 use mathlib.Core.List.{List}
 use native.Mathlib.Omega.{arith}
-use borrow.Author.Tests.{eqb-true, ltb-true, leb-true}
-use lib.Dec.{eqb, leb, ltb}
+use borrow.Author.Tests.{eqb-true, ltb-true}
+use lib.Dec.{leb, ltb}
 use Rattle.image.specs.Tables.{typeCount, variantCount}
 use Rattle.image.specs.Rows.{typeAt, variantAt, listAt}
 use Rattle.image.specs.Types.{isSet}
@@ -15,10 +15,10 @@ use Rattle.image.proofs.Bools.{and-left, and-right}
 use Rattle.type_sheets.specs.Sheets.{sheetHolds}
 use Rattle.type_sheets.proofs.Known.{target-type, array-element, slice-element, tuple-types, adt-within, variant-types, listed-type}
 use Rattle.pattern_syntax.specs.Written.{Name, Node, wildcardNode, restNode, literalNode, boundNode, boundPathNode, rangeNode, pathNode, identNode, referenceNode, tupleNode, tupleStructNode, sliceNode, recordNode, fieldNode, orNode}
-use Rattle.name_tables.specs.Names.{nameRowAt, rowFor, asValue, asConstant, asVariant, asFieldOf}
+use Rattle.name_tables.specs.Names.{nameRowAt, rowFor, asValue}
 use Rattle.pattern_typing.specs.Crossing.{isReference, isTuple, isAdt, isArray, isSlice, isWrittenAs, Crossed, crossOne, crossUpTo, crossed, FieldTypes, noFields, tupleFields, hasVariantOf, variantFieldsOf, byValue}
 use Rattle.pattern_typing.specs.Contexts.{Context, typed, restAmong, fieldAt, partless, unseen, PartsRead, unseenParts, sameParts, targetPart, argumentParts, itemParts, fieldParts, fieldPart, fieldContext, standsBefore, argumentContext, isRestItem, itemContext, targetContext, partContext}
-use Rattle.pattern_typing.specs.Resolving.{Resolved, refusedHere, resolvedTo, whereNamed, resolvedPath, Marked, resolvedIdent, restHolds, resolvedBoundRest, bindsIn, resolvedRest, tupleStructAs, recordAs, resolvedNode, fieldName, resolvedField, resolved}
+use Rattle.pattern_typing.specs.Resolving.{Resolved, refusedHere, whereNamed, resolvedPath, Marked, resolvedIdent, restHolds, resolvedBoundRest, bindsIn, resolvedRest, tupleStructAs, recordAs, resolvedNode, fieldName, resolvedField, resolved}
 use Rattle.node_resolving.specs.Known.{ContextKnown, FieldsKnown, PartsKnown}
 
 module _ (sheet : List ℕ) (held : sheetHolds sheet ≡ true) where

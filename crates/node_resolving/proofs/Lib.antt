@@ -1,5 +1,1 @@
-pub mod ByKind
-pub mod Names
-pub mod Ways
-pub mod BoundRests
 pub mod Kept

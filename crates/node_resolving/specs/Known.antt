@@ -1,6 +1,5 @@
 -- The types that a context and the parts of a node name are the sheet's. Assumes nothing: these are definitions.
 use Prim.Native.Nat.{ℕ, _+_, _<_}
-use mathlib.Core.Bool.{Bool}
 use mathlib.Core.List.{List}
 use Rattle.image.specs.Tables.{typeCount}
 use Rattle.image.specs.Rows.{listAt}

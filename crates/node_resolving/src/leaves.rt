@@ -1,19 +1,18 @@
 // Literals, ranges, references and alternatives.
-use crate::Refused;
-use crate::Resolution;
-use crate::lookup::Named;
-use crate::lookup::look_up;
-use crate::rows::literal_made;
-use crate::rows::made;
-use crate::rows::refused_here;
-use crate::rows::same_parts;
-use crate::rows::unseen_parts;
 use image::Tables;
+use name_resolving::Refused;
+use name_resolving::Resolution;
+use name_resolving::lookup::Named;
+use name_resolving::lookup::look_up;
+use name_resolving::rows::literal_made;
+use name_resolving::rows::made;
+use name_resolving::rows::refused_here;
+use name_resolving::rows::same_parts;
+use name_resolving::rows::unseen_parts;
 use name_tables::NameUse;
 use node_rows::NodeRow;
 use type_parts::PartsRow;
 use type_parts::crossing::cross;
-ghost use mathlib.Core.Path.{_≡_};
 ghost use lib.Dec.{eqb};
 ghost use Rattle.image.specs.Tables.{Whole};
 ghost use Rattle.name_tables.specs.Names.{asConstant, rowFor};
@@ -23,7 +22,7 @@ ghost use Rattle.pattern_typing.specs.Contexts.{unseenParts, sameParts, targetP
 ghost use Rattle.pattern_typing.specs.Making.{literalMade, operandMade, operandNamed, rangeMade, referenceMade, listMade, patternRow};
 ghost use Rattle.pattern_typing.specs.Resolving.{resolvedTo, whereNamed};
 ghost use Rattle.node_rows.specs.Nodes.{literalIn, nameIn};
-ghost use Rattle.node_resolving.specs.Gives.{Gives, GivesAlways};
+ghost use Rattle.name_resolving.specs.Gives.{Gives, GivesAlways};
 
 // A literal, behind the references that are crossed.
 pub fn resolve_literal(sheet: &[u8], tables: Tables, node: NodeRow, t: u16, mode: u16) -> Resolution

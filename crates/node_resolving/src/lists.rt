@@ -1,14 +1,13 @@
 // Tuples, tuple structs, slices and records.
-use crate::Refused;
-use crate::Resolution;
-use crate::lookup::Named;
-use crate::lookup::look_up;
-use crate::rows::made;
-use crate::rows::refused_here;
 use image::Tables;
+use name_resolving::Refused;
+use name_resolving::Resolution;
+use name_resolving::lookup::Named;
+use name_resolving::lookup::look_up;
+use name_resolving::rows::made;
+use name_resolving::rows::refused_here;
 use name_tables::NameUse;
 use node_rows::NodeRow;
-use type_parts::CrossedType;
 use type_parts::FieldRun;
 use type_parts::PartsRow;
 use type_parts::crossing::cross;
@@ -23,7 +22,7 @@ ghost use Rattle.pattern_typing.specs.Contexts.{argumentParts, itemParts};
 ghost use Rattle.pattern_typing.specs.Making.{sliceMade, orAbsent};
 ghost use Rattle.pattern_typing.specs.Resolving.{resolvedTo, whereNamed, listRow, tupleStructAs, recordAs};
 ghost use Rattle.node_rows.specs.Nodes.{numberIn, nameIn};
-ghost use Rattle.node_resolving.specs.Gives.{Gives, GivesAlways, argumentsRow};
+ghost use Rattle.name_resolving.specs.Gives.{Gives, GivesAlways, argumentsRow};
 
 // Arguments of these fields.
 fn argument_parts(fields: FieldRun, node: NodeRow, mode: u16) -> PartsRow

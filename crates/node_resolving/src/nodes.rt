@@ -1,7 +1,4 @@
 // A node of a type, under a default mode, by its kind.
-use crate::Resolution;
-use crate::bindings::resolve_ident;
-use crate::bindings::resolve_path;
 use crate::leaves::resolve_bound;
 use crate::leaves::resolve_bound_path;
 use crate::leaves::resolve_literal;
@@ -12,15 +9,18 @@ use crate::lists::resolve_record;
 use crate::lists::resolve_slice;
 use crate::lists::resolve_tuple;
 use crate::lists::resolve_tuple_struct;
-use crate::rows::refused_here;
-use crate::rows::whole_made;
 use image::Tables;
+use name_resolving::Resolution;
+use name_resolving::bindings::resolve_ident;
+use name_resolving::bindings::resolve_path;
+use name_resolving::rows::refused_here;
+use name_resolving::rows::whole_made;
 use node_rows::NodeRow;
 ghost use Rattle.image.specs.Tables.{Whole};
 ghost use Rattle.name_tables.specs.Tested.{NameBytesWithin};
 ghost use Rattle.pattern_typing.specs.Resolving.{resolvedNode};
 ghost use Rattle.node_rows.specs.Nodes.{nodeOf};
-ghost use Rattle.node_resolving.specs.Gives.{Gives};
+ghost use Rattle.name_resolving.specs.Gives.{Gives};
 
 // Wild is 3, Rest 1. A field is read where a record's fields are, and nowhere else.
 pub fn resolve_node(

@@ -1,30 +1,26 @@
 -- The ways through the pass over the rows. Assumes nothing.
-use Prim.Native.Nat.{ℕ, zero, suc, _+_, _*_, _-_, _≤_, _<_}
-use mathlib.Core.Path.{_≡_, refl, sym, ap, _∙_}
+use Prim.Native.Nat.{ℕ, suc, _+_, _*_, _-_, _≤_, _<_}
+use mathlib.Core.Path.{_≡_, sym, ap, _∙_}
 use mathlib.Core.Bool.{true}
-use mathlib.Core.Option.{Option, none}
-use mathlib.Core.List.{List, [], _∷_, _++_}
+use mathlib.Core.List.{List, [], _∷_}
 use native.Mathlib.Omega.{arith}
 use native.Mathlib.Numerals.{add-one}
-use lib.ListN.{length, drop}
+use lib.ListN.{length}
 use Rattle.row_tables.specs.Rows.{stored}
 use Rattle.row_tables.proofs.Tables.{past-stored}
 use Rattle.type_sheets.specs.Sheets.{sheetHolds}
 use Rattle.pattern_typing.specs.Contexts.{Context}
 use Rattle.pattern_typing.specs.Failing.{earlier}
 use Rattle.pattern_typing.specs.Resolving.{Resolved, resolved}
-use Rattle.pattern_typing.specs.Closed.{ClosedMaking, closedMaking}
 use Rattle.pattern_typing.specs.Downward.{Waiting, waitFor, nextContext, behindNext, Typed, typedBy, typeNode, typeNodes}
 use Rattle.pattern_typing.proofs.Downward.{type-append}
 use Rattle.node_rows.specs.declared.NodeRow.{NodeRow}
-use Rattle.node_rows.specs.declared.MakingRow.{MakingRow}
 use Rattle.node_rows.specs.Nodes.{nodeRowAt, nodeOf, closedNodeOf, nodesIn}
-use Rattle.node_rows.specs.Makings.{makingRowAt, makingOf, closedMakingOf, makingsIn}
+use Rattle.node_rows.specs.Makings.{makingRowAt, makingOf, closedMakingOf}
 use Rattle.type_parts.specs.Parts.{partsOf}
-use Rattle.node_resolving.specs.declared.Refused.{Refused}
-use Rattle.node_resolving.specs.declared.Resolution.{Resolution}
-use Rattle.node_resolving.specs.Gives.{refusedOf, resolvedOf, Gives}
-use Rattle.node_resolving.specs.Known.{ContextKnown}
+use Rattle.name_resolving.specs.declared.Refused.{Refused}
+use Rattle.name_resolving.specs.declared.Resolution.{Resolution}
+use Rattle.name_resolving.specs.Gives.{refusedOf, resolvedOf, Gives}
 use Rattle.node_resolving.proofs.Kept.{reads-known}
 use Rattle.node_typing.specs.declared.steps.TypedRow.{TypedRow}
 use Rattle.node_typing.specs.Rows.{makingWords, stackOf, StackKnown, Stacked, resolvedAt, RowTyped, untyped, NodesTyped}

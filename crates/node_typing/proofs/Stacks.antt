@@ -6,7 +6,7 @@ use mathlib.Core.List.{List, [], _∷_}
 use native.Mathlib.Omega.{arith}
 use native.Mathlib.Numerals.{add-one}
 use lib.ListN.{length, getD}
-use Rattle.row_tables.specs.Rows.{rowAt, rowsOf, stored}
+use Rattle.row_tables.specs.Rows.{rowAt, stored}
 use Rattle.row_tables.proofs.Tables.{row-of, rows-before, row-stored}
 use Rattle.type_sheets.specs.Sheets.{sheetHolds}
 use Rattle.pattern_typing.specs.Contexts.{PartsRead, unseen, partContext}

@@ -5,12 +5,11 @@ use mathlib.Core.List.{List, [], _∷_, _++_}
 use native.Mathlib.Omega.{arith}
 use lib.ListN.{length, take, drop, getD}
 use lib.Seq.{getD-take, getD-drop, drop-drop}
-use Rattle.row_tables.specs.Rows.{rowAt, rowsOf, stored}
-use Rattle.row_tables.proofs.Tables.{row-of, rows-before, row-stored, past-stored}
+use Rattle.row_tables.specs.Rows.{rowAt, stored}
+use Rattle.row_tables.proofs.Tables.{row-stored}
 use Rattle.node_rows.specs.declared.MakingRow.{MakingRow}
 use Rattle.node_rows.specs.Makings.{makingRowAt, closedMakingOf, makingsIn}
 use Rattle.pattern_typing.specs.Closed.{ClosedMaking}
-use Rattle.type_parts.specs.declared.PartsRow.{PartsRow}
 use Rattle.node_typing.specs.declared.tables.WaitingRow.{WaitingRow}
 use Rattle.node_typing.specs.Rows.{makingWords, waitingRow}
 

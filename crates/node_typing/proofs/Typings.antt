@@ -14,8 +14,8 @@ use Rattle.pattern_typing.specs.Downward.{Typed, waitFor, typingOf}
 use Rattle.pattern_typing.proofs.Downward.{pattern-typed}
 use Rattle.node_rows.specs.Nodes.{nodesIn}
 use Rattle.node_rows.specs.Makings.{makingsIn}
-use Rattle.node_resolving.specs.declared.Refused.{Refused}
-use Rattle.node_resolving.specs.Gives.{refusedOf, sameRow}
+use Rattle.name_resolving.specs.declared.Refused.{Refused}
+use Rattle.name_resolving.specs.Gives.{refusedOf, sameRow}
 use Rattle.type_parts.specs.declared.PartsRow.{PartsRow}
 use Rattle.type_parts.specs.Parts.{partsOf}
 use Rattle.node_typing.specs.Rows.{stackOf, Stacked, startsAt, NodesTyped, PatternTyped}

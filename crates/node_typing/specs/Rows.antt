@@ -1,8 +1,8 @@
 -- The tables of the downward pass: what the rows of parents that wait stand for, and what the pass leaves. Assumes nothing: these are definitions.
-use Prim.Native.Nat.{ℕ, zero, suc, _+_, _*_, _≤_, _<_}
+use Prim.Native.Nat.{ℕ, zero, suc, _+_, _*_, _≤_}
 use mathlib.Core.Path.{_≡_}
 use mathlib.Core.Bool.{true}
-use mathlib.Core.Option.{Option, none}
+use mathlib.Core.Option.{none}
 use mathlib.Core.List.{List, [], _∷_}
 use lib.ListN.{length, getD, drop}
 use Rattle.row_tables.specs.Rows.{rowAt}
@@ -18,8 +18,8 @@ use Rattle.node_rows.specs.Nodes.{nodeRowAt, nodeOf, nodesIn}
 use Rattle.node_rows.specs.Makings.{makingRowAt, closedMakingOf, makingsIn}
 use Rattle.type_parts.specs.declared.PartsRow.{PartsRow}
 use Rattle.type_parts.specs.Parts.{partsOf}
-use Rattle.node_resolving.specs.declared.Refused.{Refused}
-use Rattle.node_resolving.specs.Gives.{refusedOf}
+use Rattle.name_resolving.specs.declared.Refused.{Refused}
+use Rattle.name_resolving.specs.Gives.{refusedOf}
 use Rattle.node_resolving.specs.Known.{PartsKnown}
 use Rattle.node_typing.specs.declared.tables.WaitingRow.{WaitingRow}
 use Rattle.node_typing.specs.declared.steps.TypedRow.{TypedRow}

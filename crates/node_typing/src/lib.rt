@@ -5,8 +5,8 @@ pub mod steps; // steps.rt: one row
 pub mod tables; // tables.rt: the rows of the lent tables
 
 use image::Tables;
-use node_resolving::Refused;
-use node_resolving::rows::same_parts;
+use name_resolving::Refused;
+use name_resolving::rows::same_parts;
 use node_rows::TEXT_BYTES;
 use stack::wait_for;
 use steps::first_refused;
@@ -14,7 +14,6 @@ use steps::type_row;
 ghost use mathlib.Core.Path.{_≡_};
 ghost use mathlib.Core.Bool.{true};
 ghost use Prim.Native.Nat.{_<_, _≤_};
-ghost use lib.ListN.{length};
 ghost use Rattle.image.specs.Tables.{Whole, typeCount};
 ghost use Rattle.type_sheets.specs.Sheets.{sheetHolds};
 ghost use Rattle.name_tables.specs.Names.{namesHold};

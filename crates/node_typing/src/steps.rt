@@ -5,12 +5,12 @@ use crate::stack::wait_for;
 use crate::tables::node_at;
 use crate::tables::store_making;
 use image::Tables;
-use node_resolving::Refused;
+use name_resolving::Refused;
 use node_resolving::resolve;
 ghost use mathlib.Core.Path.{_≡_};
 ghost use Prim.Native.Nat.{_<_};
 ghost use Rattle.pattern_typing.specs.Failing.{earlier};
-ghost use Rattle.node_resolving.specs.Gives.{refusedOf};
+ghost use Rattle.name_resolving.specs.Gives.{refusedOf};
 ghost use Rattle.node_typing.specs.Rows.{Sized, Typing, RowTyped, StackKnown, stackOf};
 
 // How many parents wait, and whether the row is refused.

@@ -1,5 +1,5 @@
 -- The downward pass over the nodes of a tree gives what the tree does. Assumes nothing.
-use Prim.Native.Nat.{ℕ, zero, suc, _≤_, _<_}
+use Prim.Native.Nat.{ℕ, suc, _≤_}
 use mathlib.Core.Path.{_≡_, refl, sym, ap, _∙_}
 use mathlib.Core.Bool.{Bool, true, false, cond}
 use mathlib.Core.Option.{Option, none, some}
@@ -11,10 +11,10 @@ use Rattle.pattern_syntax.specs.Written.{Written, written, Parts, noParts, more
 use Rattle.pattern_syntax.specs.Closing.{ClosedNode, closedNode, closing, closingParts}
 use Rattle.pattern_typing.specs.Crossing.{byValue}
 use Rattle.pattern_typing.specs.Contexts.{Context, typed, PartsRead, partContext}
-use Rattle.pattern_typing.specs.Resolving.{Resolved, resolved}
+use Rattle.pattern_typing.specs.Resolving.{resolved}
 use Rattle.pattern_typing.specs.Failing.{lower, earlier, refusedIn, refusedAmong}
 use Rattle.pattern_typing.specs.Closed.{ClosedMaking, closedMaking, makings, makingsAmong}
-use Rattle.pattern_typing.specs.Downward.{Waiting, waitFor, nextContext, behindNext, lastPart, withoutLast, Typed, typedBy, typeNode, typeNodes, typingOf}
+use Rattle.pattern_typing.specs.Downward.{Waiting, waitFor, nextContext, behindNext, lastPart, withoutLast, Typed, typeNode, typeNodes, typingOf}
 
 -- the lower of two positions does not go by their order
 lower-comm : (a b : ℕ) → lower a b ≡ lower b a

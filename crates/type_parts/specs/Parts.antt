@@ -1,5 +1,4 @@
 -- What the numbers of types, fields, parts and contexts stand for. Assumes nothing: these are definitions.
-use Prim.Native.Nat.{ℕ}
 use mathlib.Core.Bool.{cond}
 use lib.Dec.{eqb}
 use Rattle.node_rows.specs.Nodes.{numberIn}

@@ -1,9 +1,8 @@
 -- What is known of the tables and the rows of a sheet that keeps its rules. Assumes nothing.
 use Prim.Native.Nat.{ℕ, zero, suc, _+_, _≤_, _<_}
-use mathlib.Core.Path.{_≡_, refl, sym, ap, _∙_}
-use mathlib.Core.Bool.{Bool, true, false, cond, not, _&&_}
-use mathlib.Core.List.{List, [], _∷_}
-use native.Mathlib.Numerals.{add-one}
+use mathlib.Core.Path.{_≡_, refl}
+use mathlib.Core.Bool.{Bool, true, false, cond, not}
+use mathlib.Core.List.{List}
 use native.Mathlib.Omega.{arith}
 use borrow.Author.Tests.{leb-true, ltb-true}
 use lib.Dec.{leb, eqb}
@@ -12,7 +11,7 @@ use Rattle.image.specs.Tables.{typeCount, variantCount, listCount, dataCount, t
 use Rattle.image.specs.Kinds.{typeKind, adtKind}
 use Rattle.image.specs.Rows.{typeAt, variantAt, listAt}
 use Rattle.image.specs.Lists.{allIn, allTrue}
-use Rattle.image.specs.Rules.{isFlag, inTable, namesType, listed, typesListed, adtMayHave, typeShapeHolds, typeHolds, variantHolds}
+use Rattle.image.specs.Rules.{inTable, namesType, listed, typesListed, adtMayHave, typeShapeHolds, typeHolds, variantHolds}
 use Rattle.image.proofs.Bools.{and-left, and-right, all-true-at, below-at}
 use Rattle.image.proofs.Known.{type-shape}
 use Rattle.type_sheets.specs.declared.Sheet.{Sheet}

@@ -1,9 +1,6 @@
 use borrow.Author.Needs.{needs}
 use Rattle.name_tables.proofs.name_row_at.Statement.{statement}
 use Rattle.name_tables.proofs.name_row_at.Tie as tie
-use Rattle.name_tables.proofs.name_row_at.Reads as reads
-use Rattle.name_tables.proofs.name_row_at.Lts as lts
-use Rattle.image.proofs.word_at.Reads as word-at-reads
 use Rattle.name_tables.specs.Names.{nameRowAt}
 
 returns : tie.Need-returns

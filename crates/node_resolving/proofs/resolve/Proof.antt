@@ -1,22 +1,11 @@
 use borrow.Author.Needs.{needs}
 use Rattle.node_resolving.proofs.resolve.Statement.{statement}
 use Rattle.node_resolving.proofs.resolve.Tie as tie
-use Rattle.node_resolving.proofs.resolve.Reads as reads
-use Rattle.node_resolving.proofs.resolve.Lts as lts
-use Rattle.node_resolving.proofs.fields.resolve_field.Reads as resolve-field-reads
-use Rattle.node_resolving.proofs.nodes.resolve_node.Reads as resolve-node-reads
-use Rattle.node_resolving.proofs.rests.resolve_rest.Reads as resolve-rest-reads
-use Rattle.node_resolving.proofs.rows.not_made.Reads as not-made-reads
-use Rattle.node_resolving.proofs.rows.refused_here.Reads as refused-here-reads
-use borrow.Author.Tests.{eq-eqb, ne-eqb, lt-ltb, le-ltb, le-leb, lt-leb}
-use native.Mathlib.Omega.{arith}
-use mathlib.Core.Path.{_≡_, refl, sym, _∙_}
-use Rattle.node_resolving.specs.Gives.{refusedOf, resolvedOf, namedAs, hasName, fieldRow, restBoundTo}
+use mathlib.Core.Path.{refl}
+use Rattle.name_resolving.specs.Gives.{refusedOf, resolvedOf}
 use Rattle.node_rows.specs.Makings.{makingOf}
 use Rattle.type_parts.specs.Parts.{partsOf}
-use Rattle.name_tables.specs.Tested.{useOf, foundIn}
-use Rattle.node_rows.specs.Nodes.{nameIn, nodeOf}
-use Rattle.node_resolving.proofs.Ways.{or-absent, always, refused-gives, where-found, where-lacking, path-found, path-lacking, none-named, ident-found, rest-found, marked, bind-gives, path-gives, gives-as}
+use Rattle.name_resolving.proofs.Ways.{refused-gives}
 use Rattle.pattern_typing.specs.Resolving.{resolved}
 use Rattle.type_parts.specs.Parts.{contextOf}
 

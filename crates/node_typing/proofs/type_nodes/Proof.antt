@@ -1,13 +1,7 @@
 use borrow.Author.Needs.{needs}
 use Rattle.node_typing.proofs.type_nodes.Statement.{statement}
 use Rattle.node_typing.proofs.type_nodes.Tie as tie
-use Rattle.node_typing.proofs.type_nodes.Reads as reads
-use Rattle.node_typing.proofs.type_nodes.Lts as lts
-use Rattle.node_resolving.proofs.rows.same_parts.Reads as same-parts-reads
-use Rattle.node_typing.proofs.stack.wait_for.Reads as wait-for-reads
-use Rattle.node_typing.proofs.type_rows.Reads as type-rows-reads
 use native.Mathlib.Omega.{arith}
-use mathlib.Core.Path.{_≡_, refl, sym, ap, _∙_}
 use Rattle.name_tables.proofs.Ruled.{bytes-within}
 use Rattle.node_typing.proofs.Typings.{root-waits, root-known, pattern-from}
 

@@ -1,14 +1,9 @@
 use Rattle.node_typing.proofs.type_rows.Statement.{statement}
 use Rattle.node_typing.proofs.type_rows.Tie as tie
-use Rattle.node_typing.proofs.type_rows.Reads as reads
-use Rattle.node_typing.proofs.type_rows.Lts as lts
-use Rattle.node_typing.proofs.steps.first_refused.Reads as first-refused-reads
-use Rattle.node_typing.proofs.steps.type_row.Reads as type-row-reads
-use borrow.Author.Tests.{eq-eqb, ne-eqb, lt-ltb, le-ltb, le-leb, lt-leb}
 use native.Mathlib.Omega.{arith}
-use mathlib.Core.Path.{_≡_, refl, sym, ap, _∙_}
+use mathlib.Core.Path.{_≡_, refl}
 use borrow.Author.Needs.{needs}
-use Prim.Native.Nat.{suc, _+_, _-_, _≤_, _<_}
+use Prim.Native.Nat.{suc, _-_}
 use lib.ListN.{length}
 use Rattle.node_typing.specs.Rows.{stackOf}
 use Rattle.node_typing.proofs.Passing.{Passing, pass-begins, row-passed, pass-ends}

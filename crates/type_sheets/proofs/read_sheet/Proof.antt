@@ -1,12 +1,6 @@
 use borrow.Author.Needs.{needs}
 use Rattle.type_sheets.proofs.read_sheet.Statement.{statement}
 use Rattle.type_sheets.proofs.read_sheet.Tie as tie
-use Rattle.type_sheets.proofs.read_sheet.Reads as reads
-use Rattle.type_sheets.proofs.read_sheet.Lts as lts
-use Rattle.marks.proofs.adts_apart.Reads as adts-apart-reads
-use Rattle.type_sheets.proofs.frame.read_sheet_frame.Reads as read-sheet-frame-reads
-use Rattle.read_image.proofs.patterns.patterns_hold.Reads as patterns-hold-reads
-use Rattle.read_image.proofs.tables_hold.rows_hold.Reads as rows-hold-reads
 use mathlib.Core.Path.{sym, _∙_}
 use borrow.Author.Tests.{not-true, not-false}
 use Rattle.type_sheets.proofs.Frames.{known, unknown}

@@ -1,10 +1,7 @@
 use Rattle.name_tables.proofs.lookup.is_same_word.Statement.{statement}
 use Rattle.name_tables.proofs.lookup.is_same_word.Tie as tie
-use Rattle.name_tables.proofs.lookup.is_same_word.Reads as reads
-use Rattle.name_tables.proofs.lookup.is_same_word.Lts as lts
 use Prim.Native.Nat.{_-_}
 use native.Mathlib.Omega.{arith}
-use borrow.Author.Needs.{needs}
 use lib.ListN.{length}
 use mathlib.Core.Path.{refl}
 use Rattle.name_tables.proofs.Found.{Alike, other-length, byte-differs, byte-same, all-same}

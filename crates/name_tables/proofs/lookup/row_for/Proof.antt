@@ -1,14 +1,8 @@
 use Rattle.name_tables.proofs.lookup.row_for.Statement.{statement}
 use Rattle.name_tables.proofs.lookup.row_for.Tie as tie
-use Rattle.name_tables.proofs.lookup.row_for.Reads as reads
-use Rattle.name_tables.proofs.lookup.row_for.Lts as lts
-use Rattle.image.proofs.word_at.Reads as word-at-reads
-use Rattle.name_tables.proofs.lookup.row_is_named.Reads as row-is-named-reads
-use borrow.Author.Needs.{needs}
 use native.Mathlib.Omega.{arith}
 use Prim.Native.Nat.{_-_}
-use mathlib.Core.Path.{_≡_, refl, sym, ap, _∙_}
-use mathlib.Core.Bool.{Bool}
+use mathlib.Core.Path.{sym, _∙_}
 use Rattle.name_tables.specs.Names.{isNamed, rowCount, rowFor}
 use Rattle.name_tables.specs.Tested.{useOf, foundIn}
 use Rattle.name_tables.proofs.Found.{Trying, try-first, hit, miss, no-more}

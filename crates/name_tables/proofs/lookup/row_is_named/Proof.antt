@@ -1,16 +1,9 @@
 use borrow.Author.Needs.{needs}
 use Rattle.name_tables.proofs.lookup.row_is_named.Statement.{statement}
 use Rattle.name_tables.proofs.lookup.row_is_named.Tie as tie
-use Rattle.name_tables.proofs.lookup.row_is_named.Reads as reads
-use Rattle.name_tables.proofs.lookup.row_is_named.Lts as lts
-use Rattle.image.proofs.word_at.Reads as word-at-reads
-use Rattle.name_tables.proofs.lookup.is_same_word.Reads as is-same-word-reads
-use Rattle.name_tables.proofs.lookup.row_serves.Reads as row-serves-reads
-use Rattle.name_tables.proofs.name_row_at.Reads as name-row-at-reads
 use native.Mathlib.Omega.{arith}
-use mathlib.Core.Path.{_≡_, refl, sym, ap, _∙_}
+use mathlib.Core.Path.{refl, sym, _∙_}
 use borrow.Author.Tests.{not-true, not-false}
-use Rattle.name_tables.specs.Names.{nameBytesAt}
 use Rattle.name_tables.proofs.Found.{serves-not, name-compared}
 
 name-row-at-requires : tie.Need-name-row-at-requires

@@ -1,10 +1,7 @@
 use borrow.Author.Needs.{needs}
 use Rattle.name_tables.proofs.lookup.row_serves.Statement.{statement}
 use Rattle.name_tables.proofs.lookup.row_serves.Tie as tie
-use Rattle.name_tables.proofs.lookup.row_serves.Reads as reads
-use Rattle.name_tables.proofs.lookup.row_serves.Lts as lts
 use borrow.Author.Tests.{eq-eqb, ne-eqb}
-use mathlib.Core.Path.{_≡_, sym, refl}
 use Rattle.name_tables.specs.Names.{serves}
 use Rattle.name_tables.specs.Tested.{useOf}
 

@@ -1,9 +1,6 @@
 use borrow.Author.Needs.{needs}
 use Rattle.name_tables.proofs.table.name_frame_holds.Statement.{statement}
 use Rattle.name_tables.proofs.table.name_frame_holds.Tie as tie
-use Rattle.name_tables.proofs.table.name_frame_holds.Reads as reads
-use Rattle.name_tables.proofs.table.name_frame_holds.Lts as lts
-use Rattle.image.proofs.word_at.Reads as word-at-reads
 use Rattle.name_tables.proofs.Ruled.{short, miscounted, other-version, many-rows, many-bytes, filling}
 
 returns : tie.Need-returns

@@ -1,11 +1,7 @@
 use borrow.Author.Needs.{needs}
 use Rattle.name_tables.proofs.table.name_row_holds.Statement.{statement}
 use Rattle.name_tables.proofs.table.name_row_holds.Tie as tie
-use Rattle.name_tables.proofs.table.name_row_holds.Reads as reads
-use Rattle.name_tables.proofs.table.name_row_holds.Lts as lts
-use Rattle.name_tables.proofs.table.names_something.Reads as names-something-reads
 use borrow.Author.Tests.{lt-leb, le-leb}
-use Rattle.name_tables.specs.Names.{namesSomething}
 
 returns : tie.Need-returns
 returns c = rw (lt-leb _ _ (c .if1 .taken))

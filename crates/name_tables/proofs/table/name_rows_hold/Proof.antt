@@ -1,11 +1,5 @@
 use Rattle.name_tables.proofs.table.name_rows_hold.Statement.{statement}
 use Rattle.name_tables.proofs.table.name_rows_hold.Tie as tie
-use Rattle.name_tables.proofs.table.name_rows_hold.Reads as reads
-use Rattle.name_tables.proofs.table.name_rows_hold.Lts as lts
-use Rattle.image.proofs.word_at.Reads as word-at-reads
-use Rattle.name_tables.proofs.name_row_at.Reads as name-row-at-reads
-use Rattle.name_tables.proofs.table.name_row_holds.Reads as name-row-holds-reads
-use borrow.Author.Needs.{needs}
 use native.Mathlib.Omega.{arith}
 use Prim.Native.Nat.{ℕ, _-_, _≤_}
 use mathlib.Core.Path.{_≡_, refl, sym, ap, _∙_}

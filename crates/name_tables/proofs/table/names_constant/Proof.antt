@@ -1,10 +1,6 @@
 use borrow.Author.Needs.{needs}
 use Rattle.name_tables.proofs.table.names_constant.Statement.{statement}
 use Rattle.name_tables.proofs.table.names_constant.Tie as tie
-use Rattle.name_tables.proofs.table.names_constant.Reads as reads
-use Rattle.name_tables.proofs.table.names_constant.Lts as lts
-use Rattle.image.proofs.rows.operand_at.Reads as operand-at-reads
-use Rattle.pattern_rules.proofs.operands.operand_holds.Reads as operand-holds-reads
 use mathlib.Core.Path.{sym, _∙_}
 use borrow.Author.Tests.{not-true, not-false}
 use Rattle.name_tables.proofs.Ruled.{operand-listed}

@@ -1,9 +1,6 @@
 use borrow.Author.Needs.{needs}
 use Rattle.name_tables.proofs.table.names_field.Statement.{statement}
 use Rattle.name_tables.proofs.table.names_field.Tie as tie
-use Rattle.name_tables.proofs.table.names_field.Reads as reads
-use Rattle.name_tables.proofs.table.names_field.Lts as lts
-use Rattle.image.proofs.rows.variant_at.Reads as variant-at-reads
 use borrow.Author.Tests.{le-ltb, lt-ltb}
 
 returns : tie.Need-returns

@@ -1,12 +1,8 @@
 use borrow.Author.Needs.{needs}
 use Rattle.name_tables.proofs.table.names_hold.Statement.{statement}
 use Rattle.name_tables.proofs.table.names_hold.Tie as tie
-use Rattle.name_tables.proofs.table.names_hold.Reads as reads
-use Rattle.name_tables.proofs.table.names_hold.Lts as lts
-use Rattle.name_tables.proofs.table.name_frame_holds.Reads as name-frame-holds-reads
-use Rattle.name_tables.proofs.table.name_rows_hold.Reads as name-rows-hold-reads
 use native.Mathlib.Omega.{arith}
-use mathlib.Core.Path.{_≡_, refl, sym, ap, _∙_}
+use mathlib.Core.Path.{sym, _∙_}
 use borrow.Author.Tests.{not-true, not-false}
 use Rattle.name_tables.specs.Names.{namesHold}
 use Rattle.name_tables.proofs.Ruled.{frame-long, frame-filled}

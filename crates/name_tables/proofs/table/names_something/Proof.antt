@@ -1,12 +1,7 @@
 use borrow.Author.Needs.{needs}
 use Rattle.name_tables.proofs.table.names_something.Statement.{statement}
 use Rattle.name_tables.proofs.table.names_something.Tie as tie
-use Rattle.name_tables.proofs.table.names_something.Reads as reads
-use Rattle.name_tables.proofs.table.names_something.Lts as lts
-use Rattle.name_tables.proofs.table.names_constant.Reads as names-constant-reads
-use Rattle.name_tables.proofs.table.names_field.Reads as names-field-reads
 use borrow.Author.Tests.{ne-eqb}
-use mathlib.Core.Path.{sym}
 use Rattle.name_tables.specs.Names.{namesSomething}
 
 returns : tie.Need-returns

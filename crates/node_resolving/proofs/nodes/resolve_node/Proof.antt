@@ -1,31 +1,12 @@
 use borrow.Author.Needs.{needs}
 use Rattle.node_resolving.proofs.nodes.resolve_node.Statement.{statement}
 use Rattle.node_resolving.proofs.nodes.resolve_node.Tie as tie
-use Rattle.node_resolving.proofs.nodes.resolve_node.Reads as reads
-use Rattle.node_resolving.proofs.nodes.resolve_node.Lts as lts
-use Rattle.node_resolving.proofs.bindings.resolve_ident.Reads as resolve-ident-reads
-use Rattle.node_resolving.proofs.bindings.resolve_path.Reads as resolve-path-reads
-use Rattle.node_resolving.proofs.leaves.resolve_bound.Reads as resolve-bound-reads
-use Rattle.node_resolving.proofs.leaves.resolve_bound_path.Reads as resolve-bound-path-reads
-use Rattle.node_resolving.proofs.leaves.resolve_literal.Reads as resolve-literal-reads
-use Rattle.node_resolving.proofs.leaves.resolve_or.Reads as resolve-or-reads
-use Rattle.node_resolving.proofs.leaves.resolve_range.Reads as resolve-range-reads
-use Rattle.node_resolving.proofs.leaves.resolve_reference.Reads as resolve-reference-reads
-use Rattle.node_resolving.proofs.lists.resolve_record.Reads as resolve-record-reads
-use Rattle.node_resolving.proofs.lists.resolve_slice.Reads as resolve-slice-reads
-use Rattle.node_resolving.proofs.lists.resolve_tuple.Reads as resolve-tuple-reads
-use Rattle.node_resolving.proofs.lists.resolve_tuple_struct.Reads as resolve-tuple-struct-reads
-use Rattle.node_resolving.proofs.rows.refused_here.Reads as refused-here-reads
-use Rattle.node_resolving.proofs.rows.whole_made.Reads as whole-made-reads
-use borrow.Author.Tests.{eq-eqb, ne-eqb, lt-ltb, le-ltb, le-leb, lt-leb}
-use native.Mathlib.Omega.{arith}
-use mathlib.Core.Path.{_≡_, refl, sym, _∙_}
-use Rattle.node_resolving.specs.Gives.{refusedOf, resolvedOf, namedAs, hasName, fieldRow, restBoundTo}
+use borrow.Author.Tests.{ne-eqb}
+use Rattle.name_resolving.specs.Gives.{refusedOf, resolvedOf}
 use Rattle.node_rows.specs.Makings.{makingOf}
 use Rattle.type_parts.specs.Parts.{partsOf}
-use Rattle.name_tables.specs.Tested.{useOf, foundIn}
 use Rattle.node_rows.specs.Nodes.{nameIn, nodeOf}
-use Rattle.node_resolving.proofs.Ways.{or-absent, always, refused-gives, where-found, where-lacking, path-found, path-lacking, none-named, ident-found, ident-path, field-found, rest-found, marked, bind-gives, path-gives, gives-as}
+use Rattle.name_resolving.proofs.Ways.{refused-gives}
 use Rattle.pattern_typing.specs.Resolving.{resolvedNode}
 
 returns : tie.Need-returns

@@ -1,14 +1,7 @@
 use borrow.Author.Needs.{needs}
 use Rattle.node_typing.proofs.stack.leave_part.Statement.{statement}
 use Rattle.node_typing.proofs.stack.leave_part.Tie as tie
-use Rattle.node_typing.proofs.stack.leave_part.Reads as reads
-use Rattle.node_typing.proofs.stack.leave_part.Lts as lts
-use Rattle.node_typing.proofs.tables.store_waiting.Reads as store-waiting-reads
-use Rattle.node_typing.proofs.tables.waiting_at.Reads as waiting-at-reads
-use borrow.Author.Tests.{eq-eqb, ne-eqb, lt-ltb, le-ltb, le-leb, lt-leb}
-use native.Mathlib.Omega.{arith}
-use mathlib.Core.Path.{_≡_, refl, sym, ap, _∙_}
-use Rattle.node_typing.proofs.Stacks.{none-wait, one-waits, none-left, parent-left, part-left, no-parent, no-part, last-part}
+use Rattle.node_typing.proofs.Stacks.{none-left, parent-left, part-left}
 
 returns : tie.Need-returns
 returns c = none-left _ _ (c .if1 .taken)

@@ -1,14 +1,8 @@
 use borrow.Author.Needs.{needs}
 use Rattle.node_typing.proofs.stack.next_context.Statement.{statement}
 use Rattle.node_typing.proofs.stack.next_context.Tie as tie
-use Rattle.node_typing.proofs.stack.next_context.Reads as reads
-use Rattle.node_typing.proofs.stack.next_context.Lts as lts
-use Rattle.node_typing.proofs.tables.waiting_at.Reads as waiting-at-reads
-use Rattle.type_parts.proofs.contexts.part_context.Reads as part-context-reads
-use borrow.Author.Tests.{eq-eqb, ne-eqb, lt-ltb, le-ltb, le-leb, lt-leb}
-use native.Mathlib.Omega.{arith}
-use mathlib.Core.Path.{_≡_, refl, sym, ap, _∙_}
-use Rattle.node_typing.proofs.Stacks.{none-wait, one-waits, none-left, parent-left, part-left, no-parent, no-part, last-part}
+use mathlib.Core.Path.{_∙_}
+use Rattle.node_typing.proofs.Stacks.{no-parent, no-part, last-part}
 use Rattle.type_parts.specs.Parts.{contextOf}
 
 returns : tie.Need-returns

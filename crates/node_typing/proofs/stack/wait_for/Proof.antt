@@ -1,13 +1,7 @@
 use borrow.Author.Needs.{needs}
 use Rattle.node_typing.proofs.stack.wait_for.Statement.{statement}
 use Rattle.node_typing.proofs.stack.wait_for.Tie as tie
-use Rattle.node_typing.proofs.stack.wait_for.Reads as reads
-use Rattle.node_typing.proofs.stack.wait_for.Lts as lts
-use Rattle.node_typing.proofs.tables.store_waiting.Reads as store-waiting-reads
-use borrow.Author.Tests.{eq-eqb, ne-eqb, lt-ltb, le-ltb, le-leb, lt-leb}
-use native.Mathlib.Omega.{arith}
-use mathlib.Core.Path.{_≡_, refl, sym, ap, _∙_}
-use Rattle.node_typing.proofs.Stacks.{none-wait, one-waits, none-left, parent-left, part-left, no-parent, no-part, last-part}
+use Rattle.node_typing.proofs.Stacks.{none-wait, one-waits}
 
 returns : tie.Need-returns
 returns c = none-wait _ _ (c .before .before .args .reads) (c .before .before .args .many) (c .if1 .taken)

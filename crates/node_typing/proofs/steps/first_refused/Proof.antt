@@ -1,12 +1,8 @@
 use borrow.Author.Needs.{needs}
 use Rattle.node_typing.proofs.steps.first_refused.Statement.{statement}
 use Rattle.node_typing.proofs.steps.first_refused.Tie as tie
-use Rattle.node_typing.proofs.steps.first_refused.Reads as reads
-use Rattle.node_typing.proofs.steps.first_refused.Lts as lts
-use borrow.Author.Tests.{eq-eqb, ne-eqb, lt-ltb, le-ltb, le-leb, lt-leb}
-use native.Mathlib.Omega.{arith}
-use mathlib.Core.Path.{_≡_, refl, sym, ap, _∙_}
-use Rattle.node_resolving.specs.Gives.{refusedOf}
+use borrow.Author.Tests.{lt-ltb, le-ltb}
+use Rattle.name_resolving.specs.Gives.{refusedOf}
 use Rattle.pattern_typing.specs.Failing.{lower, earlier}
 
 returns : tie.Need-returns

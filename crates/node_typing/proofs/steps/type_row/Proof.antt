@@ -1,17 +1,7 @@
 use borrow.Author.Needs.{needs}
 use Rattle.node_typing.proofs.steps.type_row.Statement.{statement}
 use Rattle.node_typing.proofs.steps.type_row.Tie as tie
-use Rattle.node_typing.proofs.steps.type_row.Reads as reads
-use Rattle.node_typing.proofs.steps.type_row.Lts as lts
-use Rattle.node_resolving.proofs.resolve.Reads as resolve-reads
-use Rattle.node_typing.proofs.stack.leave_part.Reads as leave-part-reads
-use Rattle.node_typing.proofs.stack.next_context.Reads as next-context-reads
-use Rattle.node_typing.proofs.stack.wait_for.Reads as wait-for-reads
-use Rattle.node_typing.proofs.tables.node_at.Reads as node-at-reads
-use Rattle.node_typing.proofs.tables.store_making.Reads as store-making-reads
-use borrow.Author.Tests.{eq-eqb, ne-eqb, lt-ltb, le-ltb, le-leb, lt-leb}
 use native.Mathlib.Omega.{arith}
-use mathlib.Core.Path.{_≡_, refl, sym, ap, _∙_}
 use Rattle.node_typing.proofs.Stacks.{next-known}
 use Rattle.node_typing.proofs.Passing.{row-typed}
 

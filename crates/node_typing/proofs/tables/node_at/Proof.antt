@@ -1,8 +1,6 @@
 use borrow.Author.Needs.{needs}
 use Rattle.node_typing.proofs.tables.node_at.Statement.{statement}
 use Rattle.node_typing.proofs.tables.node_at.Tie as tie
-use Rattle.node_typing.proofs.tables.node_at.Reads as reads
-use Rattle.node_typing.proofs.tables.node_at.Lts as lts
 use mathlib.Core.Path.{refl}
 use Rattle.node_rows.specs.Nodes.{nodeRowAt}
 

@@ -1,13 +1,9 @@
 use borrow.Author.Needs.{needs}
 use Rattle.type_parts.proofs.contexts.argument_context.Statement.{statement}
 use Rattle.type_parts.proofs.contexts.argument_context.Tie as tie
-use Rattle.type_parts.proofs.contexts.argument_context.Reads as reads
-use Rattle.type_parts.proofs.contexts.argument_context.Lts as lts
-use Rattle.type_parts.proofs.contexts.field_context.Reads as field-context-reads
-use Rattle.type_parts.proofs.contexts.stands_before.Reads as stands-before-reads
-use borrow.Author.Tests.{eq-eqb, ne-eqb, lt-ltb, le-ltb, le-leb, lt-leb}
-use mathlib.Core.Path.{_≡_, refl, sym, _∙_}
-use Rattle.type_parts.specs.Parts.{contextOf, partsOf}
+use borrow.Author.Tests.{le-leb, lt-leb}
+use mathlib.Core.Path.{sym, _∙_}
+use Rattle.type_parts.specs.Parts.{contextOf}
 use Rattle.pattern_typing.specs.Contexts.{argumentContext}
 
 returns : tie.Need-returns

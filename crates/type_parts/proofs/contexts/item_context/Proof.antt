@@ -1,14 +1,9 @@
 use borrow.Author.Needs.{needs}
 use Rattle.type_parts.proofs.contexts.item_context.Statement.{statement}
 use Rattle.type_parts.proofs.contexts.item_context.Tie as tie
-use Rattle.type_parts.proofs.contexts.item_context.Reads as reads
-use Rattle.type_parts.proofs.contexts.item_context.Lts as lts
-use Rattle.type_parts.proofs.contexts.is_rest_item.Reads as is-rest-item-reads
-use Rattle.type_parts.proofs.contexts.one_less.Reads as one-less-reads
-use Rattle.type_parts.proofs.sheet.type_in.Reads as type-in-reads
-use borrow.Author.Tests.{eq-eqb, ne-eqb, lt-ltb, le-ltb, le-leb, lt-leb}
-use mathlib.Core.Path.{_≡_, refl, sym, _∙_}
-use Rattle.type_parts.specs.Parts.{contextOf, partsOf}
+use borrow.Author.Tests.{eq-eqb, ne-eqb}
+use mathlib.Core.Path.{sym, _∙_}
+use Rattle.type_parts.specs.Parts.{contextOf}
 use Rattle.pattern_typing.specs.Contexts.{itemContext}
 
 returns : tie.Need-returns

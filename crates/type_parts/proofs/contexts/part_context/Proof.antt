@@ -1,14 +1,7 @@
 use borrow.Author.Needs.{needs}
 use Rattle.type_parts.proofs.contexts.part_context.Statement.{statement}
 use Rattle.type_parts.proofs.contexts.part_context.Tie as tie
-use Rattle.type_parts.proofs.contexts.part_context.Reads as reads
-use Rattle.type_parts.proofs.contexts.part_context.Lts as lts
-use Rattle.type_parts.proofs.contexts.argument_context.Reads as argument-context-reads
-use Rattle.type_parts.proofs.contexts.field_context.Reads as field-context-reads
-use Rattle.type_parts.proofs.contexts.item_context.Reads as item-context-reads
-use Rattle.type_parts.proofs.contexts.target_context.Reads as target-context-reads
-use borrow.Author.Tests.{eq-eqb, ne-eqb, lt-ltb, le-ltb, le-leb, lt-leb}
-use mathlib.Core.Path.{_≡_, refl, sym, _∙_}
+use borrow.Author.Tests.{ne-eqb}
 use Rattle.type_parts.specs.Parts.{contextOf, partsOf}
 use Rattle.pattern_typing.specs.Contexts.{partContext}
 

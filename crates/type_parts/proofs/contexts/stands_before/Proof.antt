@@ -1,9 +1,6 @@
 use Rattle.type_parts.proofs.contexts.stands_before.Statement.{statement}
 use Rattle.type_parts.proofs.contexts.stands_before.Tie as tie
-use Rattle.type_parts.proofs.contexts.stands_before.Reads as reads
-use Rattle.type_parts.proofs.contexts.stands_before.Lts as lts
-use borrow.Author.Tests.{eq-eqb, ne-eqb, lt-ltb, le-ltb, le-leb, lt-leb}
-use mathlib.Core.Path.{_≡_, refl, sym, _∙_}
+use borrow.Author.Tests.{eq-eqb, ne-eqb}
 use Rattle.node_rows.specs.Nodes.{numberIn}
 use Rattle.pattern_typing.specs.Contexts.{standsBefore}
 

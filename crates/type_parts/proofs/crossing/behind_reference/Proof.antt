@@ -1,9 +1,6 @@
 use Rattle.type_parts.proofs.crossing.behind_reference.Statement.{statement}
 use Rattle.type_parts.proofs.crossing.behind_reference.Tie as tie
-use Rattle.type_parts.proofs.crossing.behind_reference.Reads as reads
-use Rattle.type_parts.proofs.crossing.behind_reference.Lts as lts
-use borrow.Author.Tests.{eq-eqb, ne-eqb, lt-ltb, le-ltb, le-leb, lt-leb}
-use mathlib.Core.Path.{_≡_, refl, sym, _∙_}
+use borrow.Author.Tests.{eq-eqb, ne-eqb}
 use Rattle.pattern_typing.specs.Crossing.{behindReference}
 
 returns : tie.Need-returns

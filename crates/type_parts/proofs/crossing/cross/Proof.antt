@@ -1,11 +1,6 @@
 use Rattle.type_parts.proofs.crossing.cross.Statement.{statement}
 use Rattle.type_parts.proofs.crossing.cross.Tie as tie
-use Rattle.type_parts.proofs.crossing.cross.Reads as reads
-use Rattle.type_parts.proofs.crossing.cross.Lts as lts
-use Rattle.type_parts.proofs.crossing.behind_reference.Reads as behind-reference-reads
-use Rattle.type_parts.proofs.sheet.type_in.Reads as type-in-reads
 use borrow.Author.Needs.{needs}
-use native.Mathlib.Omega.{arith}
 use Prim.Native.Nat.{_-_}
 use Rattle.type_parts.proofs.Crossings.{Crossings, none-crossed, no-reference, reference-crossed, all-crossed}
 

@@ -1,12 +1,8 @@
 use borrow.Author.Needs.{needs}
 use Rattle.type_parts.proofs.crossing.has_variant.Statement.{statement}
 use Rattle.type_parts.proofs.crossing.has_variant.Tie as tie
-use Rattle.type_parts.proofs.crossing.has_variant.Reads as reads
-use Rattle.type_parts.proofs.crossing.has_variant.Lts as lts
-use Rattle.type_parts.proofs.sheet.type_in.Reads as type-in-reads
-use borrow.Author.Tests.{eq-eqb, ne-eqb, lt-ltb, le-ltb, le-leb, lt-leb}
-use mathlib.Core.Path.{_≡_, refl, sym, _∙_}
-use Rattle.pattern_typing.specs.Crossing.{hasVariantOf, tupleFields, variantFieldsOf}
+use borrow.Author.Tests.{eq-eqb, ne-eqb, le-leb, lt-leb}
+use Rattle.pattern_typing.specs.Crossing.{hasVariantOf}
 
 returns : tie.Need-returns
 unfolding hasVariantOf

@@ -1,14 +1,9 @@
 use borrow.Author.Needs.{needs}
 use Rattle.type_parts.proofs.crossing.variant_fields.Statement.{statement}
 use Rattle.type_parts.proofs.crossing.variant_fields.Tie as tie
-use Rattle.type_parts.proofs.crossing.variant_fields.Reads as reads
-use Rattle.type_parts.proofs.crossing.variant_fields.Lts as lts
-use Rattle.type_parts.proofs.crossing.has_variant.Reads as has-variant-reads
-use Rattle.type_parts.proofs.sheet.variant_in.Reads as variant-in-reads
-use borrow.Author.Tests.{eq-eqb, ne-eqb, lt-ltb, le-ltb, le-leb, lt-leb}
-use mathlib.Core.Path.{_≡_, refl, sym, _∙_}
+use mathlib.Core.Path.{sym, _∙_}
 use borrow.Author.Tests.{not-true, not-false}
-use Rattle.pattern_typing.specs.Crossing.{hasVariantOf, tupleFields, variantFieldsOf}
+use Rattle.pattern_typing.specs.Crossing.{variantFieldsOf}
 
 returns : tie.Need-returns
 unfolding variantFieldsOf

@@ -1,9 +1,6 @@
 use borrow.Author.Needs.{needs}
 use Rattle.type_parts.proofs.sheet.sheet_word.Statement.{statement}
 use Rattle.type_parts.proofs.sheet.sheet_word.Tie as tie
-use Rattle.type_parts.proofs.sheet.sheet_word.Reads as reads
-use Rattle.type_parts.proofs.sheet.sheet_word.Lts as lts
-use Rattle.text_chars.proofs.byte_of.Reads as byte-of-reads
 use Rattle.image.specs.Bytes.{wordAt}
 
 returns : tie.Need-returns

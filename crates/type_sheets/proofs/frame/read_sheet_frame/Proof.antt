@@ -1,11 +1,6 @@
 use borrow.Author.Needs.{needs}
 use Rattle.type_sheets.proofs.frame.read_sheet_frame.Statement.{statement}
 use Rattle.type_sheets.proofs.frame.read_sheet_frame.Tie as tie
-use Rattle.type_sheets.proofs.frame.read_sheet_frame.Reads as reads
-use Rattle.type_sheets.proofs.frame.read_sheet_frame.Lts as lts
-use Rattle.image.proofs.word_at.Reads as word-at-reads
-use Rattle.type_sheets.proofs.frame.read_sheet_tables.Reads as read-sheet-tables-reads
-use native.Mathlib.Omega.{arith}
 use Rattle.type_sheets.proofs.Frames.{short, miscounted, other-version}
 use Rattle.read_image.proofs.Frames.{begun}
 

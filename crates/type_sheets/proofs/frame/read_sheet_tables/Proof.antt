@@ -1,11 +1,6 @@
 use borrow.Author.Needs.{needs}
 use Rattle.type_sheets.proofs.frame.read_sheet_tables.Statement.{statement}
 use Rattle.type_sheets.proofs.frame.read_sheet_tables.Tie as tie
-use Rattle.type_sheets.proofs.frame.read_sheet_tables.Reads as reads
-use Rattle.type_sheets.proofs.frame.read_sheet_tables.Lts as lts
-use Rattle.image.proofs.tables_of.Reads as tables-of-reads
-use Rattle.type_sheets.proofs.frame.within_sheet_limits.Reads as within-sheet-limits-reads
-use native.Mathlib.Omega.{arith}
 use mathlib.Core.Path.{ap, sym, _∙_}
 use borrow.Author.Tests.{not-true, not-false}
 use Rattle.image.specs.Tables.{tablesOf}

@@ -1,7 +1,5 @@
 use Rattle.type_sheets.proofs.frame.within_sheet_limits.Statement.{statement}
 use Rattle.type_sheets.proofs.frame.within_sheet_limits.Tie as tie
-use Rattle.type_sheets.proofs.frame.within_sheet_limits.Reads as reads
-use Rattle.type_sheets.proofs.frame.within_sheet_limits.Lts as lts
 use borrow.Author.Tests.{lt-leb, le-leb}
 
 returns : tie.Need-returns

@@ -1,0 +1,4 @@
+pub mod ByKind
+pub mod Names
+pub mod Ways
+pub mod BoundRests
