@@ -1,0 +1,21 @@
+use borrow.Author.Needs.{needs}
+use Rattle.image_writing.proofs.pieces.write_part.Statement.{statement}
+use Rattle.image_writing.proofs.pieces.write_part.Tie as tie
+use Rattle.image_writing.proofs.pieces.write_part.Reads as reads
+use Rattle.image_writing.proofs.pieces.write_part.Lts as lts
+use Rattle.image_writing.proofs.pieces.write_bytes.Reads as write-bytes-reads
+use Rattle.image_writing.proofs.pieces.write_words.Reads as write-words-reads
+use native.Mathlib.Omega.{arith}
+use Rattle.image_writing.proofs.Composing.{part-written}
+
+returns : tie.Need-returns
+returns c =
+    let start = c .before .before .before .before .before .before .before .before .before .before .before in
+    let s = start .args in
+    let pre = start .pre in
+    let bytes = c .before .before .before .before .before .before .write-bytes in
+    let words = c .before .before .write-words in
+    (omega (arith, bytes .ensures .0, words .ensures .0), part-written (s .sheet .now) (s .from) (s .many) (s .draft .now) (s .first) (s .words) (pre .1 .0) (pre .1 .1) (s .image .now) (s .at) (bytes .result) _ _ (pre .0) (bytes .ensures .0) (bytes .ensures .1) (words .ensures .1))
+
+pub write-part-spec : {M : Type 1} → statement M
+write-part-spec = tie.close (tie.spec (λ c κs. search needs) (λ c κs. search needs) (λ c. search needs) returns)
