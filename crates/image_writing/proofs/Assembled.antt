@@ -152,7 +152,7 @@ module _ (sheet : List ℕ) (tables : Tables) (draft : List ℕ) (c : DraftCount
       let both = then t 17 upper lower middle t₁ t₂ e₁ e₂ (omega arith) (omega arith) in (
         ee ∙ length-image,
         e₃ ∙ ap (λ (n : ℕ). stored t₂ 0 (headBytes (n - 4) tables c)) ee
-        ∙ ap (λ (l : List ℕ). stored l 0 head) both
-        ∙ stored-before t 0 head (upper ++ lower) 17 (omega arith) (omega (arith, length-append upper lower))
-        ∙ ap (stored t 0) image-is,
+            ∙ ap (λ (l : List ℕ). stored l 0 head) both
+            ∙ stored-before t 0 head (upper ++ lower) 17 (omega arith) (omega (arith, length-append upper lower))
+            ∙ ap (stored t 0) image-is,
       )

@@ -22,7 +22,13 @@ ghost use Rattle.image_writing.specs.Writing.{WithinLimits, upperTables,
 pub const IMAGE_BYTES: usize = 34321;
 
 // Types, variants and patterns, from byte 17 on.
-fn write_upper(sheet: &[u8], tables: Tables, draft: &[u16], counts: DraftCounts, image: &mut [u8]) -> usize
+fn write_upper(
+    sheet: &[u8],
+    tables: Tables,
+    draft: &[u16],
+    counts: DraftCounts,
+    image: &mut [u8],
+) -> usize
     requires { ⌜ (Whole (now sheet) tables × WithinLimits tables counts) × ((length (now draft) ≡ 40704) × (length (now image) ≡ 34321)) ⌝ }
     ensures { λ r. ⌜ (r ≡ upperEnd tables counts) × (now (image .exit) ≡ stored (now (image .entry)) 17 (upperTables (now (sheet .entry)) tables (now (draft .entry)) counts)) ⌝ }
 {
@@ -36,11 +42,27 @@ fn write_upper(sheet: &[u8], tables: Tables, draft: &[u16], counts: DraftCounts,
     let patterns_at = tables.patterns.at as usize;
     let after_types = write_part(image, 17, sheet, types_at, types, draft, 0, added_types);
     let after_variants = write_bytes(image, after_types, sheet, variants_at, variants);
-    write_part(image, after_variants, sheet, patterns_at, patterns, draft, PATTERNS, added_patterns)
+    write_part(
+        image,
+        after_variants,
+        sheet,
+        patterns_at,
+        patterns,
+        draft,
+        PATTERNS,
+        added_patterns,
+    )
 }
 
 // Bindings, the list and the data, behind those.
-fn write_lower(sheet: &[u8], tables: Tables, draft: &[u16], counts: DraftCounts, image: &mut [u8], at: usize) -> usize
+fn write_lower(
+    sheet: &[u8],
+    tables: Tables,
+    draft: &[u16],
+    counts: DraftCounts,
+    image: &mut [u8],
+    at: usize,
+) -> usize
     requires { ⌜ ((Whole (now sheet) tables × WithinLimits tables counts) × ((length (now draft) ≡ 40704) × (length (now image) ≡ 34321))) × ((at ≡ upperEnd tables counts) × AtMost 255 (now draft) 7936 (counts .bytes)) ⌝ }
     ensures { λ r. ⌜ (r ≡ imageEnd tables counts) × (now (image .exit) ≡ stored (now (image .entry)) at (lowerTables (now (sheet .entry)) tables (now (draft .entry)) counts)) ⌝ }
 {
@@ -53,8 +75,26 @@ fn write_lower(sheet: &[u8], tables: Tables, draft: &[u16], counts: DraftCounts,
     let bindings_at = tables.bindings.at as usize;
     let list_at = tables.list.at as usize;
     let data_at = tables.bytes.at as usize;
-    let after_bindings = write_part(image, at, sheet, bindings_at, bindings, draft, BINDINGS, added_bindings);
-    let after_list = write_part(image, after_bindings, sheet, list_at, list, draft, WORDS, added_words);
+    let after_bindings = write_part(
+        image,
+        at,
+        sheet,
+        bindings_at,
+        bindings,
+        draft,
+        BINDINGS,
+        added_bindings,
+    );
+    let after_list = write_part(
+        image,
+        after_bindings,
+        sheet,
+        list_at,
+        list,
+        draft,
+        WORDS,
+        added_words,
+    );
     let after_data = write_bytes(image, after_list, sheet, data_at, data);
     write_data(image, after_data, draft, BYTES, added_bytes)
 }
@@ -80,7 +120,13 @@ fn write_head(follow: usize, tables: Tables, counts: DraftCounts, image: &mut [u
 }
 
 // The image, from byte 0 on: its length.
-pub fn write_image(sheet: &[u8], tables: Tables, draft: &[u16], counts: DraftCounts, image: &mut [u8; IMAGE_BYTES]) -> usize
+pub fn write_image(
+    sheet: &[u8],
+    tables: Tables,
+    draft: &[u16],
+    counts: DraftCounts,
+    image: &mut [u8; IMAGE_BYTES],
+) -> usize
     requires { ⌜ (Whole (now sheet) tables × WithinLimits tables counts) × ((length (now draft) ≡ 40704) × AtMost 255 (now draft) 7936 (counts .bytes)) ⌝ }
     ensures { λ r. ⌜ ImageWritten (now (sheet .entry)) (now (draft .entry)) counts (now (image .entry)) r (now (image .exit)) ⌝ }
 {

@@ -48,10 +48,22 @@ pub fn write_data(image: &mut [u8], at: usize, source: &[u16], from: usize, many
 }
 
 // So many bytes of a sheet, and behind them so many words of a draft.
-pub fn write_part(image: &mut [u8], at: usize, sheet: &[u8], from: usize, many: usize, draft: &[u16], first: usize, words: usize) -> usize
+pub fn write_part(
+    image: &mut [u8],
+    at: usize,
+    sheet: &[u8],
+    from: usize,
+    many: usize,
+    draft: &[u16],
+    first: usize,
+    words: usize,
+) -> usize
     requires { ⌜ (at + many + 2 * words ≤ length (now image)) × ((from + many ≤ length (now sheet)) × (first + words ≤ length (now draft))) ⌝ }
     ensures { λ r. ⌜ (r ≡ at + many + 2 * words) × (now (image .exit) ≡ stored (now (image .entry)) at (partBytes (now (sheet .entry)) from many (now (draft .entry)) first words)) ⌝ }
 {
-    let behind = write_bytes(image, at, sheet, from, many);
-    write_words(image, behind, draft, first, words)
+    let added = 2 * words;
+    let behind = at + many;
+    write_bytes(image, at, sheet, from, many);
+    write_words(image, behind, draft, first, words);
+    at + many + added
 }
