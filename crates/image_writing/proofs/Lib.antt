@@ -1,0 +1,4 @@
+pub mod Storing
+pub mod Composing
+pub mod RowBytes
+pub mod Assembled
