@@ -42,7 +42,7 @@ module _ (tables : Tables) (table : List ℕ) (size : length table ≡ 40704) (c
   pub low-within : (low : DraftCounts) (many : ℕ) → low ≡ heightIs base c → base + many ≤ 16384 → WithinDraft low × (low .height + many ≤ 16384)
   low-within low many e fits = (room-within tables low (low-room low e), subst (λ (d : DraftCounts). d .height + many ≤ 16384) (sym e) fits)
 
-  cut-only : (low : DraftCounts) → low ≡ heightIs base c → DraftHeld tables table c (λ names s. cutTo base s) low table
+  pub cut-only : (low : DraftCounts) → low ≡ heightIs base c → DraftHeld tables table c (λ names s. cutTo base s) low table
   unfolding stackedIn
   cut-only low e =
       record { room = low-room low e; holds = all; derefs = λ kept names. ap (λ (s : Stacked). derefsWithin (s .draft .patterns)) (all names) ∙ kept names }
