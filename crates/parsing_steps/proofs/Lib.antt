@@ -1,3 +1,4 @@
 pub mod Passing
 pub mod Lasting
 pub mod LastItems
+pub mod Enders
