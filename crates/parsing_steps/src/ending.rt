@@ -107,7 +107,7 @@ pub fn shut_grown(stack: &mut [u16; NODE_WORDS], nodes: &mut [u16; NODE_WORDS], 
 }
 
 // A mark behind a list's item.
-fn ended_item(
+pub fn ended_item(
     stack: &mut [u16; NODE_WORDS],
     nodes: &mut [u16; NODE_WORDS],
     below: usize,
@@ -136,7 +136,7 @@ fn ended_item(
 }
 
 // A mark behind a field's pattern.
-fn ended_field(
+pub fn ended_field(
     stack: &mut [u16; NODE_WORDS],
     nodes: &mut [u16; NODE_WORDS],
     below: usize,

@@ -1,4 +1,5 @@
 // The parser's moves on lent tables: the stack of what waits, and the nodes that have closed.
+mod behind;
 mod ending;
 mod settling;
 
