@@ -14,7 +14,7 @@ use Rattle.parsing_machine.specs.Waiting.{Opened, opened, nodeKind, partMore, b
 use Rattle.node_tables.specs.Tables.{Puts, rowKind, rowsDown, openedOf}
 use Rattle.node_tables.proofs.Downward.{rows-below, rows-put, kind-same}
 use Rattle.parsing_steps.specs.declared.Heights.{Heights}
-use Rattle.parsing_steps.specs.Settling.{grownRow, PartsMost, passesFirst, Passes, BeginsLast, SettlesLast, Settles}
+use Rattle.parsing_steps.specs.Settling.{grownRow, PartsMost, passesFirst, Passes, BeginsLast, SettlesLast, Settles, Shuts}
 use Rattle.parsing_steps.proofs.Passing.{grown-node}
 
 innermostOr : List ClosedNode → Bool
@@ -127,3 +127,16 @@ settles {stack} p l = record {
 
 pub fewer : {most : ℕ} {stack : List ℕ} {depth d : ℕ} → PartsMost most stack depth → d ≤ depth → PartsMost most stack d
 fewer w h = record { fit = λ i l. w .fit i (omega (arith, l, h)) }
+
+-- a node is put, and what waits for it settles
+pub shuts :
+    {stack nodes middle : List ℕ} {below rows n : ℕ} {w : NodeRow} {stack′ nodes′ : List ℕ} {r : Heights}
+    → Puts nodes rows w middle → n ≡ suc rows → Settles stack middle below n stack′ nodes′ r → Shuts stack nodes below rows w stack′ nodes′ r
+shuts {stack} {nodes} {middle} {below} {rows} p e s = record {
+  shows = λ text names.
+    s .shows text names
+    ∙ (ap (λ x. settle (rowsDown text names stack below) (rowsDown text names middle x)) e
+    ∙ ap (settle (rowsDown text names stack below)) (rows-put p text names));
+  total = let t = s .total in omega (arith, t, e);
+  raises = s .raises;
+}

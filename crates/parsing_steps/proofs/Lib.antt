@@ -1,2 +1,5 @@
 pub mod Passing
 pub mod Lasting
+pub mod LastItems
+pub mod Enders
+pub mod Behinds

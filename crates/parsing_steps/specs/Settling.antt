@@ -6,7 +6,7 @@ use mathlib.Core.List.{List, [], _∷_}
 use lib.Dec.{eqb}
 use Rattle.pattern_syntax.specs.Closing.{ClosedNode}
 use Rattle.node_rows.specs.declared.NodeRow.{NodeRow}
-use Rattle.node_rows.specs.Nodes.{nodeRowAt}
+use Rattle.node_rows.specs.Nodes.{nodeRowAt, closedNodeOf}
 use Rattle.parsing_machine.specs.Waiting.{nodeKind, begunLast, settle}
 use Rattle.node_tables.specs.Tables.{rowKind, rowsDown, openedOf}
 use Rattle.parsing_steps.specs.declared.Heights.{Heights}
@@ -63,3 +63,12 @@ pub record SettlesLast (stack nodes : List ℕ) (depth rows : ℕ) (stack′ nod
       → openedOf text names stack′ nodes′ (r .depth) (r .rows) ≡ settle (rowsDown text names stack depth) (rowsDown text names nodes rows)
   pub total : r .depth + r .rows ≤ depth + rows
   pub raises : (most : ℕ) → PartsMost most stack depth → PartsMost (suc most) stack′ (r .depth)
+
+-- a node closes above what waits
+pub record Shuts (stack nodes : List ℕ) (below rows : ℕ) (w : NodeRow) (stack′ nodes′ : List ℕ) (r : Heights) : Type 0 where
+  pub shows :
+    (text names : List ℕ)
+    → openedOf text names stack′ nodes′ (r .depth) (r .rows)
+      ≡ settle (rowsDown text names stack below) (closedNodeOf text names w ∷ rowsDown text names nodes rows)
+  pub total : r .depth + r .rows ≤ suc (below + rows)
+  pub raises : (most : ℕ) → PartsMost most stack below → PartsMost (suc most) stack′ (r .depth)

@@ -7,7 +7,7 @@ use node_tables::node_at;
 use node_tables::put_node;
 ghost use mathlib.Core.Path.{_≡_};
 ghost use Prim.Native.Nat.{_+_, _<_, _≤_};
-ghost use Rattle.parsing_steps.specs.Settling.{passesBy, grownRow, begunRow, PartsMost, Passes, BeginsLast, SettlesLast, Settles};
+ghost use Rattle.parsing_steps.specs.Settling.{passesBy, grownRow, begunRow, PartsMost, Passes, BeginsLast, SettlesLast, Settles, Shuts};
 
 // A name with `@` or a reference closes with what it waits for.
 fn passes(row: NodeRow) -> bool
@@ -50,6 +50,7 @@ fn begun_row(at: u16, row: NodeRow) -> NodeRow
 }
 
 // Names with `@` and references that wait innermost close.
+<<<<<<< HEAD
 fn pass(
     stack: &[u16; NODE_WORDS],
     nodes: &mut [u16; NODE_WORDS],
@@ -57,6 +58,10 @@ fn pass(
     rows: usize,
 ) -> Heights
     requires { ⌜ (depth + rows ≤ 16384) × PartsMost 30000 (now stack) depth ⌝ }
+=======
+fn pass(stack: &[u16; NODE_WORDS], nodes: &mut [u16; NODE_WORDS], depth: usize, rows: usize) -> Heights
+    requires { ⌜ (depth + rows ≤ 16384) × PartsMost 30001 (now stack) depth ⌝ }
+>>>>>>> s14parse
     ensures { λ r. ⌜ Passes (now (stack .entry)) (now (nodes .entry)) depth rows (now (nodes .exit)) r ⌝ }
 {
     let mut d = depth;
@@ -86,6 +91,7 @@ pub fn begin_last(nodes: &mut [u16; NODE_WORDS], rows: usize, at: u16)
 }
 
 // What waits innermost is a leading `|`, an Or, or stays as it is.
+<<<<<<< HEAD
 fn settle_last(
     stack: &mut [u16; NODE_WORDS],
     nodes: &mut [u16; NODE_WORDS],
@@ -93,6 +99,10 @@ fn settle_last(
     rows: usize,
 ) -> Heights
     requires { ⌜ (depth + rows ≤ 16384) × PartsMost 30000 (now stack) depth ⌝ }
+=======
+fn settle_last(stack: &mut [u16; NODE_WORDS], nodes: &mut [u16; NODE_WORDS], depth: usize, rows: usize) -> Heights
+    requires { ⌜ (depth + rows ≤ 16384) × PartsMost 30001 (now stack) depth ⌝ }
+>>>>>>> s14parse
     ensures { λ r. ⌜ SettlesLast (now (stack .entry)) (now (nodes .entry)) depth rows (now (stack .exit)) (now (nodes .exit)) r ⌝ }
 {
     if depth == 0 {
@@ -115,6 +125,7 @@ fn settle_last(
     Heights { depth, rows }
 }
 
+<<<<<<< HEAD
 pub fn settle(
     stack: &mut [u16; NODE_WORDS],
     nodes: &mut [u16; NODE_WORDS],
@@ -122,10 +133,23 @@ pub fn settle(
     rows: usize,
 ) -> Heights
     requires { ⌜ (depth + rows ≤ 16384) × PartsMost 30000 (now stack) depth ⌝ }
+=======
+pub fn settle(stack: &mut [u16; NODE_WORDS], nodes: &mut [u16; NODE_WORDS], depth: usize, rows: usize) -> Heights
+    requires { ⌜ (depth + rows ≤ 16384) × PartsMost 30001 (now stack) depth ⌝ }
+>>>>>>> s14parse
     ensures { λ r. ⌜ Settles (now (stack .entry)) (now (nodes .entry)) depth rows (now (stack .exit)) (now (nodes .exit)) r ⌝ }
 {
     let h = pass(stack, nodes, depth, rows);
     let d = h.depth;
     let n = h.rows;
     settle_last(stack, nodes, d, n)
+}
+
+// A node closes above what waits below it.
+pub fn shut(stack: &mut [u16; NODE_WORDS], nodes: &mut [u16; NODE_WORDS], below: usize, rows: usize, w: NodeRow) -> Heights
+    requires { ⌜ (below + rows < 16384) × PartsMost 30001 (now stack) below ⌝ }
+    ensures { λ r. ⌜ Shuts (now (stack .entry)) (now (nodes .entry)) below rows w (now (stack .exit)) (now (nodes .exit)) r ⌝ }
+{
+    put_node(nodes, rows, w);
+    settle(stack, nodes, below, rows + 1)
 }
