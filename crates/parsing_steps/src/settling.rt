@@ -50,18 +50,8 @@ fn begun_row(at: u16, row: NodeRow) -> NodeRow
 }
 
 // Names with `@` and references that wait innermost close.
-<<<<<<< HEAD
-fn pass(
-    stack: &[u16; NODE_WORDS],
-    nodes: &mut [u16; NODE_WORDS],
-    depth: usize,
-    rows: usize,
-) -> Heights
-    requires { ⌜ (depth + rows ≤ 16384) × PartsMost 30000 (now stack) depth ⌝ }
-=======
 fn pass(stack: &[u16; NODE_WORDS], nodes: &mut [u16; NODE_WORDS], depth: usize, rows: usize) -> Heights
     requires { ⌜ (depth + rows ≤ 16384) × PartsMost 30001 (now stack) depth ⌝ }
->>>>>>> s14parse
     ensures { λ r. ⌜ Passes (now (stack .entry)) (now (nodes .entry)) depth rows (now (nodes .exit)) r ⌝ }
 {
     let mut d = depth;
@@ -91,18 +81,8 @@ pub fn begin_last(nodes: &mut [u16; NODE_WORDS], rows: usize, at: u16)
 }
 
 // What waits innermost is a leading `|`, an Or, or stays as it is.
-<<<<<<< HEAD
-fn settle_last(
-    stack: &mut [u16; NODE_WORDS],
-    nodes: &mut [u16; NODE_WORDS],
-    depth: usize,
-    rows: usize,
-) -> Heights
-    requires { ⌜ (depth + rows ≤ 16384) × PartsMost 30000 (now stack) depth ⌝ }
-=======
 fn settle_last(stack: &mut [u16; NODE_WORDS], nodes: &mut [u16; NODE_WORDS], depth: usize, rows: usize) -> Heights
     requires { ⌜ (depth + rows ≤ 16384) × PartsMost 30001 (now stack) depth ⌝ }
->>>>>>> s14parse
     ensures { λ r. ⌜ SettlesLast (now (stack .entry)) (now (nodes .entry)) depth rows (now (stack .exit)) (now (nodes .exit)) r ⌝ }
 {
     if depth == 0 {
@@ -125,18 +105,8 @@ fn settle_last(stack: &mut [u16; NODE_WORDS], nodes: &mut [u16; NODE_WORDS], dep
     Heights { depth, rows }
 }
 
-<<<<<<< HEAD
-pub fn settle(
-    stack: &mut [u16; NODE_WORDS],
-    nodes: &mut [u16; NODE_WORDS],
-    depth: usize,
-    rows: usize,
-) -> Heights
-    requires { ⌜ (depth + rows ≤ 16384) × PartsMost 30000 (now stack) depth ⌝ }
-=======
 pub fn settle(stack: &mut [u16; NODE_WORDS], nodes: &mut [u16; NODE_WORDS], depth: usize, rows: usize) -> Heights
     requires { ⌜ (depth + rows ≤ 16384) × PartsMost 30001 (now stack) depth ⌝ }
->>>>>>> s14parse
     ensures { λ r. ⌜ Settles (now (stack .entry)) (now (nodes .entry)) depth rows (now (stack .exit)) (now (nodes .exit)) r ⌝ }
 {
     let h = pass(stack, nodes, depth, rows);
