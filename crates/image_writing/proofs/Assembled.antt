@@ -9,10 +9,11 @@ use Rattle.image.specs.Tables.{Whole}
 use Rattle.row_tables.specs.Rows.{rowsOf, stored}
 use Rattle.row_tables.proofs.Tables.{length-rows}
 use Rattle.pattern_images.specs.Drafts.{Draft}
-use Rattle.pattern_images.specs.Imaging.{wordBytes, wordsBytes, longBytes, tablesWith, behindLength, imageWith}
+use Rattle.pattern_images.specs.Imaging.{wordBytes, wordsBytes, longBytes, typeBytes, patternBytes, bindingBytes, tablesWith, behindLength, imageWith}
 use Rattle.draft_tables.specs.declared.DraftCounts.{DraftCounts}
 use Rattle.draft_tables.specs.Layout.{typeOfWords, patternOfWords, bindingOfWords, draftIn}
-use Rattle.image_writing.specs.Writing.{WithinLimits, partBytes, upperTables, upperEnd, lowerTables, imageEnd, headBytes, ImageWritten}
+use Rattle.draft_tables.specs.Room.{DraftRoom}
+use Rattle.image_writing.specs.Writing.{WithinLimits, partBytes, upperTables, upperEnd, lowerTables, imageEnd, headBytes}
 use Rattle.image_writing.proofs.Storing.{stored-before, length-chosen}
 use Rattle.image_writing.proofs.Composing.{then, three, length-upper, length-lower}
 use Rattle.image_writing.proofs.RowBytes.{types-bytes, patterns-bytes, bindings-bytes}
@@ -33,7 +34,7 @@ head-written follow tables c t p q t₁ t₂ t₃ long ep eq e₁ e₂ e₃ =
     let lv : length version ≡ 1 = refl in
     three t 0 a version b p q t₁ t₂ t₃ e₁ e₂ e₃ (omega arith) (omega arith) (omega arith)
 
--- eleven pieces, in three groups and in a row
+-- eleven pieces, in groups and in a row
 regrouped : (x₁ x₂ x₃ x₄ x₅ y₁ y₂ y₃ y₄ y₅ y₆ : List ℕ) →
     ((x₁ ++ x₂) ++ (x₃ ++ (x₄ ++ x₅))) ++ ((y₁ ++ y₂) ++ ((y₃ ++ y₄) ++ (y₅ ++ y₆))) ≡ x₁ ++ (x₂ ++ (x₃ ++ (x₄ ++ (x₅ ++ (y₁ ++ (y₂ ++ (y₃ ++ (y₄ ++ (y₅ ++ y₆)))))))))
 regrouped x₁ x₂ x₃ x₄ x₅ y₁ y₂ y₃ y₄ y₅ y₆ = simp append-assoc
@@ -42,15 +43,15 @@ module _ (sheet : List ℕ) (tables : Tables) (draft : List ℕ) (c : DraftCount
   abbrev added : Draft
   added = draftIn names draft c
 
-  types-added : wordsBytes (take (5 * c .types) (drop 0 draft)) ≡ Rattle.pattern_images.specs.Imaging.typeBytes (added .types)
+  types-added : wordsBytes (take (5 * c .types) (drop 0 draft)) ≡ typeBytes (added .types)
   unfolding draftIn
   types-added = let b = within in sym (types-bytes (drop 0 draft) (c .types) (omega (arith, length-drop 0 draft)))
 
-  patterns-added : wordsBytes (take (7 * c .patterns) (drop 1280 draft)) ≡ Rattle.pattern_images.specs.Imaging.patternBytes (added .patterns)
+  patterns-added : wordsBytes (take (7 * c .patterns) (drop 1280 draft)) ≡ patternBytes (added .patterns)
   unfolding draftIn
   patterns-added = let b = within in sym (patterns-bytes (drop 1280 draft) (c .patterns) (omega (arith, length-drop 1280 draft)))
 
-  bindings-added : wordsBytes (take (2 * c .bindings) (drop 4864 draft)) ≡ Rattle.pattern_images.specs.Imaging.bindingBytes (added .bindings)
+  bindings-added : wordsBytes (take (2 * c .bindings) (drop 4864 draft)) ≡ bindingBytes (added .bindings)
   unfolding draftIn
   bindings-added = let b = within in sym (bindings-bytes (drop 4864 draft) (c .bindings) (omega (arith, length-drop 4864 draft)))
 
@@ -156,3 +157,8 @@ module _ (sheet : List ℕ) (tables : Tables) (draft : List ℕ) (c : DraftCount
             ∙ stored-before t 0 head (upper ++ lower) 17 (omega arith) (omega (arith, length-append upper lower))
             ∙ ap (stored t 0) image-is,
       )
+
+-- counts with room beside those of a sheet that keeps its own limits are within the image's
+pub limits-of-room : (tables : Tables) (c : DraftCounts) → DraftRoom tables c → tables .variants .count ≤ 512 → WithinLimits tables c
+limits-of-room tables c room variants =
+    record { types = room .types; variants = variants; patterns = room .patterns; bindings = room .bindings; words = room .words; bytes = room .bytes }

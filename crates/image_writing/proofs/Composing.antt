@@ -1,15 +1,15 @@
 -- The image's pieces, written one behind the other: how long each is, and what was written. Assumes nothing.
 use Prim.Native.Nat.{ℕ, _+_, _*_, _≤_}
-use mathlib.Core.Path.{_≡_, refl, sym, ap, _∙_}
-use mathlib.Core.List.{List, [], _∷_, _++_}
+use mathlib.Core.Path.{_≡_, ap, _∙_}
+use mathlib.Core.List.{List, _++_, append-assoc}
 use native.Mathlib.Omega.{arith}
 use lib.ListN.{length, take, drop, length-append}
 use Rattle.image.specs.declared.Tables.{Tables}
 use Rattle.image.specs.Tables.{Whole}
 use Rattle.row_tables.specs.Rows.{stored}
-use Rattle.pattern_images.specs.Imaging.{wordBytes, wordsBytes, longBytes, tableOf}
+use Rattle.pattern_images.specs.Imaging.{wordsBytes, tableOf}
 use Rattle.draft_tables.specs.declared.DraftCounts.{DraftCounts}
-use Rattle.image_writing.specs.Writing.{WithinLimits, partBytes, upperTables, upperEnd, lowerTables, imageEnd, headBytes}
+use Rattle.image_writing.specs.Writing.{WithinLimits, partBytes, upperTables, upperEnd, lowerTables, imageEnd}
 use Rattle.image_writing.proofs.Storing.{stored-behind, length-words, length-chosen}
 
 -- one piece behind another
@@ -46,14 +46,14 @@ pub three : (t : List ℕ) (at : ℕ) (a b c : List ℕ) (p q : ℕ) (t₁ t₂ 
 three t at a b c p q t₁ t₂ t₃ e₁ e₂ e₃ ep eq fits =
     let second = then t at a b p t₁ t₂ e₁ e₂ ep (omega arith) in
     then t at (a ++ b) c q t₂ t₃ second e₃ (omega (arith, length-append a b)) (omega (arith, length-append a b))
-    ∙ ap (stored t at) (mathlib.Core.List.append-assoc a b c)
+    ∙ ap (stored t at) (append-assoc a b c)
 
 pub four : (t : List ℕ) (at : ℕ) (a b c d : List ℕ) (p q r : ℕ) (t₁ t₂ t₃ t₄ : List ℕ) → t₁ ≡ stored t at a → t₂ ≡ stored t₁ p b → t₃ ≡ stored t₂ q c → t₄ ≡ stored t₃ r d →
     p ≡ at + length a → q ≡ p + length b → r ≡ q + length c → at + length a + length b + length c + length d ≤ length t → t₄ ≡ stored t at (a ++ (b ++ (c ++ d)))
 four t at a b c d p q r t₁ t₂ t₃ t₄ e₁ e₂ e₃ e₄ ep eq er fits =
     let second = then t at a b p t₁ t₂ e₁ e₂ ep (omega arith) in
     three t at (a ++ b) c d q r t₂ t₃ t₄ second e₃ e₄ (omega (arith, length-append a b)) er (omega (arith, length-append a b))
-    ∙ ap (stored t at) (mathlib.Core.List.append-assoc a b (c ++ d))
+    ∙ ap (stored t at) (append-assoc a b (c ++ d))
 
 module _ (sheet : List ℕ) (tables : Tables) (draft : List ℕ) (c : DraftCounts) (whole : Whole sheet tables) (within : WithinLimits tables c) (size : length draft ≡ 40704) where
   types-long : length (partBytes sheet (tables .types .at) (10 * tables .types .count) draft 0 (5 * c .types)) ≡ 10 * (tables .types .count + c .types)

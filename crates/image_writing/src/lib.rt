@@ -75,7 +75,7 @@ fn write_lower(
     let bindings_at = tables.bindings.at as usize;
     let list_at = tables.list.at as usize;
     let data_at = tables.bytes.at as usize;
-    let after_bindings = write_part(
+    let next = write_part(
         image,
         at,
         sheet,
@@ -85,16 +85,7 @@ fn write_lower(
         BINDINGS,
         added_bindings,
     );
-    let after_list = write_part(
-        image,
-        after_bindings,
-        sheet,
-        list_at,
-        list,
-        draft,
-        WORDS,
-        added_words,
-    );
+    let after_list = write_part(image, next, sheet, list_at, list, draft, WORDS, added_words);
     let after_data = write_bytes(image, after_list, sheet, data_at, data);
     write_data(image, after_data, draft, BYTES, added_bytes)
 }
