@@ -1,10 +1,10 @@
 -- A literal's operand is added, its parts' words are taken, and its row or its place stands instead. Assumes nothing.
-use Prim.Native.Nat.{ℕ, _+_, _-_, _*_, _≤_, _<_}
+use Prim.Native.Nat.{ℕ, _+_, _-_, _*_, _≤_}
 use mathlib.Core.Path.{_≡_, refl, sym, ap, subst, _∙_}
 use mathlib.Core.Bool.{false}
 use mathlib.Core.List.{List, [], _∷_, _++_}
 use native.Mathlib.Omega.{arith}
-use lib.ListN.{length, take, drop}
+use lib.ListN.{length, take}
 use Rattle.image.specs.declared.Tables.{Tables}
 use Rattle.image.specs.declared.rows.PatRow.{PatRow}
 use Rattle.image.specs.Tables.{Whole}
@@ -15,7 +15,7 @@ use Rattle.pattern_images.specs.Drafts.{nextWord, addOperand}
 use Rattle.pattern_images.specs.Emitting.{withPattern, emitNode}
 use Rattle.pattern_images.specs.Imaging.{derefsWithin, withinImageLimits}
 use Rattle.draft_stack.specs.Stack.{Stacked, wordsEach, wordsTaken, stackedOn, emitOne}
-use Rattle.draft_stack.proofs.Growing.{grows-same, grows-pattern}
+use Rattle.draft_stack.proofs.Growing.{grows-pattern}
 use Rattle.draft_tables.specs.declared.DraftCounts.{DraftCounts}
 use Rattle.draft_tables.specs.declared.DraftStep.{DraftStep}
 use Rattle.draft_tables.specs.Layout.{stackedIn, WithinDraft, heightIs, drafted, raised, HoldsStack}

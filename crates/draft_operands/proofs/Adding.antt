@@ -1,14 +1,14 @@
 -- An operand that is added to a draft's table, and limits that it passes. Assumes nothing.
 use Prim.Native.Nat.{ℕ, _+_, _≤_, _<_}
 use mathlib.Core.Path.{_≡_, refl, sym, ap, subst, _∙_}
-use mathlib.Core.Bool.{true, false}
-use mathlib.Core.List.{List, [], _∷_, _++_}
+use mathlib.Core.Bool.{false}
+use mathlib.Core.List.{List, [], _∷_}
 use native.Mathlib.Omega.{arith}
 use lib.ListN.{length, take, length-append}
 use Rattle.image.specs.declared.Tables.{Tables}
-use Rattle.image.specs.Tables.{Whole, dataCount}
+use Rattle.image.specs.Tables.{Whole}
 use Rattle.pattern_syntax.specs.Written.{LiteralValue}
-use Rattle.pattern_images.specs.Drafts.{Draft, nextByte, addWords, addBytes, operandKindOf, literalBytes, addOperand}
+use Rattle.pattern_images.specs.Drafts.{nextByte, addWords, addBytes, operandKindOf, literalBytes, addOperand}
 use Rattle.pattern_images.specs.Imaging.{derefsWithin, withinImageLimits}
 use Rattle.draft_stack.specs.Stack.{Stacked}
 use Rattle.draft_stack.proofs.Growing.{past-limit}
