@@ -17,7 +17,7 @@ use Rattle.pattern_images.specs.Drafts.{Draft, nextType, addType, addBinding, l
 use Rattle.pattern_images.specs.Emitting.{arrayRow, withBoundAt, boundType, referenceRow, withMode, modeType, newBinding}
 use Rattle.pattern_images.specs.Imaging.{derefsWithin, withinImageLimits}
 use Rattle.draft_stack.specs.Stack.{Stacked}
-use Rattle.draft_stack.proofs.Growing.{Grows, grows-both, grows-mode, grows-bound, grows-binding, past-limit}
+use Rattle.draft_stack.proofs.Growing.{Grows, grows-both, grows-mode, grows-binding, past-limit}
 use Rattle.draft_tables.specs.declared.DraftCounts.{DraftCounts}
 use Rattle.draft_tables.specs.Layout.{draftIn, stackedIn, WithinDraft, bindingMore, drafted, HoldsBinding}
 use Rattle.draft_tables.specs.Room.{DraftRoom}

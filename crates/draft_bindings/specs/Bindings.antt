@@ -5,10 +5,8 @@ use mathlib.Core.Bool.{cond}
 use mathlib.Core.List.{List}
 use lib.Dec.{eqb}
 use Rattle.image.specs.declared.Tables.{Tables}
-use Rattle.pattern_syntax.specs.Reduced.{bytesFrom}
 use Rattle.pattern_typing.specs.Making.{BoundAt, boundAtType, boundAtArray}
 use Rattle.pattern_images.specs.Drafts.{Draft, nextType}
-use Rattle.draft_stack.specs.Stack.{Stacked}
 use Rattle.draft_tables.specs.declared.DraftCounts.{DraftCounts}
 use Rattle.draft_tables.specs.Layout.{draftIn, stackedIn, drafted}
 use Rattle.draft_tables.specs.Room.{DraftRoom}

@@ -1,9 +1,9 @@
 -- A slice's words without its rest's, in two runs of the stack. Assumes nothing.
-use Prim.Native.Nat.{ℕ, suc, _+_, _-_, _*_, _≤_, _<_}
-use mathlib.Core.Path.{_≡_, refl, sym, ap, ap₂, subst, _∙_}
+use Prim.Native.Nat.{ℕ, suc, _+_, _-_, _≤_, _<_}
+use mathlib.Core.Path.{_≡_, refl, sym, ap, subst, _∙_}
 use mathlib.Core.Bool.{true, false, cond}
 use mathlib.Core.Option.{Option, none, some}
-use mathlib.Core.List.{List, [], _∷_, _++_, append-assoc}
+use mathlib.Core.List.{List, _++_, append-assoc}
 use native.Mathlib.Omega.{arith}
 use borrow.Author.Tests.{eq-eqb, ne-eqb}
 use lib.Dec.{eqb, ltb}
@@ -24,7 +24,7 @@ use Rattle.draft_stack.specs.Stack.{Stacked, wordsEach, wordsTaken, stackedOn, 
 use Rattle.draft_stack.proofs.Growing.{past-limit}
 use Rattle.draft_tables.specs.declared.DraftCounts.{DraftCounts}
 use Rattle.draft_tables.specs.declared.DraftStep.{DraftStep}
-use Rattle.draft_tables.specs.Layout.{stackedIn, draftIn, WithinDraft, wordsMore, heightIs, drafted, HoldsWords}
+use Rattle.draft_tables.specs.Layout.{stackedIn, WithinDraft, wordsMore, heightIs, drafted, HoldsWords}
 use Rattle.draft_tables.specs.Room.{DraftRoom}
 use Rattle.draft_tables.specs.Steps.{DraftStepped}
 use Rattle.draft_tables.proofs.Counted.{room-within, default-free, word-length, stack-length}

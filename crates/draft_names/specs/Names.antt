@@ -1,7 +1,6 @@
 -- The bindings of a draft's table by their names. Assumes nothing: these are definitions.
 use Prim.Native.Nat.{ℕ}
 use mathlib.Core.Option.{Option, none, some}
-use mathlib.Core.List.{List}
 use Rattle.draft_names.specs.declared.FoundBinding.{FoundBinding}
 use Rattle.draft_names.specs.declared.FoundBinding.the-variants.{At, NotYet}
 

@@ -1,7 +1,7 @@
 // The binding of a name, among those that were added to the draft: names are compared by their bytes.
 use draft_tables::added_name;
 ghost use mathlib.Core.Path.{_≡_};
-ghost use Prim.Native.Nat.{_+_, _*_, _≤_, min};
+ghost use Prim.Native.Nat.{_+_, _≤_, min};
 ghost use lib.ListN.{length, drop};
 ghost use Rattle.row_tables.specs.Rows.{rowAt};
 ghost use Rattle.pattern_words.specs.Words.{sameWord};

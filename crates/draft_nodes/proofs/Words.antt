@@ -8,10 +8,9 @@ use native.Mathlib.Nat.{add-zero, eq-zero-or-pos}
 use native.Mathlib.Omega.{arith}
 use borrow.Author.Tests.{eq-eqb, ne-eqb}
 use lib.Dec.{eqb}
-use lib.ListN.{length, getD, take, drop, length-drop, drop-of-length-le}
-use lib.Seq.{take-all, drop-cons, getD-take, getD-drop}
+use lib.ListN.{length, getD, take, drop, drop-of-length-le}
+use lib.Seq.{drop-cons, getD-take, getD-drop}
 use Rattle.image.specs.declared.Tables.{Tables}
-use Rattle.image.specs.declared.rows.PatRow.{PatRow}
 use Rattle.image.specs.Rules.{absent}
 use Rattle.pattern_typing.specs.Making.{Making, operandNamed, referenceMade, fieldMade, patternRow}
 use Rattle.pattern_typing.specs.Closed.{closedMaking}
@@ -20,7 +19,7 @@ use Rattle.pattern_images.specs.Imaging.{derefsWithin}
 use Rattle.draft_stack.specs.Stack.{Stacked, wordsEach, wordsTaken, stackedOn, emitOne}
 use Rattle.draft_tables.specs.declared.DraftCounts.{DraftCounts}
 use Rattle.draft_tables.specs.declared.DraftStep.{DraftStep}
-use Rattle.draft_tables.specs.Layout.{stackedIn, draftIn, WithinDraft, heightIs, raised, HoldsStack}
+use Rattle.draft_tables.specs.Layout.{stackedIn, WithinDraft, heightIs, raised, HoldsStack}
 use Rattle.draft_tables.specs.Room.{DraftRoom}
 use Rattle.draft_tables.specs.Steps.{DraftHeld, DraftStepped}
 use Rattle.draft_tables.proofs.Counted.{room-within, default-free, stack-length}

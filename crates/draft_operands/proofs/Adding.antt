@@ -1,14 +1,14 @@
 -- An operand that is added to a draft's table, and limits that it passes. Assumes nothing.
 use Prim.Native.Nat.{ℕ, _+_, _≤_, _<_}
 use mathlib.Core.Path.{_≡_, refl, sym, ap, subst, _∙_}
-use mathlib.Core.Bool.{true, false}
-use mathlib.Core.List.{List, [], _∷_, _++_}
+use mathlib.Core.Bool.{false}
+use mathlib.Core.List.{List, [], _∷_}
 use native.Mathlib.Omega.{arith}
 use lib.ListN.{length, take, length-append}
 use Rattle.image.specs.declared.Tables.{Tables}
-use Rattle.image.specs.Tables.{Whole, dataCount}
+use Rattle.image.specs.Tables.{Whole}
 use Rattle.pattern_syntax.specs.Written.{LiteralValue}
-use Rattle.pattern_images.specs.Drafts.{Draft, nextByte, addWords, addBytes, operandKindOf, literalBytes, addOperand}
+use Rattle.pattern_images.specs.Drafts.{nextByte, addWords, addBytes, operandKindOf, literalBytes, addOperand}
 use Rattle.pattern_images.specs.Imaging.{derefsWithin, withinImageLimits}
 use Rattle.draft_stack.specs.Stack.{Stacked}
 use Rattle.draft_stack.proofs.Growing.{past-limit}
@@ -25,6 +25,12 @@ pub words-within : (tables : Tables) (c half : DraftCounts) → DraftRoom tables
 words-within tables c half room e many words bytes =
     subst (λ (d : DraftCounts). WithinDraft d × (d .bytes + many ≤ 16384)) (sym e)
     (record { types = omega (arith, room .types); patterns = omega (arith, room .patterns); bindings = omega (arith, room .bindings); words = omega arith; bytes = omega (arith, room .bytes); height = room .height }, omega arith)
+
+-- the counts when the bytes are there too
+pub room-behind : (tables : Tables) (c half counts : DraftCounts) (many : ℕ) → DraftRoom tables c → tables .list .count + c .words + 3 ≤ 2048 → tables .bytes .count + c .bytes + many ≤ 16384 → half ≡ wordsMore 3 c → counts ≡ bytesMore many half → DraftRoom tables counts × (counts .height ≡ c .height)
+room-behind tables c half counts many room words bytes first second =
+    subst (λ (d : DraftCounts). DraftRoom tables d × (d .height ≡ c .height)) (sym (second ∙ ap (bytesMore many) first))
+    (record { types = room .types; patterns = room .patterns; bindings = room .bindings; words = omega arith; bytes = omega arith; height = room .height }, refl)
 
 module _ (tables : Tables) (table : List ℕ) (size : length table ≡ 40704) (c : DraftCounts) (room : DraftRoom tables c) (operand : LiteralBytes) (v : LiteralValue) (is : IsOperandOf v operand) (sheet : List ℕ) (whole : Whole sheet tables) where
   within : WithinDraft c
@@ -47,9 +53,8 @@ module _ (tables : Tables) (table : List ℕ) (size : length table ≡ 40704) (c
   pub operand-held : (half counts : DraftCounts) (mid after : List ℕ) → tables .list .count + c .words + 3 ≤ 2048 → tables .bytes .count + c .bytes + operand .count ≤ 16384 → half ≡ wordsMore 3 c → HoldsWords table c (operand .kind ∷ (tables .bytes .count + c .bytes) ∷ operand .count ∷ []) 3 mid → counts ≡ bytesMore (operand .count) half → HoldsBytes mid half (take (operand .count) (operand .bytes)) (operand .count) after → DraftHeld tables table c (λ names s. drafted (addOperand sheet v) s) counts after
   unfolding bytesIn addOperand addBytes addWords stackedIn
   operand-held half counts mid after words bytes first listed second stored =
-      let all : counts ≡ bytesMore (operand .count) (wordsMore 3 c) = second ∙ ap (bytesMore (operand .count)) first in
       record {
-        room = subst (DraftRoom tables) (sym all) (record { types = room .types; patterns = room .patterns; bindings = room .bindings; words = omega arith; bytes = omega arith; height = room .height });
+        room = room-behind tables c half counts (operand .count) room words bytes first second .0;
         holds = holds;
         derefs = λ kept names. ap (λ (s : Stacked). derefsWithin (s .draft .patterns)) (holds names) ∙ kept names;
       }

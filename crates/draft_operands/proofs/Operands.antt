@@ -1,21 +1,20 @@
 -- The ways through the code that makes a literal's bytes: each is the operand that the definitions say. Assumes nothing.
 use Prim.Native.Nat.{ℕ, zero, suc, _+_, _*_, _-_, _/_, _%_, _^_, _<_}
 use mathlib.Core.Path.{_≡_, refl, sym, ap, ap₂, subst, _∙_}
-use mathlib.Core.Bool.{true, cond}
+use mathlib.Core.Bool.{true}
 use mathlib.Core.List.{List, _++_}
 use mathlib.Core.Logic.{⊎-elim}
 use native.Mathlib.Omega.{arith}
 use native.Mathlib.Nat.{mod-lt, eq-or-lt-of-le}
-use borrow.Author.Tests.{ltb-true, lt-ltb, ne-eqb, eq-eqb}
-use lib.Dec.{eqb, ltb}
+use borrow.Author.Tests.{ltb-true, lt-ltb, ne-eqb}
+use lib.Dec.{ltb}
 use lib.Pow as pow
 use Rattle.decimal_values.specs.declared.Value.{Value}
 use Rattle.decimal_values.specs.Values.{decimalFrom, inHalves, integerValue}
-use Rattle.pattern_syntax.specs.Written.{LiteralValue, boolValue, charValue, wholeValue, minusValue}
+use Rattle.pattern_syntax.specs.Written.{LiteralValue, wholeValue, minusValue}
 use Rattle.pattern_syntax.specs.Reduced.{bytesFrom}
 use Rattle.node_rows.specs.Nodes.{literalIn}
 use Rattle.pattern_images.specs.Drafts.{littleEndianBytes, operandKindOf, literalBytes}
-use Rattle.draft_operands.specs.declared.LiteralBytes.{LiteralBytes}
 use Rattle.draft_operands.specs.Literals.{literalFits, bytesIn, operandWith, IsOperandOf}
 use Rattle.draft_operands.proofs.Halving.{in-halves}
 

@@ -10,7 +10,9 @@ use Rattle.pattern_syntax.specs.Written.{LiteralValue, boolValue, charValue, wh
 use Rattle.pattern_images.specs.Drafts.{littleEndianBytes, operandKindOf, literalBytes, addOperand}
 use Rattle.draft_tables.specs.declared.DraftCounts.{DraftCounts}
 use Rattle.draft_tables.specs.declared.DraftStep.{DraftStep}
+use Rattle.draft_tables.specs.declared.DraftStep.the-variants.{On, PastALimit}
 use Rattle.draft_tables.specs.Layout.{drafted}
+use Rattle.draft_tables.specs.Room.{DraftRoom}
 use Rattle.draft_tables.specs.Steps.{SheetsStepped}
 use Rattle.draft_operands.specs.declared.LiteralBytes.{LiteralBytes}
 
@@ -36,6 +38,11 @@ pub record IsOperandOf (v : LiteralValue) (b : LiteralBytes) : Type 0 where
   pub count : b .count ≡ length (literalBytes v)
   pub few : b .count ≤ 16
   pub long : length (b .bytes) ≡ 16
+
+-- within the limits, on the same stack
+abbrev pub RoomBehind : Tables → DraftCounts → DraftStep → Type 0
+RoomBehind tables c (On counts) = DraftRoom tables counts × (counts .height ≡ c .height)
+RoomBehind tables c PastALimit = Unit
 
 -- a step that adds it
 abbrev pub OperandStepped : Tables → List ℕ → DraftCounts → LiteralBytes → DraftStep → List ℕ → Type 0

@@ -14,7 +14,7 @@ ghost use lib.ListN.{length};
 ghost use Rattle.node_rows.specs.Nodes.{literalIn};
 ghost use Rattle.pattern_images.specs.Drafts.{littleEndianBytes};
 ghost use Rattle.draft_tables.specs.Room.{DraftRoom};
-ghost use Rattle.draft_operands.specs.Literals.{literalFits, operandWith, IsOperandOf, OperandStepped};
+ghost use Rattle.draft_operands.specs.Literals.{literalFits, operandWith, IsOperandOf, RoomBehind, OperandStepped};
 
 // The kind of a literal's operand, sixteen bytes, and how many of them the literal has.
 pub struct LiteralBytes {
@@ -126,7 +126,7 @@ pub fn add_operand(
     operand: LiteralBytes,
 ) -> DraftStep
     requires { ⌜ (length (now draft) ≡ 40704) × (DraftRoom tables c × ((operand .count ≤ 16) × (length (operand .bytes) ≡ 16))) ⌝ }
-    ensures { λ r. ⌜ OperandStepped tables (now (draft .entry)) c operand r (now (draft .exit)) ⌝ }
+    ensures { λ r. ⌜ RoomBehind tables c r × OperandStepped tables (now (draft .entry)) c operand r (now (draft .exit)) ⌝ }
 {
     let from = tables.bytes.count + c.bytes;
     if 2048 < tables.list.count + c.words + 3 {

@@ -1,13 +1,12 @@
 -- The stack without its last words, and words of it as they lie in the table. Assumes nothing.
 use Prim.Native.Nat.{ℕ, _+_, _-_, _≤_}
-use mathlib.Core.Path.{_≡_, refl, sym, ap, _∙_}
+use mathlib.Core.Path.{_≡_, sym, ap, _∙_}
 use mathlib.Core.List.{List}
-use native.Mathlib.Omega.{arith}
-use lib.ListN.{length, take, drop, length-drop}
-use lib.Seq.{take-take, drop-drop, take-all}
+use lib.ListN.{take, drop}
+use lib.Seq.{take-take, drop-drop}
 use Rattle.draft_stack.specs.Stack.{Stacked}
 use Rattle.draft_tables.specs.declared.DraftCounts.{DraftCounts}
-use Rattle.draft_tables.specs.Layout.{draftIn, stackedIn, WithinDraft, heightIs}
+use Rattle.draft_tables.specs.Layout.{draftIn, stackedIn, heightIs}
 use Rattle.draft_tables.proofs.Regions.{take-drop}
 
 -- fewer words on the stack

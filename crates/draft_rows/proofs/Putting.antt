@@ -1,17 +1,17 @@
 -- A pattern that is put into the draft's table, and limits that it passes. Assumes nothing.
 use Prim.Native.Nat.{ℕ, _+_, _≤_, _<_}
 use mathlib.Core.Path.{_≡_, refl, sym, ap, subst, _∙_}
-use mathlib.Core.Bool.{Bool, true, false, _&&_, true≢false, false≢true}
+use mathlib.Core.Bool.{true, false}
 use mathlib.Core.List.{List, [], _∷_, _++_}
 use native.Mathlib.Omega.{arith}
 use borrow.Author.Tests.{leb-true, le-leb}
 use lib.Dec.{leb}
-use lib.ListN.{length, length-append}
+use lib.ListN.{length-append}
 use Rattle.image.specs.declared.Tables.{Tables}
 use Rattle.image.specs.declared.rows.PatRow.{PatRow}
-use Rattle.image.specs.Tables.{Whole, patternCount}
+use Rattle.image.specs.Tables.{Whole}
 use Rattle.image.proofs.Bools.{and-left, and-right, and-true}
-use Rattle.pattern_images.specs.Drafts.{Draft, nextPattern, addPattern}
+use Rattle.pattern_images.specs.Drafts.{nextPattern, addPattern}
 use Rattle.pattern_images.specs.Imaging.{derefsWithin, withinImageLimits}
 use Rattle.draft_stack.specs.Stack.{Stacked}
 use Rattle.draft_stack.proofs.Growing.{past-limit}
@@ -19,7 +19,7 @@ use Rattle.draft_tables.specs.declared.DraftCounts.{DraftCounts}
 use Rattle.draft_tables.specs.Layout.{draftIn, stackedIn, WithinDraft, patternMore, heightIs, drafted, raised, HoldsPattern, HoldsStack}
 use Rattle.draft_tables.specs.Room.{DraftRoom}
 use Rattle.draft_tables.specs.Steps.{DraftHeld}
-use Rattle.draft_tables.proofs.Counted.{room-within, pattern-length}
+use Rattle.draft_tables.proofs.Counted.{pattern-length}
 use Rattle.draft_rows.specs.Nodes.{rowStep}
 
 -- the derefs of the last row, and of rows with one more

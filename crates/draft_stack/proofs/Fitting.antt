@@ -1,7 +1,7 @@
 -- What a node of a well formed tree is read at suits where it stands, so that what is made of it takes the words of its parts and puts one word
 -- for a pattern or a bound, two for a field. Assumes nothing.
 use Prim.Native.Nat.{ℕ, suc, _+_, _-_, _*_, _≤_}
-use mathlib.Core.Path.{_≡_, refl, sym, ap, subst, _∙_}
+use mathlib.Core.Path.{_≡_, refl, sym, ap}
 use mathlib.Core.Bool.{Bool, true, false, cond, _&&_, _||_, true≢false, false≢true}
 use mathlib.Core.Option.{Option, none, some, Option·some-ne-none}
 use mathlib.Core.List.{List}
@@ -9,7 +9,7 @@ use native.Mathlib.Omega.{arith}
 use borrow.Author.Tests.{leb-false, eqb-true, ne-eqb}
 use lib.Dec.{eqb, leb, ltb}
 use Rattle.image.specs.Rows.{typeAt, listAt}
-use Rattle.image.proofs.Bools.{and-left, and-right, and-true}
+use Rattle.image.proofs.Bools.{and-right, and-true}
 use Rattle.name_tables.specs.Names.{asVariant, asConstant, asValue, asFieldOf, rowFor, nameRowAt}
 use Rattle.pattern_syntax.specs.Written.{Name, Node, wildcardNode, restNode, literalNode, boundNode, boundPathNode, rangeNode, pathNode, identNode, referenceNode, tupleNode, tupleStructNode, sliceNode, recordNode, fieldNode, orNode, Parts, noParts, more, partCount}
 use Rattle.pattern_syntax.specs.Formed.{literalFormed, nodeFormed, Stand, inPattern, inRange, inRecord, standsIn, mayStand, restPlace, mayBeRest, nodeIn, restPartFormed}

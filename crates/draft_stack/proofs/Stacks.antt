@@ -1,7 +1,7 @@
 -- The laws of the stack: rows of makings one behind the other, and one making on top of its parts' words. Assumes nothing.
-use Prim.Native.Nat.{ℕ, suc, _+_, _-_, _*_, _≤_}
+use Prim.Native.Nat.{ℕ, _+_, _-_, _≤_}
 use mathlib.Core.Path.{_≡_, refl, sym, ap, ap₂, subst, _∙_}
-use mathlib.Core.Bool.{Bool, true, false, _&&_}
+use mathlib.Core.Bool.{true, _&&_}
 use mathlib.Core.List.{List, [], _∷_, _++_}
 use native.Mathlib.Omega.{arith}
 use borrow.Author.Tests.{leb-true, le-leb}
@@ -11,9 +11,9 @@ use lib.Seq.{length-take-le, take-at, drop-at}
 use Rattle.image.proofs.Bools.{and-left, and-right, and-true}
 use Rattle.pattern_typing.specs.Making.{Making, notMade, rowMade, literalMade, operandMade, operandNamed, rangeMade, bindMade, referenceMade, listMade, sliceMade, fieldMade}
 use Rattle.pattern_typing.specs.Closed.{ClosedMaking}
-use Rattle.pattern_images.specs.Drafts.{Draft, Made}
+use Rattle.pattern_images.specs.Drafts.{Draft}
 use Rattle.pattern_images.specs.Emitting.{emitNode}
-use Rattle.draft_stack.specs.Stack.{Stacked, wordsEach, wordsTaken, wordsPut, stackedOn, emitOne, emitUp, mayHaveParts, partsStand}
+use Rattle.draft_stack.specs.Stack.{wordsTaken, wordsPut, stackedOn, emitOne, emitUp, mayHaveParts, partsStand}
 
 -- a making puts so many words on the stack
 pub words-put : (sheet : List ℕ) (m : Making) (many : ℕ) (stands : List ℕ) (d : Draft) → length (emitNode sheet m many stands d .stands) ≡ wordsPut m (length stands)

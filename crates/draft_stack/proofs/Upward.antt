@@ -1,23 +1,23 @@
 -- What is made of the nodes of a well formed tree, one after another with a stack, is what the tree's own definition adds: its words on top of the
 -- stack, and the same draft. Assumes nothing.
 use Prim.Native.Nat.{ℕ, _+_, _*_}
-use mathlib.Core.Path.{_≡_, refl, sym, ap, ap₂, subst, _∙_}
-use mathlib.Core.Bool.{Bool, true, _&&_}
+use mathlib.Core.Path.{_≡_, refl, sym, ap, subst, _∙_}
+use mathlib.Core.Bool.{true, _&&_}
 use mathlib.Core.Option.{Option, none, some, Option·some-ne-none}
 use mathlib.Core.List.{List, [], _∷_, _++_, append-assoc, append-nil}
 use native.Mathlib.Nat.{mul-zero, mul-suc}
 use native.Mathlib.Omega.{arith}
 use lib.ListN.{length, length-append}
 use Rattle.image.proofs.Bools.{and-left, and-right}
-use Rattle.pattern_syntax.specs.Written.{Node, Written, written, Parts, noParts, more, partCount}
+use Rattle.pattern_syntax.specs.Written.{Written, written, Parts, noParts, more, partCount}
 use Rattle.pattern_syntax.specs.Formed.{nodeFormed, Stand, inPattern, standsIn, mayStand, restPlace, nodeIn, restPartFormed, formed, partsFormed}
 use Rattle.pattern_typing.specs.Contexts.{Context, typed, PartsRead, partContext}
 use Rattle.pattern_typing.specs.Closed.{ClosedMaking, closedMaking, makings, makingsAmong}
 use Rattle.pattern_typing.specs.Failing.{earlier, refusedIn, refusedAmong}
-use Rattle.pattern_typing.specs.Resolving.{Resolved, resolved}
+use Rattle.pattern_typing.specs.Resolving.{resolved}
 use Rattle.pattern_images.specs.Drafts.{Draft, emptyDraft, Made}
 use Rattle.pattern_images.specs.Emitting.{made, emitNode, emitted, emittedParts}
-use Rattle.draft_stack.specs.Stack.{Stacked, wordsEach, wordsTaken, wordsPut, stackedOn, emitOne, emitUp, mayHaveParts, partsStand}
+use Rattle.draft_stack.specs.Stack.{Stacked, wordsTaken, wordsPut, stackedOn, emitOne, emitUp, mayHaveParts, partsStand}
 use Rattle.draft_stack.proofs.Stacks.{words-put, emit-append, first-stands, stand-append, emit-top}
 use Rattle.draft_stack.proofs.Fitting.{standWords, contextSuits, partsSuit, Suited, node-suited}
 

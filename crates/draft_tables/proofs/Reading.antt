@@ -1,15 +1,13 @@
 -- The words of a row as they stand in a table, and words that are copied to a place before them. Assumes nothing.
 use Prim.Native.Nat.{ℕ, _+_, _*_, _-_, _≤_, _<_}
-use mathlib.Core.Path.{_≡_, refl, sym, ap, subst, _∙_}
+use mathlib.Core.Path.{_≡_, sym, ap, subst, _∙_}
 use mathlib.Core.List.{List}
 use native.Mathlib.Nat.{add-zero}
 use native.Mathlib.Omega.{arith}
 use lib.ListN.{length, getD, set, take, drop, length-drop}
 use lib.Seq.{length-take-le, getD-take, getD-drop, drop-drop, paste, drop-paste}
-use Rattle.image.specs.declared.rows.TypeRow.{TypeRow}
 use Rattle.row_tables.specs.Rows.{rowAt, stored}
 use Rattle.row_tables.proofs.Loops.{Storing, store-more, store-end}
-use Rattle.draft_tables.specs.declared.NameRange.{NameRange}
 use Rattle.draft_tables.specs.Layout.{typeOfWords, rangeOfWords}
 
 pub word-of-row : (w : ℕ) (t : List ℕ) (i k : ℕ) → k < w → getD (rowAt w t i) k 0 ≡ getD t (w * i + k) 0

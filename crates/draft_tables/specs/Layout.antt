@@ -2,7 +2,7 @@
 -- ranges of 2, 2,048 list words, 16,384 bytes of data and 16,384 words of the stack. Assumes nothing: these are definitions.
 use Prim.Native.Nat.{ℕ, _+_, _≤_}
 use mathlib.Core.Path.{_≡_}
-use mathlib.Core.List.{List, [], _∷_, _++_, map}
+use mathlib.Core.List.{List, _++_, map}
 use lib.ListN.{getD, take, drop}
 use Rattle.image.specs.declared.rows.TypeRow.{TypeRow}
 use Rattle.image.specs.declared.rows.PatRow.{PatRow}

@@ -1,5 +1,5 @@
 -- The ways through the code that looks for a type: what it answers is what the definitions say. Assumes nothing.
-use Prim.Native.Nat.{ℕ, _+_, _-_, _*_, _≤_, _<_}
+use Prim.Native.Nat.{ℕ, _+_, _-_, _≤_, _<_}
 use mathlib.Core.Path.{_≡_, refl, sym, ap, subst, _∙_}
 use mathlib.Core.Bool.{Bool, true, false, not, cond, _&&_, _||_}
 use mathlib.Core.Option.{Option, none, some}
@@ -7,14 +7,14 @@ use mathlib.Core.List.{List, [], _∷_}
 use native.Mathlib.Omega.{arith}
 use borrow.Author.Tests.{eq-eqb, ne-eqb, lt-ltb, le-ltb, ltb-false}
 use lib.Dec.{eqb, ltb}
-use lib.ListN.{length, getD, length-append}
+use lib.ListN.{getD, length-append}
 use Rattle.image.specs.declared.rows.TypeRow.{TypeRow}
 use Rattle.image.specs.declared.Tables.{Tables}
 use Rattle.image.specs.Tables.{typeCount}
 use Rattle.image.specs.Rows.{typeAt}
 use Rattle.row_tables.specs.Rows.{rowAt}
 use Rattle.name_tables.specs.Names.{firstFrom}
-use Rattle.pattern_images.specs.Drafts.{Draft, typeIn, sameFlag, alike, likeIn, nextType, addUnless, numberOr, addType}
+use Rattle.pattern_images.specs.Drafts.{typeIn, sameFlag, alike, likeIn, nextType, addUnless, numberOr, addType}
 use Rattle.draft_tables.specs.declared.DraftCounts.{DraftCounts}
 use Rattle.draft_tables.specs.Layout.{typeOfWords, draftIn, stackedIn, typeMore, drafted, HoldsType}
 use Rattle.draft_tables.specs.Room.{DraftRoom}

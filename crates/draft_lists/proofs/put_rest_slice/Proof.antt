@@ -8,8 +8,8 @@ use Rattle.draft_lists.proofs.list_start.Reads as list-start-reads
 use Rattle.draft_rows.proofs.put_pattern.Reads as put-pattern-reads
 use Rattle.draft_tables.proofs.push_list.Reads as push-list-reads
 use Rattle.draft_tables.proofs.stack_word.Reads as stack-word-reads
-use Prim.Native.Nat.{ℕ, _+_, _-_, _<_}
-use mathlib.Core.Path.{_≡_, refl, sym, ap, ap₂, subst, _∙_}
+use Prim.Native.Nat.{ℕ, _-_, _<_}
+use mathlib.Core.Path.{refl, sym, ap₂, subst}
 use native.Mathlib.Omega.{arith}
 use Rattle.pattern_typing.specs.Making.{patternRow}
 use Rattle.draft_tables.specs.declared.DraftCounts.{DraftCounts}

@@ -7,7 +7,7 @@ use Rattle.draft_names.proofs.name_bytes.Reads as name-bytes-reads
 use Rattle.draft_names.proofs.same_bytes.Reads as same-bytes-reads
 use Rattle.draft_tables.proofs.added_name.Reads as added-name-reads
 use Prim.Native.Nat.{ℕ, _-_, _≤_}
-use mathlib.Core.Path.{_≡_, refl, sym, ap, _∙_}
+use mathlib.Core.Path.{_≡_, sym, _∙_}
 use mathlib.Core.Bool.{Bool}
 use native.Mathlib.Omega.{arith}
 use lib.ListN.{drop}

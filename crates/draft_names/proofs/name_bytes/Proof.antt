@@ -5,8 +5,8 @@ use Rattle.draft_names.proofs.name_bytes.Reads as reads
 use Rattle.draft_names.proofs.name_bytes.Lts as lts
 use Rattle.draft_names.proofs.lesser.Reads as lesser-reads
 use Prim.Native.Nat.{ℕ, _-_, min}
-use mathlib.Core.Path.{sym, ap, _∙_}
-use lib.ListN.{length, take, drop}
+use mathlib.Core.Path.{ap, _∙_}
+use lib.ListN.{take, drop}
 use Rattle.draft_names.proofs.Comparing.{clamped}
 
 returns : tie.Need-returns

@@ -3,8 +3,8 @@ use Rattle.draft_names.proofs.same_bytes.Statement.{statement}
 use Rattle.draft_names.proofs.same_bytes.Tie as tie
 use Rattle.draft_names.proofs.same_bytes.Reads as reads
 use Rattle.draft_names.proofs.same_bytes.Lts as lts
-use Prim.Native.Nat.{ℕ, _-_, _≤_}
-use mathlib.Core.Path.{_≡_, refl, sym, _∙_}
+use Prim.Native.Nat.{_-_, _≤_}
+use mathlib.Core.Path.{_≡_, refl, _∙_}
 use native.Mathlib.Omega.{arith}
 use lib.ListN.{length, drop}
 use Rattle.pattern_words.specs.Words.{sameWord}

@@ -8,7 +8,7 @@ use Rattle.draft_nodes.proofs.bound_word.Reads as bound-word-reads
 use Rattle.draft_nodes.proofs.flag_word.Reads as flag-word-reads
 use Rattle.draft_rows.proofs.put_pattern.Reads as put-pattern-reads
 use Prim.Native.Nat.{ℕ, _+_, _-_, _<_}
-use mathlib.Core.Path.{_≡_, refl, sym, ap, subst, _∙_}
+use mathlib.Core.Path.{_≡_, sym, ap, subst, _∙_}
 use mathlib.Core.Bool.{cond}
 use native.Mathlib.Omega.{arith}
 use borrow.Author.Tests.{eqb-true}

@@ -6,7 +6,7 @@ use Rattle.draft_operands.proofs.literal_bytes.Lts as lts
 use Rattle.decimal_values.proofs.integer_value.Reads as integer-value-reads
 use Rattle.draft_operands.proofs.minus_halves.Reads as minus-halves-reads
 use Rattle.draft_operands.proofs.operand_of.Reads as operand-of-reads
-use mathlib.Core.Path.{_≡_, sym, subst, _∙_}
+use mathlib.Core.Path.{sym, subst, _∙_}
 use native.Mathlib.Omega.{arith}
 use Rattle.node_rows.specs.Nodes.{literalIn}
 use Rattle.draft_operands.specs.Literals.{IsOperandOf}

@@ -4,7 +4,6 @@ use Rattle.draft_tables.proofs.copy_words.Tie as tie
 use Rattle.draft_tables.proofs.copy_words.Reads as reads
 use Rattle.draft_tables.proofs.copy_words.Lts as lts
 use Prim.Native.Nat.{_-_}
-use native.Mathlib.Omega.{arith}
 use lib.ListN.{take, drop}
 use Rattle.row_tables.proofs.Loops.{Storing, store-start}
 use Rattle.draft_tables.proofs.Reading.{copy-more, copy-end}

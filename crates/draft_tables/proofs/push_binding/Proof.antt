@@ -5,8 +5,8 @@ use Rattle.draft_tables.proofs.push_binding.Reads as reads
 use Rattle.draft_tables.proofs.push_binding.Lts as lts
 use Rattle.row_tables.proofs.store_row.Reads as store-row-reads
 use Prim.Native.Nat.{_+_, _*_}
-use mathlib.Core.Path.{_≡_, refl, sym, ap, subst, _∙_}
-use mathlib.Core.List.{List, [], _∷_}
+use mathlib.Core.Path.{refl, sym, ap, subst, _∙_}
+use mathlib.Core.List.{[], _∷_}
 use Rattle.row_tables.specs.Rows.{stored}
 use Rattle.draft_tables.specs.Layout.{HoldsBinding}
 use Rattle.draft_tables.proofs.Parts.{holds-binding}

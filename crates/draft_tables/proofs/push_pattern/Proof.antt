@@ -4,8 +4,8 @@ use Rattle.draft_tables.proofs.push_pattern.Tie as tie
 use Rattle.draft_tables.proofs.push_pattern.Reads as reads
 use Rattle.draft_tables.proofs.push_pattern.Lts as lts
 use Rattle.row_tables.proofs.store_row.Reads as store-row-reads
-use mathlib.Core.Path.{_≡_, refl, sym, subst}
-use Rattle.draft_tables.specs.Layout.{HoldsType, HoldsPattern, HoldsBinding, HoldsWords, HoldsBytes, HoldsStack}
+use mathlib.Core.Path.{refl, sym, subst}
+use Rattle.draft_tables.specs.Layout.{HoldsPattern}
 use Rattle.draft_tables.proofs.Parts.{holds-pattern}
 
 returns : tie.Need-returns

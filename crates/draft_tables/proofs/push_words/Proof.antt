@@ -4,8 +4,8 @@ use Rattle.draft_tables.proofs.push_words.Tie as tie
 use Rattle.draft_tables.proofs.push_words.Reads as reads
 use Rattle.draft_tables.proofs.push_words.Lts as lts
 use Rattle.row_tables.proofs.store_row.Reads as store-row-reads
-use mathlib.Core.Path.{_≡_, refl, sym, subst}
-use Rattle.draft_tables.specs.Layout.{HoldsType, HoldsPattern, HoldsBinding, HoldsWords, HoldsBytes, HoldsStack}
+use mathlib.Core.Path.{refl, sym, subst}
+use Rattle.draft_tables.specs.Layout.{HoldsWords}
 use Rattle.draft_tables.proofs.Parts.{holds-words}
 
 returns : tie.Need-returns

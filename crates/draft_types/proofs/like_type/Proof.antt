@@ -5,7 +5,7 @@ use Rattle.draft_types.proofs.like_type.Reads as reads
 use Rattle.draft_types.proofs.like_type.Lts as lts
 use Rattle.draft_types.proofs.is_alike.Reads as is-alike-reads
 use Rattle.draft_types.proofs.type_from.Reads as type-from-reads
-use mathlib.Core.Path.{_≡_, refl, sym, ap, _∙_}
+use mathlib.Core.Path.{_≡_, sym, ap, _∙_}
 use Prim.Native.Nat.{ℕ, _-_, _≤_}
 use mathlib.Core.Bool.{Bool}
 use native.Mathlib.Omega.{arith}

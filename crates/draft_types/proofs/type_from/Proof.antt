@@ -5,7 +5,7 @@ use Rattle.draft_types.proofs.type_from.Reads as reads
 use Rattle.draft_types.proofs.type_from.Lts as lts
 use Rattle.draft_tables.proofs.added_type.Reads as added-type-reads
 use Rattle.image.proofs.rows.type_at.Reads as type-at-reads
-use mathlib.Core.Path.{sym, ap, _∙_}
+use mathlib.Core.Path.{ap, _∙_}
 use native.Mathlib.Omega.{arith}
 use Prim.Native.Nat.{ℕ, _-_}
 use Rattle.row_tables.specs.Rows.{rowAt}

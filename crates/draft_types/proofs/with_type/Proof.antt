@@ -5,8 +5,7 @@ use Rattle.draft_types.proofs.with_type.Reads as reads
 use Rattle.draft_types.proofs.with_type.Lts as lts
 use Rattle.draft_tables.proofs.push_type.Reads as push-type-reads
 use Rattle.draft_types.proofs.like_type.Reads as like-type-reads
-use mathlib.Core.Path.{_≡_, refl, sym, ap, _∙_}
-use mathlib.Core.Option.{none, some}
+use mathlib.Core.Path.{sym, ap, _∙_}
 use native.Mathlib.Omega.{arith}
 use Rattle.draft_types.specs.Types.{found}
 use Rattle.draft_types.proofs.Alike.{held-already, held-anew, past-types}
