@@ -71,9 +71,9 @@ ended-weight m at (f ∷ fs) cs =
     (weight-if (eqb m commaMark) _ _ _ (omega arith)
     (weight-if (closes (nodeKind (f .is)) m) _ _ _
     (let h = size-if (isBareTuple f) (settle fs (begunLast (f .from) cs)) (settle fs (partMore f ∷ cs)) (suc (length fs + length cs))
-                (let h = settle-size fs (begunLast (f .from) cs) in let g = begun-long (f .from) cs in omega (arith, h, g))
-                (let h = settle-size fs (partMore f ∷ cs) in omega (arith, h)) in
-     omega (arith, h))
+    (let h = settle-size fs (begunLast (f .from) cs) in let g = begun-long (f .from) cs in omega (arith, h, g))
+    (let h = settle-size fs (partMore f ∷ cs) in omega (arith, h)) in
+    omega (arith, h))
     (omega arith)))
 
 another-size : (o : Opened) → openedSize (anotherAlt o) ≤ suc (openedSize o)
@@ -121,9 +121,9 @@ open-weight m at [] cs = omega arith
 open-weight m at (f ∷ fs) cs =
     weight-if (eqb (innermostKind fs) 11 && (eqb m commaMark || eqb m closeBracketMark)) _ _ _ (omega arith)
     (let w : ClosedNode = closedNode (f .from) (rangeNode true false true) 1 in
-     let h = behind-weight m at (settle fs (w ∷ cs)) in
-     let g = settle-size fs (w ∷ cs) in
-     omega (arith, h, g))
+    let h = behind-weight m at (settle fs (w ∷ cs)) in
+    let g = settle-size fs (w ∷ cs) in
+    omega (arith, h, g))
 
 -- a move
 pub perform-weight : (move : Move) (m at : ℕ) (o : Opened) → weight (perform move m at o) ≤ openedSize o + gain move m

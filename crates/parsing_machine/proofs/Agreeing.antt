@@ -88,7 +88,7 @@ shut-plain text s w e = plainly (ap altRead (sym (settle-plain text s w))) (calm
 pub settle-range :
     (text : List ℕ) (h : RangeHead) (l : ForAlt) (b : RangeBound)
     → shutTop (grown (openedRange text h l .waiting)) (closedOnto (writtenBound text b) (openedRange text h l .closed))
-      ≡ openedBehind text (closeAlt (rangeOf h b) l .pattern) (closeAlt (rangeOf h b) l .waiting)
+    ≡ openedBehind text (closeAlt (rangeOf h b) l .pattern) (closeAlt (rangeOf h b) l .waiting)
 unfolding openedRange pushed noted shutTop grown partMore rangeOf writtenAlt closedOnto partCount
 settle-range text (upToHead d) l b = settle-alt text l (upTo d b)
 settle-range text (fromHead a d) l b = settle-alt text l (between a d b)
@@ -117,7 +117,7 @@ ranged-agrees text (behindAmp (double p) n s) q go move m at h = halts-by
 pub dots-agree :
     (text : List ℕ) (s : ForPlain) (q : Spot) (m at : ℕ)
     → AgreesBy text (dotsIn (strictly text) s q)
-        (rangedMove (innermostKind (openedPlain text s .waiting)) q (opens AtDots (rangeTo (q .from) true))) m at (openedPlain text s)
+    (rangedMove (innermostKind (openedPlain text s .waiting)) q (opens AtDots (rangeTo (q .from) true))) m at (openedPlain text s)
 unfolding dotsIn rangedMove perform openedPlain openedRange pushed innermostKind nodeKind encode steady dotsAt isExclusive
 dots-agree text (anyAlt l) q m at = rw (alt-kind text l 8 refl refl refl refl refl refl refl) (by (plainly refl refl))
 dots-agree text (behindAmp (single p) n s) q m at = halts-by

@@ -35,11 +35,11 @@ unfolding anotherAlt openedBehind pushed partsNoted partsOnto alternatives first
 another text (alone none a) o =
     rw (pattern-kind text o)
     (ap (λ at. opened (closedNode at orNode 1 ∷ openedPattern text o .waiting) (partsOnto (alternatives text (alone none a)) (openedPattern text o .closed)))
-        (last-from _ (openedPattern text o .closed)))
+    (last-from _ (openedPattern text o .closed)))
 another text (alone (some q) a) o =
     rw (pattern-kind text o)
     (ap (λ at. opened (closedNode at orNode 1 ∷ openedPattern text o .waiting) (partsOnto (alternatives text (alone (some q) a)) (openedPattern text o .closed)))
-        (last-from _ (openedPattern text o .closed)))
+    (last-from _ (openedPattern text o .closed)))
 another text (or p c a) o = refl
 
 -- another mark
@@ -53,7 +53,7 @@ last-pattern text (forField h fs key c s) closed = refl
 
 pub last-one : (text : List ℕ) (p : Pattern) (o : ForPattern)
     → lastAlt (openedBehind text p o .waiting) (openedBehind text p o .closed)
-      ≡ opened (openedPattern text o .waiting) (closedOnto (oneOf (alternatives text p)) (openedPattern text o .closed))
+    ≡ opened (openedPattern text o .waiting) (closedOnto (oneOf (alternatives text p)) (openedPattern text o .closed))
 unfolding lastAlt openedBehind pushed partsNoted partsOnto closedOnto alternatives oneOf nodeKind firstBeginning partCount
 last-one text (alone none a) o = last-pattern text o _
 last-one text (alone (some q) a) o = last-pattern text o _
@@ -99,7 +99,7 @@ tuple-some text q is p c = by (isRest p)
   where
     by : (r : Bool)
         → (isNone (orElse (beforeRest is) (cond r (some (itemCount is)) none))
-            && eqb (partCount (cond (not r) (more (writtenItems text (tupleAt q) is) (oneOf (alternatives text p))) (writtenItems text (tupleAt q) is))) 0) ≡ false
+        && eqb (partCount (cond (not r) (more (writtenItems text (tupleAt q) is) (oneOf (alternatives text p))) (writtenItems text (tupleAt q) is))) 0) ≡ false
     by true = rw (some-else (beforeRest is) (itemCount is)) refl
     by false = rw (suc-some (partCount (writtenItems text (tupleAt q) is))) (and-false (isNone (orElse (beforeRest is) none)))
 
@@ -107,8 +107,8 @@ tuple-some text q is p c = by (isRest p)
 item-added :
     (text : List ℕ) (h : ListHead) (is : ListItems) (p : Pattern) (q : Spot) (s : ForPlain) → isRest p ≡ false
     → openedPattern text (forItem h (item is p q) s)
-      ≡ opened (partMore (closedNode (headAt h) (listNode text h (beforeRest is)) (partCount (writtenItems text h is))) ∷ openedPlain text s .waiting)
-          (closedOnto (oneOf (alternatives text p)) (partsOnto (writtenItems text h is) (openedPlain text s .closed)))
+    ≡ opened (partMore (closedNode (headAt h) (listNode text h (beforeRest is)) (partCount (writtenItems text h is))) ∷ openedPlain text s .waiting)
+    (closedOnto (oneOf (alternatives text p)) (partsOnto (writtenItems text h is) (openedPlain text s .closed)))
 unfolding openedPattern pushed partsNoted partMore partsOnto partCount
 item-added text h is p q s e = rw (item-before is p q e) (rw (item-parts text h is p q e) refl)
 
@@ -116,24 +116,24 @@ item-added text h is p q s e = rw (item-before is p q e) (rw (item-parts text h 
 list-shut :
     (text : List ℕ) (h : ListHead) (is : ListItems) (p : Pattern) (q : Spot) (s : ForPlain) → isRest p ≡ false → isGroup h is p ≡ false
     → closedOnto (writtenPlain text (listTo h is p q)) (openedPlain text s .closed)
-      ≡ partMore (closedNode (headAt h) (listNode text h (beforeRest is)) (partCount (writtenItems text h is)))
-          ∷ closedOnto (oneOf (alternatives text p)) (partsOnto (writtenItems text h is) (openedPlain text s .closed))
+    ≡ partMore (closedNode (headAt h) (listNode text h (beforeRest is)) (partCount (writtenItems text h is)))
+    ∷ closedOnto (oneOf (alternatives text p)) (partsOnto (writtenItems text h is) (openedPlain text s .closed))
 unfolding writtenPlain closedOnto partMore partsOnto partCount
 list-shut text h is p q s e g = rw g (rw (is-part h p e) (rw (item-before is p q e) refl))
 
 group-shut :
     (text : List ℕ) (c : Spot) (p : Pattern) (q : Spot) (s : ForPlain) → isRest p ≡ false
     → settle (openedPlain text s .waiting) (closedOnto (writtenPlain text (listTo (tupleAt c) noItem p q)) (openedPlain text s .closed))
-      ≡ itemLast (closedNode (headAt (tupleAt c)) (listNode text (tupleAt c) (beforeRest noItem)) (partCount (writtenItems text (tupleAt c) noItem))) (openedPlain text s .waiting)
-          (closedOnto (oneOf (alternatives text p)) (partsOnto (writtenItems text (tupleAt c) noItem) (openedPlain text s .closed)))
+    ≡ itemLast (closedNode (headAt (tupleAt c)) (listNode text (tupleAt c) (beforeRest noItem)) (partCount (writtenItems text (tupleAt c) noItem))) (openedPlain text s .waiting)
+    (closedOnto (oneOf (alternatives text p)) (partsOnto (writtenItems text (tupleAt c) noItem) (openedPlain text s .closed)))
 unfolding itemLast isBareTuple nodeKind nodeBefore listNode headAt writtenPlain isGroup beforeRest writtenItems partCount partsOnto isNone
 group-shut text c p q s e = rw e (ap (settle (openedPlain text s .waiting)) (sym (begun-last (c .from) (oneOf (alternatives text p)) _)))
 
 item-shut :
     (text : List ℕ) (h : ListHead) (is : ListItems) (p : Pattern) (q : Spot) (s : ForPlain) → isRest p ≡ false
     → settle (openedPlain text s .waiting) (closedOnto (writtenPlain text (listTo h is p q)) (openedPlain text s .closed))
-      ≡ itemLast (closedNode (headAt h) (listNode text h (beforeRest is)) (partCount (writtenItems text h is))) (openedPlain text s .waiting)
-          (closedOnto (oneOf (alternatives text p)) (partsOnto (writtenItems text h is) (openedPlain text s .closed)))
+    ≡ itemLast (closedNode (headAt h) (listNode text h (beforeRest is)) (partCount (writtenItems text h is))) (openedPlain text s .waiting)
+    (closedOnto (oneOf (alternatives text p)) (partsOnto (writtenItems text h is) (openedPlain text s .closed)))
 unfolding itemLast isBareTuple nodeKind nodeBefore listNode headAt isGroup
 item-shut text (tupleAt c) noItem p q s e = group-shut text c p q s e
 item-shut text (tupleAt c) (item is o d) p q s e =
@@ -171,10 +171,10 @@ list-no-field text (sliceAt q) before = refl
 ended-item :
     (text : List ℕ) (h : ListHead) (is : ListItems) (s : ForPlain) (p : Pattern) (m : ℕ) (q : Spot) → isRest p ≡ false → openItemAt (strictly text) h p ≡ none
     → Agrees text
-        (cond (eqb m commaMark) (unlessOpen (openItemAt (strictly text) h p) (begin (forItem h (item is p q) s)))
-        (cond (eqb m (closer h)) (unlessOpen (openItemAt (strictly text) h p) (readAlt (closePlain (listTo h is p q) s)))
-        (failed (q .from))))
-        (endedIn m (q .from) (openedPattern text (forItem h is s) .waiting) (closedOnto (oneOf (alternatives text p)) (openedPattern text (forItem h is s) .closed)))
+    (cond (eqb m commaMark) (unlessOpen (openItemAt (strictly text) h p) (begin (forItem h (item is p q) s)))
+    (cond (eqb m (closer h)) (unlessOpen (openItemAt (strictly text) h p) (readAlt (closePlain (listTo h is p q) s)))
+    (failed (q .from))))
+    (endedIn m (q .from) (openedPattern text (forItem h is s) .waiting) (closedOnto (oneOf (alternatives text p)) (openedPattern text (forItem h is s) .closed)))
 unfolding endedIn openedPattern pushed partsNoted encode steady isRestPlain unlessOpen
 ended-item text h is s p m q e f =
     rw f
@@ -187,18 +187,18 @@ ended-item text h is s p m q e f =
 whole-ended :
     (text : List ℕ) (p : Pattern) (m : ℕ) (q : Spot)
     → Agrees text (cond (eqb m endMark) (done p q) (failed (q .from)))
-        (endedIn m (q .from) (openedPattern text wholeText .waiting) (closedOnto (oneOf (alternatives text p)) (openedPattern text wholeText .closed)))
+    (endedIn m (q .from) (openedPattern text wholeText .waiting) (closedOnto (oneOf (alternatives text p)) (openedPattern text wholeText .closed)))
 unfolding endedIn openedPattern encode steady
 whole-ended text p m q = either (eqb m endMark) (plainly refl refl) halted
 
 ended-field :
     (text : List ℕ) (h : RecordHead) (fs : RecordFields) (key : FieldKey) (c : Spot) (s : ForPlain) (p : Pattern) (m : ℕ) (q : Spot)
     → Agrees text
-        (cond (eqb m commaMark) (readBrace h (field fs (keyed key c p) q) s)
-        (cond (eqb m closeBraceMark) (readAlt (closePlain (recordTo h fs (keyed key c p) q) s))
-        (failed (q .from))))
-        (endedIn m (q .from) (openedPattern text (forField h fs key c s) .waiting)
-            (closedOnto (oneOf (alternatives text p)) (openedPattern text (forField h fs key c s) .closed)))
+    (cond (eqb m commaMark) (readBrace h (field fs (keyed key c p) q) s)
+    (cond (eqb m closeBraceMark) (readAlt (closePlain (recordTo h fs (keyed key c p) q) s))
+    (failed (q .from))))
+    (endedIn m (q .from) (openedPattern text (forField h fs key c s) .waiting)
+    (closedOnto (oneOf (alternatives text p)) (openedPattern text (forField h fs key c s) .closed)))
 unfolding endedIn openedPattern openedRecord pushed partsNoted partsOnto closedOnto partCount encode steady nodeKind grown partMore shutTop writtenFields writtenFieldOf writtenPlain isRestPlain
 ended-field text h fs key c s p m q =
     either (eqb m commaMark) (plainly refl refl)

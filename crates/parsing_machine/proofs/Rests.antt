@@ -126,17 +126,17 @@ rest-item :
     (text : List ℕ) (h : ListHead) (is : ListItems) (s : ForPlain) (p : Pattern) (m : ℕ) (q : Spot)
     → hasRest is ≡ false → isRest p ≡ true → openAt p ≡ none → eqb m orMark ≡ false
     → Agrees text (behind (strictly text) p (forItem h is s) m q)
-        (restItem m (q .from) (restless text h is ∷ openedPlain text s .waiting) (partsOnto (writtenItems text h (item is p q)) (openedPlain text s .closed)))
+    (restItem m (q .from) (restless text h is ∷ openedPlain text s .waiting) (partsOnto (writtenItems text h (item is p q)) (openedPlain text s .closed)))
 unfolding behind unlessOpen openWhere restItem encode steady openedPattern pushed partsNoted isRestPlain
 rest-item text h is s p m q e f g b =
     rw b
     (rw (never-open text (forItem h is s) p g)
     (rw (closes-list text h (beforeRest is) m)
     (either (eqb m commaMark)
-        (plainly
-            (ap (λ x. goingIn Begin nothingHeld (opened (x ∷ openedPlain text s .waiting) (partsOnto (writtenItems text h (item is p q)) (openedPlain text s .closed))))
-                (sym (with-rest text h is p q e f)))
-            refl)
+    (plainly
+    (ap (λ x. goingIn Begin nothingHeld (opened (x ∷ openedPlain text s .waiting) (partsOnto (writtenItems text h (item is p q)) (openedPlain text s .closed))))
+    (sym (with-rest text h is p q e f)))
+    refl)
     (either (eqb m (closer h)) (rw (sym (rest-shut text h is p q (openedPlain text s .closed) e f)) (shut-plain text s (listTo h is p q) refl))
     halted))))
 
@@ -172,7 +172,7 @@ has-none is e = not-true (hasRest is) (sym (rest-none is) ∙ e)
 pub rest-agrees :
     (text : List ℕ) (d : Spot) (l : ForAlt) (m : ℕ) (q : Spot)
     → Agrees text (cond (restStands (strictly text) l m) (after (strictly text) (closeAlt (plain (rest d)) l) m q) (failed (d .from)))
-        (restRead m (q .from) (openedRange text (upToHead (exclusive d)) l .waiting) (openedRange text (upToHead (exclusive d)) l .closed))
+    (restRead m (q .from) (openedRange text (upToHead (exclusive d)) l .waiting) (openedRange text (upToHead (exclusive d)) l .closed))
 unfolding restStands restRead restFits restIn takesRest sliceTakesRest openedRange openedAlt openedPlain openedPattern pushed partsNoted nodeKind nodeBefore listNode dotsAt roomIn roomOf roomBehind behindBar itemRoom listRoom closeAlt fitsRest behindName partsOnto closedOnto writtenItems isPart isRest isRestAlt oneOf alternatives writtenAlt writtenIdent partCount partMore openAt upwardAt
 rest-agrees text d (firstAlt none wholeText) m q = halted
 rest-agrees text d (firstAlt none (forItem (tupleAt c) is s)) m q =
@@ -234,7 +234,7 @@ slice-halts text c is s p m q e f g = rw g (rw (last-one text p (forItem (sliceA
 slice-open :
     (text : List ℕ) (at : ℕ) (c : Spot) (is : ListItems) (s : ForPlain) (p : Pattern) (m : ℕ) (q : Spot) → openAt p ≡ some at → isRest p ≡ false
     → Agrees text (behind (strictly text) p (forItem (sliceAt c) is s) m q)
-        (cond (eqb m commaMark || eqb m closeBracketMark) (haltedAt at) (behindAlt m (q .from) (openedBehind text p (forItem (sliceAt c) is s))))
+    (cond (eqb m commaMark || eqb m closeBracketMark) (haltedAt at) (behindAlt m (q .from) (openedBehind text p (forItem (sliceAt c) is s))))
 unfolding behind closer unlessOpen openItemAt whenStrict
 slice-open text at c is s p m q e f =
     rw e (by (eqb m commaMark) (eqb m closeBracketMark) (eqb m orMark) refl refl refl)
@@ -242,8 +242,8 @@ slice-open text at c is s p m q e f =
     by :
         (x y z : Bool) → eqb m commaMark ≡ x → eqb m closeBracketMark ≡ y → eqb m orMark ≡ z
         → Agrees text
-            (cond z (expect (anyAlt (nextAlt p q (forItem (sliceAt c) is s)))) (cond x (failed at) (cond y (failed at) (failed (q .from)))))
-            (cond (x || y) (haltedAt at) (behindAlt m (q .from) (openedBehind text p (forItem (sliceAt c) is s))))
+        (cond z (expect (anyAlt (nextAlt p q (forItem (sliceAt c) is s)))) (cond x (failed at) (cond y (failed at) (failed (q .from)))))
+        (cond (x || y) (haltedAt at) (behindAlt m (q .from) (openedBehind text p (forItem (sliceAt c) is s))))
     by true y true ex ey ez = absurd (true≢false (sym ez ∙ ap (λ n. eqb n orMark) (eqb-true m commaMark ex)))
     by true y false ex ey ez = halted
     by false true true ex ey ez = absurd (true≢false (sym ez ∙ ap (λ n. eqb n orMark) (eqb-true m closeBracketMark ey)))
@@ -254,7 +254,7 @@ slice-open text at c is s p m q e f =
 settle-open :
     (text : List ℕ) (a : RangeBound) (d : Spot) (l : ForAlt)
     → settle (openedAlt text l .waiting) (closedNode (boundAt a) (rangeNode true false true) 1 ∷ closedNode (boundAt a) (boundIn text a) 0 ∷ openedAlt text l .closed)
-      ≡ openedBehind text (closeAlt (upward a d) l .pattern) (closeAlt (upward a d) l .waiting)
+    ≡ openedBehind text (closeAlt (upward a d) l .pattern) (closeAlt (upward a d) l .waiting)
 unfolding writtenAlt closedOnto partsOnto partCount
 settle-open text a d l = settle-alt text l (upward a d)
 
@@ -263,7 +263,7 @@ open-range :
     → eqb (innermostKind (openedAlt text l .waiting)) 11 ≡ false → isRest (closeAlt (upward a d) l .pattern) ≡ false
     → openWhere text (closeAlt (upward a d) l .waiting) (closeAlt (upward a d) l .pattern) ≡ none
     → Agrees text (after (strictly text) (closeAlt (upward a d) l) m q)
-        (openRange m (q .from) (openedRange text (fromHead a (exclusive d)) l .waiting) (openedRange text (fromHead a (exclusive d)) l .closed))
+    (openRange m (q .from) (openedRange text (fromHead a (exclusive d)) l .waiting) (openedRange text (fromHead a (exclusive d)) l .closed))
 unfolding openRange openedRange pushed noted
 open-range text a d l m q e f g =
     rw e (rw (settle-open text a d l) (behind-agrees text (closeAlt (upward a d) l .pattern) (closeAlt (upward a d) l .waiting) m q f g))
@@ -271,8 +271,8 @@ open-range text a d l m q e f g =
 slice-range :
     (text : List ℕ) (a : RangeBound) (d c : Spot) (is : ListItems) (s : ForPlain) (m : ℕ) (q : Spot)
     → Agrees text (behind (strictly text) (alone none (upward a d)) (forItem (sliceAt c) is s) m q)
-        (openRange m (q .from) (openedRange text (fromHead a (exclusive d)) (firstAlt none (forItem (sliceAt c) is s)) .waiting)
-            (openedRange text (fromHead a (exclusive d)) (firstAlt none (forItem (sliceAt c) is s)) .closed))
+    (openRange m (q .from) (openedRange text (fromHead a (exclusive d)) (firstAlt none (forItem (sliceAt c) is s)) .waiting)
+    (openedRange text (fromHead a (exclusive d)) (firstAlt none (forItem (sliceAt c) is s)) .closed))
 unfolding openRange openedRange closeAlt openedAlt openedPattern pushed noted innermostKind nodeKind listNode isRest isRestAlt openAt upwardAt
 slice-range text a d c is s m q =
     rw (settle-open text a d (firstAlt none (forItem (sliceAt c) is s)))
@@ -282,7 +282,7 @@ slice-range text a d c is s m q =
 pub open-range-agrees :
     (text : List ℕ) (a : RangeBound) (d : Spot) (l : ForAlt) (m : ℕ) (q : Spot)
     → Agrees text (after (strictly text) (closeAlt (upward a d) l) m q)
-        (openRange m (q .from) (openedRange text (fromHead a (exclusive d)) l .waiting) (openedRange text (fromHead a (exclusive d)) l .closed))
+    (openRange m (q .from) (openedRange text (fromHead a (exclusive d)) l .waiting) (openedRange text (fromHead a (exclusive d)) l .closed))
 unfolding closeAlt openedAlt openedPattern pushed innermostKind nodeKind listNode isRest isRestAlt openWhere openItemAt openAt
 open-range-agrees text a d (firstAlt none wholeText) m q = open-range text a d (firstAlt none wholeText) m q refl refl refl
 open-range-agrees text a d (firstAlt none (forItem (tupleAt c) is s)) m q = open-range text a d (firstAlt none (forItem (tupleAt c) is s)) m q refl refl refl

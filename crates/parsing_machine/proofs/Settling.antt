@@ -59,21 +59,21 @@ mutual
   pub settle-alt :
       (text : List ℕ) (l : ForAlt) (a : NoTopAlt)
       → settle (openedAlt text l .waiting) (closedOnto (writtenAlt text a) (openedAlt text l .closed))
-        ≡ openedBehind text (closeAlt a l .pattern) (closeAlt a l .waiting)
+      ≡ openedBehind text (closeAlt a l .pattern) (closeAlt a l .waiting)
   settle-alt text (firstAlt none o) a = settle-pattern text o _
   settle-alt text (firstAlt (some q) o) a = ap (opened (openedPattern text o .waiting)) (begun-last (q .from) (writtenAlt text a) _)
   settle-alt text (nextAlt p c o) a =
       alternatives-some text p _ _
       ∙ ap
-          (λ at. opened (closedNode at orNode (suc (partCount (alternatives text p))) ∷ openedPattern text o .waiting)
-              (closedOnto (writtenAlt text a) (partsOnto (alternatives text p) (openedPattern text o .closed))))
-          (sym (or-beginning text p (writtenAlt text a)))
+      (λ at. opened (closedNode at orNode (suc (partCount (alternatives text p))) ∷ openedPattern text o .waiting)
+      (closedOnto (writtenAlt text a) (partsOnto (alternatives text p) (openedPattern text o .closed))))
+      (sym (or-beginning text p (writtenAlt text a)))
   settle-alt text (behindAt b c s) a = settle-plain text s (identAt b c a)
 
   pub settle-plain :
       (text : List ℕ) (s : ForPlain) (w : WithoutRange)
       → settle (openedPlain text s .waiting) (closedOnto (writtenPlain text w) (openedPlain text s .closed))
-        ≡ openedBehind text (closePlain w s .pattern) (closePlain w s .waiting)
+      ≡ openedBehind text (closePlain w s .pattern) (closePlain w s .waiting)
   settle-plain text (anyAlt l) w = settle-alt text l (plain w)
   settle-plain text (behindAmp (single q) m s) w = settle-plain text s (reference (single q) m w)
   settle-plain text (behindAmp (double q) m s) w = settle-plain text s (reference (double q) m w)

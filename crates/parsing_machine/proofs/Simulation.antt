@@ -36,15 +36,15 @@ range-kind text (fromHead a d) l = refl
 before-plain :
     (text : List ℕ) (s : ForPlain) (w : Rattle.pattern_grammar.specs.Trees.WithoutRange) (m : ℕ) (q : Spot) → isRestPlain w ≡ false
     → Agrees text (after (strictly text) (closePlain w s) m q)
-        (Rattle.parsing_machine.specs.Parser.behindAlt m (q .from)
-            (Rattle.parsing_machine.specs.Waiting.settle (openedPlain text s .waiting) (closedOnto (writtenPlain text w) (openedPlain text s .closed))))
+    (Rattle.parsing_machine.specs.Parser.behindAlt m (q .from)
+    (Rattle.parsing_machine.specs.Waiting.settle (openedPlain text s .waiting) (closedOnto (writtenPlain text w) (openedPlain text s .closed))))
 before-plain text s w m q e = rw (settle-plain text s w) (after-agrees text (closePlain w s) m q (calm-plain s w e))
 
 before-range :
     (text : List ℕ) (h : RangeHead) (l : ForAlt) (p : NamePath) (m : ℕ) (q : Spot)
     → Agrees text (after (strictly text) (closeAlt (rangeOf h (place p)) l) m q)
-        (Rattle.parsing_machine.specs.Parser.behindAlt m (q .from)
-            (shutTop (grown (openedRange text h l .waiting)) (closedOnto (Rattle.pattern_syntax.specs.Reduced.writtenBound text (place p)) (openedRange text h l .closed))))
+    (Rattle.parsing_machine.specs.Parser.behindAlt m (q .from)
+    (shutTop (grown (openedRange text h l .waiting)) (closedOnto (Rattle.pattern_syntax.specs.Reduced.writtenBound text (place p)) (openedRange text h l .closed))))
 before-range text h l p m q = rw (settle-range text h l (place p)) (after-agrees text (closeAlt (rangeOf h (place p)) l) m q (calm-range h l (place p)))
 
 -- a mark behind a path with which a pattern begins

@@ -100,7 +100,6 @@ scalar-case text names s v q move k e f = f ∙ (ap (λ x. scalarBy x v q) e ∙
 
 -- the moves of a name
 module _ (text names : List ℕ) (s : ReadState) (h : HeldRow) (top : ℕ) (n : Identifier) (move : NodeMove) (k from start end : ℕ) (e : k ≡ role s) (f : n .spot .from ≡ from) (b : bytesFrom names start end ≡ identBytes text n) where
-
   pub name-begins : k ≡ 0 → move ≡ holdsName AtName from 0 from start end → moveOf text names move ≡ nameMove text s (heldIn text names s h) top n
   unfolding moveOf heldIn
   name-begins z m = name-case text names s h top n move k e (rw (z, m, sym f, b))
@@ -135,7 +134,6 @@ module _ (text names : List ℕ) (s : ReadState) (h : HeldRow) (top : ℕ) (n : 
 
 -- and of a char
 module _ (text names : List ℕ) (s : ReadState) (move : NodeMove) (k low high from to : ℕ) (e : k ≡ role s) where
-
   pub char-begins : k ≡ 0 → move ≡ holdsLiteral from 2 low high → moveOf text names move ≡ scalarMove s (high * 65536 + low) (spotOf from to)
   unfolding moveOf heldIn literalIn
   char-begins z m = scalar-case text names s (high * 65536 + low) (spotOf from to) move k e (rw (z, m))

@@ -114,13 +114,13 @@ abbrev pub DecidesWhole : List ℕ → ℕ → ℕ → NodeMove → Type 0
 DecidesWhole text from to move =
     (names : List ℕ)
     → moveOf text names move
-      ≡ fitMove text false (spotOf from to) (holds AtLiteral (literalHeld from (wholeValue (decimalIn text (spotOf from to)))))
+    ≡ fitMove text false (spotOf from to) (holds AtLiteral (literalHeld from (wholeValue (decimalIn text (spotOf from to)))))
 
 abbrev pub DecidesWholeBound : List ℕ → ℕ → ℕ → NodeMove → Type 0
 DecidesWholeBound text from to move =
     (names : List ℕ)
     → moveOf text names move
-      ≡ fitMove text false (spotOf from to) (shutsRange (closedNode from (boundNode (wholeValue (decimalIn text (spotOf from to)))) 0))
+    ≡ fitMove text false (spotOf from to) (shutsRange (closedNode from (boundNode (wholeValue (decimalIn text (spotOf from to)))) 0))
 
 -- a closing mark where a pattern may begin
 abbrev pub DecidesClosing : ℕ → ℕ → ℕ → NodeMove → Type 0
@@ -182,21 +182,21 @@ abbrev pub DecidesLower : HeldRow → ℕ → ReadState → ℕ → ℕ → Node
 DecidesLower h top s dots from move =
     (text names : List ℕ) (to : ℕ)
     → moveOf text names move
-      ≡ rangedMove top (spotOf from to) (opensBehind s (heldBoundPath (plainHeld names h)) (rangeFrom (plainHeld names h) (eqb dots 1)))
+    ≡ rangedMove top (spotOf from to) (opensBehind s (heldBoundPath (plainHeld names h)) (rangeFrom (plainHeld names h) (eqb dots 1)))
 
 abbrev pub DecidesLowerLiteral : HeldRow → ℕ → ReadState → ℕ → ℕ → NodeMove → Type 0
 DecidesLowerLiteral h top s dots from move =
     (text names : List ℕ) (to : ℕ)
     → moveOf text names move
-      ≡ rangedMove top (spotOf from to)
-          (opensBehind s (heldBound (heldIn text names AtLiteral h)) (rangeFrom (heldIn text names AtLiteral h) (eqb dots 1)))
+    ≡ rangedMove top (spotOf from to)
+    (opensBehind s (heldBound (heldIn text names AtLiteral h)) (rangeFrom (heldIn text names AtLiteral h) (eqb dots 1)))
 
 -- a field that is a name alone
 abbrev pub DecidesField : HeldRow → ℕ → ℕ → ℕ → NodeMove → Type 0
 DecidesField h flags m from move =
     (text names : List ℕ) (to : ℕ)
     → moveOf text names move
-      ≡ fieldMove (namedHeld (h .at) (eqb flags 1 || eqb flags 3) (leb 2 flags) (heldName names h)) m (spotOf from to)
+    ≡ fieldMove (namedHeld (h .at) (eqb flags 1 || eqb flags 3) (leb 2 flags) (heldName names h)) m (spotOf from to)
 
 -- where nothing is held, an integer behind a minus, an integer that is a field, and in a record
 abbrev pub DecidesIn : List ℕ → ReadState → ℕ → ℕ → ℕ → ℕ → NodeMove → Type 0

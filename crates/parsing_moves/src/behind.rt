@@ -83,7 +83,11 @@ fn lower_literal(held: HeldRow, top: u16, state: ReadState, dots: u16, from: u16
     let sort = held.more;
     let start = held.from;
     let end = held.to;
-    NodeMove::OpensBehind(state, literal_row(3, at, sort, start, end), range_row(at, dots))
+    NodeMove::OpensBehind(
+        state,
+        literal_row(3, at, sort, start, end),
+        range_row(at, dots),
+    )
 }
 
 pub fn literal_mark(held: HeldRow, top: u16, m: u16, from: u16) -> NodeMove
@@ -125,10 +129,16 @@ fn field_move(held: HeldRow, flags: u16, m: u16, from: u16) -> NodeMove
     let at = held.at;
     let spot = held.spot;
     if m == 1 {
-        return NodeMove::AddsField(named_row(7, at, 0, flags, held), named_row(13, spot, 1, 0, held));
+        return NodeMove::AddsField(
+            named_row(7, at, 0, flags, held),
+            named_row(13, spot, 1, 0, held),
+        );
     }
     if m == 5 {
-        return NodeMove::AddsLastField(named_row(7, at, 0, flags, held), named_row(13, spot, 1, 0, held));
+        return NodeMove::AddsLastField(
+            named_row(7, at, 0, flags, held),
+            named_row(13, spot, 1, 0, held),
+        );
     }
     NodeMove::Halts(from)
 }

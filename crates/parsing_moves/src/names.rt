@@ -53,7 +53,14 @@ fn holds_name(state: ReadState, at: u16, more: u16, spot: u16, start: u16, end: 
 }
 
 // A name at a position, whose bytes have been copied to the names', from `start` to `end`, behind `::` if it goes on a path.
-pub fn name_move(state: ReadState, held: HeldRow, top: u16, from: u16, start: u16, end: u16) -> NodeMove
+pub fn name_move(
+    state: ReadState,
+    held: HeldRow,
+    top: u16,
+    from: u16,
+    start: u16,
+    end: u16,
+) -> NodeMove
     ensures { λ r. ⌜ DecidesName state held top from start end r ⌝ }
 {
     let at = held.at;

@@ -52,10 +52,10 @@ pub waits-new :
 unfolding openedOf anotherAlt pushed closedNodeOf nodeOf
 waits-new stack nodes after depth rows d k at g t e l ge w de = record {
   shows = λ text names.
-    rw (sym (t .tells text names), e, sym (l .tells text names))
-    (ap (λ x. opened (rowsDown text names after x) (rowsDown text names nodes rows)) de
-    ∙ (ap (λ x. opened x (rowsDown text names nodes rows)) (rows-put w text names)
-    ∙ ap (λ x. opened (closedNodeOf text names x ∷ rowsDown text names stack depth) (rowsDown text names nodes rows)) ge));
+      rw (sym (t .tells text names), e, sym (l .tells text names))
+      (ap (λ x. opened (rowsDown text names after x) (rowsDown text names nodes rows)) de
+      ∙ (ap (λ x. opened x (rowsDown text names nodes rows)) (rows-put w text names)
+      ∙ ap (λ x. opened (closedNodeOf text names x ∷ rowsDown text names stack depth) (rowsDown text names nodes rows)) ge));
 }
 
 pub ends-whole : (stack nodes : List ℕ) (depth rows m at : ℕ) → depth ≡ 0 → eqb m endMark ≡ true → EndsIn stack nodes depth rows m at stack nodes (Ended rows)
@@ -72,7 +72,7 @@ pub ends-field :
 unfolding endedIn rowsDown closedNodeOf
 ends-field {stack} {nodes} {depth} {rows} {m} {at} e k f de fe ke o w = record {
   shows = λ text names.
-    rw (de, sym fe, ap (λ x. eqb x 13) (kind-same text names f ∙ sym ke) ∙ o) (w .shows text names);
+      rw (de, sym fe, ap (λ x. eqb x 13) (kind-same text names f ∙ sym ke) ∙ o) (w .shows text names);
 }
 
 pub ends-item :
@@ -81,7 +81,7 @@ pub ends-item :
 unfolding endedIn rowsDown closedNodeOf
 ends-item {stack} {nodes} {depth} {rows} {m} {at} e k f de fe ke o w = record {
   shows = λ text names.
-    rw (de, sym fe, ap (λ x. eqb x 13) (kind-same text names f ∙ sym ke) ∙ o) (w .shows text names);
+      rw (de, sym fe, ap (λ x. eqb x 13) (kind-same text names f ∙ sym ke) ∙ o) (w .shows text names);
 }
 
 pub behind-or :
@@ -135,8 +135,8 @@ pub behind-shuts :
 unfolding behindAlt openedOf
 behind-shuts {stack} {nodes} {middle} {depth} {rows} {n} {m} {at} e k f c t o de fe w ne s = record {
   shows = λ text names.
-    rw (c, last-or text names stack nodes depth rows e k f t o de fe)
-    (s .shows text names
-    ∙ (ap (λ x. endedIn m at (rowsDown text names stack e) (rowsDown text names middle x)) ne
-    ∙ ap (endedIn m at (rowsDown text names stack e)) (rows-put w text names)));
+      rw (c, last-or text names stack nodes depth rows e k f t o de fe)
+      (s .shows text names
+      ∙ (ap (λ x. endedIn m at (rowsDown text names stack e) (rowsDown text names middle x)) ne
+      ∙ ap (endedIn m at (rowsDown text names stack e)) (rows-put w text names)));
 }

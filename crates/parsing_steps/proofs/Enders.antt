@@ -41,9 +41,9 @@ pub grows-one :
 unfolding rowsDown grown
 grows-one stack after depth e f g de fe ge w = record {
   shows = λ text names.
-    ap (rowsDown text names after) de
-    ∙ (rows-grown ge w text names
-    ∙ (ap (λ x. partMore (closedNodeOf text names x) ∷ rowsDown text names stack e) fe ∙ ap (λ x. grown (rowsDown text names stack x)) (sym de)));
+      ap (rowsDown text names after) de
+      ∙ (rows-grown ge w text names
+      ∙ (ap (λ x. partMore (closedNodeOf text names x) ∷ rowsDown text names stack e) fe ∙ ap (λ x. grown (rowsDown text names stack x)) (sym de)));
 }
 
 pub shuts-none : (stack nodes : List ℕ) (depth rows : ℕ) → depth ≡ 0 → ShutsGrown stack nodes depth rows stack nodes (record { depth = depth; rows = rows })
@@ -58,11 +58,11 @@ pub shuts-one :
 unfolding rowsDown grown shutTop
 shuts-one {stack} {nodes} {depth} {rows} {e} {f} de fe ge s = record {
   shows = λ text names.
-    s .shows text names
-    ∙ (ap (λ x. settle (rowsDown text names stack e) (closedNodeOf text names x ∷ rowsDown text names nodes rows)) ge
-    ∙ (ap (λ x. settle (rowsDown text names stack e) (x ∷ rowsDown text names nodes rows)) (grown-node text names f)
-    ∙ (ap (λ x. settle (rowsDown text names stack e) (partMore (closedNodeOf text names x) ∷ rowsDown text names nodes rows)) fe
-    ∙ ap (λ x. shutTop (grown (rowsDown text names stack x)) (rowsDown text names nodes rows)) (sym de))));
+      s .shows text names
+      ∙ (ap (λ x. settle (rowsDown text names stack e) (closedNodeOf text names x ∷ rowsDown text names nodes rows)) ge
+      ∙ (ap (λ x. settle (rowsDown text names stack e) (x ∷ rowsDown text names nodes rows)) (grown-node text names f)
+      ∙ (ap (λ x. settle (rowsDown text names stack e) (partMore (closedNodeOf text names x) ∷ rowsDown text names nodes rows)) fe
+      ∙ ap (λ x. shutTop (grown (rowsDown text names stack x)) (rowsDown text names nodes rows)) (sym de))));
 }
 
 -- the kind of a row, where a list's end is asked for
@@ -76,9 +76,9 @@ pub item-next :
 unfolding courseOf heldIn openedOf
 item-next stack nodes after below rows d m at f g r c ge w de re = record {
   shows = λ text names.
-    rw (c, re)
-    (ap (λ x. goingIn Begin nothingHeld (opened (rowsDown text names after x) (rowsDown text names nodes rows))) de
-    ∙ ap (λ x. goingIn Begin nothingHeld (opened x (rowsDown text names nodes rows))) (rows-grown ge w text names));
+      rw (c, re)
+      (ap (λ x. goingIn Begin nothingHeld (opened (rowsDown text names after x) (rowsDown text names nodes rows))) de
+      ∙ ap (λ x. goingIn Begin nothingHeld (opened x (rowsDown text names nodes rows))) (rows-grown ge w text names));
 }
 
 pub item-ends :
@@ -103,10 +103,10 @@ pub field-next :
 unfolding courseOf heldIn openedOf
 field-next stack nodes stack′ nodes′ below rows n m at f g r c ge w t ne re = record {
   shows = λ text names.
-    rw (c, re)
-    (ap (λ x. goingIn AtBrace nothingHeld (opened x (rowsDown text names nodes′ n))) (t .shows text names)
-    ∙ (ap (λ x. goingIn AtBrace nothingHeld (opened (grown (rowsDown text names stack below)) (rowsDown text names nodes′ x))) ne
-    ∙ ap (λ x. goingIn AtBrace nothingHeld (opened (grown (rowsDown text names stack below)) x)) (rows-grown ge w text names)));
+      rw (c, re)
+      (ap (λ x. goingIn AtBrace nothingHeld (opened x (rowsDown text names nodes′ n))) (t .shows text names)
+      ∙ (ap (λ x. goingIn AtBrace nothingHeld (opened (grown (rowsDown text names stack below)) (rowsDown text names nodes′ x))) ne
+      ∙ ap (λ x. goingIn AtBrace nothingHeld (opened (grown (rowsDown text names stack below)) x)) (rows-grown ge w text names)));
 }
 
 pub field-ends :
@@ -116,10 +116,10 @@ pub field-ends :
 unfolding courseOf heldIn
 field-ends {stack} {nodes} {middle} {below} m at r c b ge w ne s re = record {
   shows = λ text names.
-    rw (c, b, re)
-    (ap altRead (s .shows text names)
-    ∙ (ap (λ x. altRead (shutTop (grown (rowsDown text names stack below)) (rowsDown text names middle x))) ne
-    ∙ ap (λ x. altRead (shutTop (grown (rowsDown text names stack below)) x)) (rows-grown ge w text names)));
+      rw (c, b, re)
+      (ap altRead (s .shows text names)
+      ∙ (ap (λ x. altRead (shutTop (grown (rowsDown text names stack below)) (rowsDown text names middle x))) ne
+      ∙ ap (λ x. altRead (shutTop (grown (rowsDown text names stack below)) x)) (rows-grown ge w text names)));
 }
 
 pub field-halts :

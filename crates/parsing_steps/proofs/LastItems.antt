@@ -66,10 +66,10 @@ pub ends-bare :
 unfolding itemLast closedNodeOf
 ends-bare {stack} {nodes} {middle} {below} {rows} {f} e b s = record {
   shows = λ text names.
-    s .shows text names
-    ∙ (ap (settle (rowsDown text names stack below)) (b text names)
-    ∙ ap (λ x. cond x (settle (rowsDown text names stack below) (begunLast (f .at) (rowsDown text names nodes rows))) (settle (rowsDown text names stack below) (partMore (closedNodeOf text names f) ∷ rowsDown text names nodes rows)))
-        (sym (bare-same text names f ∙ e)));
+      s .shows text names
+      ∙ (ap (settle (rowsDown text names stack below)) (b text names)
+      ∙ ap (λ x. cond x (settle (rowsDown text names stack below) (begunLast (f .at) (rowsDown text names nodes rows))) (settle (rowsDown text names stack below) (partMore (closedNodeOf text names f) ∷ rowsDown text names nodes rows)))
+      (sym (bare-same text names f ∙ e)));
   total = let t = s .total in omega (arith, t);
 }
 
@@ -79,10 +79,10 @@ pub ends-list :
 unfolding itemLast closedNodeOf
 ends-list {stack} {nodes} {below} {rows} {f} e h s = record {
   shows = λ text names.
-    s .shows text names
-    ∙ (ap (λ x. settle (rowsDown text names stack below) (closedNodeOf text names x ∷ rowsDown text names nodes rows)) h
-    ∙ (ap (λ x. settle (rowsDown text names stack below) (x ∷ rowsDown text names nodes rows)) (grown-node text names f)
-    ∙ ap (λ x. cond x (settle (rowsDown text names stack below) (begunLast (f .at) (rowsDown text names nodes rows))) (settle (rowsDown text names stack below) (partMore (closedNodeOf text names f) ∷ rowsDown text names nodes rows)))
-        (sym (bare-same text names f ∙ e))));
+      s .shows text names
+      ∙ (ap (λ x. settle (rowsDown text names stack below) (closedNodeOf text names x ∷ rowsDown text names nodes rows)) h
+      ∙ (ap (λ x. settle (rowsDown text names stack below) (x ∷ rowsDown text names nodes rows)) (grown-node text names f)
+      ∙ ap (λ x. cond x (settle (rowsDown text names stack below) (begunLast (f .at) (rowsDown text names nodes rows))) (settle (rowsDown text names stack below) (partMore (closedNodeOf text names f) ∷ rowsDown text names nodes rows)))
+      (sym (bare-same text names f ∙ e))));
   total = s .total;
 }

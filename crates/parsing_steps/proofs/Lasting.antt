@@ -76,7 +76,7 @@ pub last-stays :
 unfolding openedOf rowsDown innermostOr closedNodeOf
 last-stays stack nodes depth rows e k f de fe ke o = record {
   shows = λ text names p. sym (stays (rowsDown text names stack depth) (rowsDown text names nodes rows) p
-    (rw de (ap (λ x. eqb x 14) (kind-same text names (nodeRowAt stack e) ∙ (ap rowKind (sym fe) ∙ sym ke)) ∙ o)));
+      (rw de (ap (λ x. eqb x 14) (kind-same text names (nodeRowAt stack e) ∙ (ap rowKind (sym fe) ∙ sym ke)) ∙ o)));
   total = omega arith;
   raises = same-parts stack depth depth (omega arith);
 }
@@ -87,13 +87,13 @@ pub last-bar :
 unfolding openedOf rowsDown closedNodeOf
 last-bar stack nodes after depth rows e k f de fe ke o z b = record {
   shows = λ text names p.
-    ap (opened (rowsDown text names stack e)) (b text names)
-    ∙ (ap (λ x. opened (rowsDown text names stack e) (begunLast (x .at) (rowsDown text names nodes rows))) fe
-    ∙ (sym (bar (closedNodeOf text names (nodeRowAt stack e)) (rowsDown text names stack e) (rowsDown text names nodes rows)
-            (ap (λ x. passesFirst (rowsDown text names stack x)) (sym de) ∙ p)
-            (ap (λ x. eqb x 14) (kind-same text names (nodeRowAt stack e) ∙ (ap rowKind (sym fe) ∙ sym ke)) ∙ o)
-            (ap (λ (x : NodeRow). eqb (x .parts) 0) (sym fe) ∙ z))
-    ∙ ap (λ x. settle (rowsDown text names stack x) (rowsDown text names nodes rows)) (sym de)));
+      ap (opened (rowsDown text names stack e)) (b text names)
+      ∙ (ap (λ x. opened (rowsDown text names stack e) (begunLast (x .at) (rowsDown text names nodes rows))) fe
+      ∙ (sym (bar (closedNodeOf text names (nodeRowAt stack e)) (rowsDown text names stack e) (rowsDown text names nodes rows)
+      (ap (λ x. passesFirst (rowsDown text names stack x)) (sym de) ∙ p)
+      (ap (λ x. eqb x 14) (kind-same text names (nodeRowAt stack e) ∙ (ap rowKind (sym fe) ∙ sym ke)) ∙ o)
+      (ap (λ (x : NodeRow). eqb (x .parts) 0) (sym fe) ∙ z))
+      ∙ ap (λ x. settle (rowsDown text names stack x) (rowsDown text names nodes rows)) (sym de)));
   total = omega (arith, de);
   raises = same-parts stack depth e (omega (arith, de));
 }
@@ -104,13 +104,13 @@ pub last-or :
 unfolding openedOf rowsDown closedNodeOf
 last-or stack nodes after depth rows e k f g de fe ke o z ge w = record {
   shows = λ text names p.
-    ap (λ x. opened (rowsDown text names after x) (rowsDown text names nodes rows)) de
-    ∙ (ap (λ x. opened x (rowsDown text names nodes rows)) (rows-put w text names ∙ (ap (λ x. closedNodeOf text names x ∷ rowsDown text names stack e) ge ∙ (ap (λ x. x ∷ rowsDown text names stack e) (grown-node text names f) ∙ ap (λ x. partMore (closedNodeOf text names x) ∷ rowsDown text names stack e) fe)))
-    ∙ (sym (or-more (closedNodeOf text names (nodeRowAt stack e)) (rowsDown text names stack e) (rowsDown text names nodes rows)
-            (ap (λ x. passesFirst (rowsDown text names stack x)) (sym de) ∙ p)
-            (ap (λ x. eqb x 14) (kind-same text names (nodeRowAt stack e) ∙ (ap rowKind (sym fe) ∙ sym ke)) ∙ o)
-            (ap (λ (x : NodeRow). eqb (x .parts) 0) (sym fe) ∙ z))
-    ∙ ap (λ x. settle (rowsDown text names stack x) (rowsDown text names nodes rows)) (sym de)));
+      ap (λ x. opened (rowsDown text names after x) (rowsDown text names nodes rows)) de
+      ∙ (ap (λ x. opened x (rowsDown text names nodes rows)) (rows-put w text names ∙ (ap (λ x. closedNodeOf text names x ∷ rowsDown text names stack e) ge ∙ (ap (λ x. x ∷ rowsDown text names stack e) (grown-node text names f) ∙ ap (λ x. partMore (closedNodeOf text names x) ∷ rowsDown text names stack e) fe)))
+      ∙ (sym (or-more (closedNodeOf text names (nodeRowAt stack e)) (rowsDown text names stack e) (rowsDown text names nodes rows)
+      (ap (λ x. passesFirst (rowsDown text names stack x)) (sym de) ∙ p)
+      (ap (λ x. eqb x 14) (kind-same text names (nodeRowAt stack e) ∙ (ap rowKind (sym fe) ∙ sym ke)) ∙ o)
+      (ap (λ (x : NodeRow). eqb (x .parts) 0) (sym fe) ∙ z))
+      ∙ ap (λ x. settle (rowsDown text names stack x) (rowsDown text names nodes rows)) (sym de)));
   total = omega arith;
   raises = grown-parts stack after depth e f g de fe ge w;
 }
@@ -134,9 +134,9 @@ pub shuts :
     → Puts nodes rows w middle → n ≡ suc rows → Settles stack middle below n stack′ nodes′ r → Shuts stack nodes below rows w stack′ nodes′ r
 shuts {stack} {nodes} {middle} {below} {rows} p e s = record {
   shows = λ text names.
-    s .shows text names
-    ∙ (ap (λ x. settle (rowsDown text names stack below) (rowsDown text names middle x)) e
-    ∙ ap (settle (rowsDown text names stack below)) (rows-put p text names));
+      s .shows text names
+      ∙ (ap (λ x. settle (rowsDown text names stack below) (rowsDown text names middle x)) e
+      ∙ ap (settle (rowsDown text names stack below)) (rows-put p text names));
   total = let t = s .total in omega (arith, t, e);
   raises = s .raises;
 }

@@ -40,15 +40,15 @@ pub passes-one :
 unfolding rowsDown closedNodeOf
 passes-one {stack} {nodes} {depth} {rows} {now} {after} {d} {n} {f} {g} e k inv de kn fe p ge w = record {
   goes = λ text names.
-    ap (λ x. settle (rowsDown text names stack e) (rowsDown text names after x)) kn
-    ∙ (ap (settle (rowsDown text names stack e)) (rows-put w text names)
-    ∙ (ap (λ x. settle (rowsDown text names stack e) (closedNodeOf text names x ∷ rowsDown text names now n)) ge
-    ∙ (ap (λ x. settle (rowsDown text names stack e) (x ∷ rowsDown text names now n)) (grown-node text names f)
-    ∙ (ap (λ x. settle (rowsDown text names stack e) (partMore (closedNodeOf text names x) ∷ rowsDown text names now n)) fe
-    ∙ (sym (settle-passes (closedNodeOf text names (nodeRowAt stack e)) (rowsDown text names stack e) (rowsDown text names now n)
-            (node-passes text names (nodeRowAt stack e) true (ap passesBy (sym fe) ∙ p)))
-    ∙ (ap (λ x. settle (rowsDown text names stack x) (rowsDown text names now n)) (sym de)
-    ∙ inv .goes text names))))));
+      ap (λ x. settle (rowsDown text names stack e) (rowsDown text names after x)) kn
+      ∙ (ap (settle (rowsDown text names stack e)) (rows-put w text names)
+      ∙ (ap (λ x. settle (rowsDown text names stack e) (closedNodeOf text names x ∷ rowsDown text names now n)) ge
+      ∙ (ap (λ x. settle (rowsDown text names stack e) (x ∷ rowsDown text names now n)) (grown-node text names f)
+      ∙ (ap (λ x. settle (rowsDown text names stack e) (partMore (closedNodeOf text names x) ∷ rowsDown text names now n)) fe
+      ∙ (sym (settle-passes (closedNodeOf text names (nodeRowAt stack e)) (rowsDown text names stack e) (rowsDown text names now n)
+      (node-passes text names (nodeRowAt stack e) true (ap passesBy (sym fe) ∙ p)))
+      ∙ (ap (λ x. settle (rowsDown text names stack x) (rowsDown text names now n)) (sym de)
+      ∙ inv .goes text names))))));
   total = let t = inv .total in omega (arith, t, de, kn);
   shallow = let s = inv .shallow in omega (arith, s, de);
 }

@@ -22,11 +22,11 @@ pub record LastIs (nodes : List ℕ) (rows at : ℕ) : Type 0 where
 
 pub record AnotherWaits (stack nodes : List ℕ) (depth rows : ℕ) (stack′ : List ℕ) (r : Heights) : Type 0 where
   pub shows :
-    (text names : List ℕ) → openedOf text names stack′ nodes (r .depth) (r .rows) ≡ anotherAlt (openedOf text names stack nodes depth rows)
+      (text names : List ℕ) → openedOf text names stack′ nodes (r .depth) (r .rows) ≡ anotherAlt (openedOf text names stack nodes depth rows)
 
 pub record EndsIn (stack nodes : List ℕ) (depth rows m at : ℕ) (stack′ nodes′ : List ℕ) (r : ParseStep) : Type 0 where
   pub shows :
-    (text names : List ℕ) → courseOf text names stack′ nodes′ r ≡ endedIn m at (rowsDown text names stack depth) (rowsDown text names nodes rows)
+      (text names : List ℕ) → courseOf text names stack′ nodes′ r ≡ endedIn m at (rowsDown text names stack depth) (rowsDown text names nodes rows)
 
 pub record StandsBehind (stack nodes : List ℕ) (depth rows m at : ℕ) (stack′ nodes′ : List ℕ) (r : ParseStep) : Type 0 where
   pub shows : (text names : List ℕ) → courseOf text names stack′ nodes′ r ≡ behindAlt m at (openedOf text names stack nodes depth rows)

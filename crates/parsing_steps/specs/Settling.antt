@@ -51,24 +51,24 @@ BeginsLast nodes rows at after = (text names : List ℕ) → rowsDown text names
 -- an alternative has closed: what the tables hold then, which is no more than before, and has a part more at most
 pub record Settles (stack nodes : List ℕ) (depth rows : ℕ) (stack′ nodes′ : List ℕ) (r : Heights) : Type 0 where
   pub shows :
-    (text names : List ℕ)
-    → openedOf text names stack′ nodes′ (r .depth) (r .rows) ≡ settle (rowsDown text names stack depth) (rowsDown text names nodes rows)
+      (text names : List ℕ)
+      → openedOf text names stack′ nodes′ (r .depth) (r .rows) ≡ settle (rowsDown text names stack depth) (rowsDown text names nodes rows)
   pub total : r .depth + r .rows ≤ depth + rows
   pub raises : (most : ℕ) → PartsMost most stack depth → PartsMost (suc most) stack′ (r .depth)
 
 -- the same where what waits innermost is no name with `@` and no reference
 pub record SettlesLast (stack nodes : List ℕ) (depth rows : ℕ) (stack′ nodes′ : List ℕ) (r : Heights) : Type 0 where
   pub shows :
-    (text names : List ℕ) → passesFirst (rowsDown text names stack depth) ≡ false
-    → openedOf text names stack′ nodes′ (r .depth) (r .rows) ≡ settle (rowsDown text names stack depth) (rowsDown text names nodes rows)
+      (text names : List ℕ) → passesFirst (rowsDown text names stack depth) ≡ false
+      → openedOf text names stack′ nodes′ (r .depth) (r .rows) ≡ settle (rowsDown text names stack depth) (rowsDown text names nodes rows)
   pub total : r .depth + r .rows ≤ depth + rows
   pub raises : (most : ℕ) → PartsMost most stack depth → PartsMost (suc most) stack′ (r .depth)
 
 -- a node closes above what waits
 pub record Shuts (stack nodes : List ℕ) (below rows : ℕ) (w : NodeRow) (stack′ nodes′ : List ℕ) (r : Heights) : Type 0 where
   pub shows :
-    (text names : List ℕ)
-    → openedOf text names stack′ nodes′ (r .depth) (r .rows)
+      (text names : List ℕ)
+      → openedOf text names stack′ nodes′ (r .depth) (r .rows)
       ≡ settle (rowsDown text names stack below) (closedNodeOf text names w ∷ rowsDown text names nodes rows)
   pub total : r .depth + r .rows ≤ suc (below + rows)
   pub raises : (most : ℕ) → PartsMost most stack below → PartsMost (suc most) stack′ (r .depth)

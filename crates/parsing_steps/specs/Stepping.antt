@@ -37,40 +37,40 @@ isBareRow row = eqb (rowKind row) 9 && (eqb (row .more) 65535 && eqb (row .parts
 -- an item is the last of its list
 pub record EndsItem (stack nodes : List ℕ) (below rows : ℕ) (f : NodeRow) (stack′ nodes′ : List ℕ) (r : Heights) : Type 0 where
   pub shows :
-    (text names : List ℕ)
-    → openedOf text names stack′ nodes′ (r .depth) (r .rows)
+      (text names : List ℕ)
+      → openedOf text names stack′ nodes′ (r .depth) (r .rows)
       ≡ itemLast (closedNodeOf text names f) (rowsDown text names stack below) (rowsDown text names nodes rows)
   pub total : r .depth + r .rows ≤ suc (below + rows)
 
 -- what waits innermost has a part more
 pub record GrowsTop (stack : List ℕ) (depth : ℕ) (after : List ℕ) : Type 0 where
   pub shows :
-    (text names : List ℕ) → rowsDown text names after depth ≡ grown (rowsDown text names stack depth)
+      (text names : List ℕ) → rowsDown text names after depth ≡ grown (rowsDown text names stack depth)
 
 -- or closes with it
 pub record ShutsGrown (stack nodes : List ℕ) (depth rows : ℕ) (stack′ nodes′ : List ℕ) (r : Heights) : Type 0 where
   pub shows :
-    (text names : List ℕ)
-    → openedOf text names stack′ nodes′ (r .depth) (r .rows) ≡ shutTop (grown (rowsDown text names stack depth)) (rowsDown text names nodes rows)
+      (text names : List ℕ)
+      → openedOf text names stack′ nodes′ (r .depth) (r .rows) ≡ shutTop (grown (rowsDown text names stack depth)) (rowsDown text names nodes rows)
 
 -- a mark behind a list's item, and behind a field's pattern, as `endedIn` has it
 pub record EndsInItem (stack nodes : List ℕ) (below rows : ℕ) (f : NodeRow) (m at : ℕ) (stack′ nodes′ : List ℕ) (r : ParseStep) : Type 0 where
   pub shows :
-    (text names : List ℕ)
-    → courseOf text names stack′ nodes′ r
+      (text names : List ℕ)
+      → courseOf text names stack′ nodes′ r
       ≡ cond (eqb m commaMark)
-          (goingIn Begin nothingHeld (opened (partMore (closedNodeOf text names f) ∷ rowsDown text names stack below) (rowsDown text names nodes rows)))
-          (cond (closes (nodeKind (closedNodeOf text names f .is)) m)
-          (altRead (itemLast (closedNodeOf text names f) (rowsDown text names stack below) (rowsDown text names nodes rows)))
-          (haltedAt at))
+      (goingIn Begin nothingHeld (opened (partMore (closedNodeOf text names f) ∷ rowsDown text names stack below) (rowsDown text names nodes rows)))
+      (cond (closes (nodeKind (closedNodeOf text names f .is)) m)
+      (altRead (itemLast (closedNodeOf text names f) (rowsDown text names stack below) (rowsDown text names nodes rows)))
+      (haltedAt at))
 
 pub record EndsInField (stack nodes : List ℕ) (below rows : ℕ) (f : NodeRow) (m at : ℕ) (stack′ nodes′ : List ℕ) (r : ParseStep) : Type 0 where
   pub shows :
-    (text names : List ℕ)
-    → courseOf text names stack′ nodes′ r
+      (text names : List ℕ)
+      → courseOf text names stack′ nodes′ r
       ≡ cond (eqb m commaMark)
-          (goingIn AtBrace nothingHeld
-          (opened (grown (rowsDown text names stack below)) (partMore (closedNodeOf text names f) ∷ rowsDown text names nodes rows)))
-          (cond (eqb m closeBraceMark)
-          (altRead (shutTop (grown (rowsDown text names stack below)) (partMore (closedNodeOf text names f) ∷ rowsDown text names nodes rows)))
-          (haltedAt at))
+      (goingIn AtBrace nothingHeld
+      (opened (grown (rowsDown text names stack below)) (partMore (closedNodeOf text names f) ∷ rowsDown text names nodes rows)))
+      (cond (eqb m closeBraceMark)
+      (altRead (shutTop (grown (rowsDown text names stack below)) (partMore (closedNodeOf text names f) ∷ rowsDown text names nodes rows)))
+      (haltedAt at))

@@ -54,7 +54,12 @@ fn or_row(at: u16) -> NodeRow
 }
 
 // Another alternative follows: an Or waits.
-fn another(stack: &mut [u16; NODE_WORDS], nodes: &[u16; NODE_WORDS], depth: usize, rows: usize) -> Heights
+fn another(
+    stack: &mut [u16; NODE_WORDS],
+    nodes: &[u16; NODE_WORDS],
+    depth: usize,
+    rows: usize,
+) -> Heights
     requires { ⌜ depth + rows < 16384 ⌝ }
     ensures { λ r. ⌜ AnotherWaits (now (stack .entry)) (now (nodes .entry)) depth rows (now (stack .exit)) r ⌝ }
 {
@@ -70,7 +75,14 @@ fn another(stack: &mut [u16; NODE_WORDS], nodes: &[u16; NODE_WORDS], depth: usiz
 }
 
 // A mark but `|` behind a pattern.
-fn ended(stack: &mut [u16; NODE_WORDS], nodes: &mut [u16; NODE_WORDS], depth: usize, rows: usize, m: u16, at: u16) -> ParseStep
+fn ended(
+    stack: &mut [u16; NODE_WORDS],
+    nodes: &mut [u16; NODE_WORDS],
+    depth: usize,
+    rows: usize,
+    m: u16,
+    at: u16,
+) -> ParseStep
     requires { ⌜ (depth + rows ≤ 16384) × PartsMost 30001 (now stack) depth ⌝ }
     ensures { λ r. ⌜ EndsIn (now (stack .entry)) (now (nodes .entry)) depth rows m at (now (stack .exit)) (now (nodes .exit)) r ⌝ }
 {
@@ -87,7 +99,14 @@ fn ended(stack: &mut [u16; NODE_WORDS], nodes: &mut [u16; NODE_WORDS], depth: us
     ended_item(stack, nodes, depth - 1, rows, f, m, at)
 }
 
-pub fn behind_alt(stack: &mut [u16; NODE_WORDS], nodes: &mut [u16; NODE_WORDS], depth: usize, rows: usize, m: u16, at: u16) -> ParseStep
+pub fn behind_alt(
+    stack: &mut [u16; NODE_WORDS],
+    nodes: &mut [u16; NODE_WORDS],
+    depth: usize,
+    rows: usize,
+    m: u16,
+    at: u16,
+) -> ParseStep
     requires { ⌜ (depth + rows + orOne m ≤ 16384) × PartsMost 30001 (now stack) depth ⌝ }
     ensures { λ r. ⌜ StandsBehind (now (stack .entry)) (now (nodes .entry)) depth rows m at (now (stack .exit)) (now (nodes .exit)) r ⌝ }
 {

@@ -70,7 +70,13 @@ fn is_bare(row: NodeRow) -> bool
 }
 
 // The item is the last of its list; one pattern in parentheses is itself, from the `(` on.
-fn item_last(stack: &mut [u16; NODE_WORDS], nodes: &mut [u16; NODE_WORDS], below: usize, rows: usize, f: NodeRow) -> Heights
+fn item_last(
+    stack: &mut [u16; NODE_WORDS],
+    nodes: &mut [u16; NODE_WORDS],
+    below: usize,
+    rows: usize,
+    f: NodeRow,
+) -> Heights
     requires { ⌜ (below + rows < 16384) × PartsMost 30001 (now stack) below × (f .parts < 65535) ⌝ }
     ensures { λ r. ⌜ EndsItem (now (stack .entry)) (now (nodes .entry)) below rows f (now (stack .exit)) (now (nodes .exit)) r ⌝ }
 {
@@ -95,7 +101,12 @@ fn grow_top(stack: &mut [u16; NODE_WORDS], depth: usize)
 }
 
 // What waits innermost closes with a part more.
-pub fn shut_grown(stack: &mut [u16; NODE_WORDS], nodes: &mut [u16; NODE_WORDS], depth: usize, rows: usize) -> Heights
+pub fn shut_grown(
+    stack: &mut [u16; NODE_WORDS],
+    nodes: &mut [u16; NODE_WORDS],
+    depth: usize,
+    rows: usize,
+) -> Heights
     requires { ⌜ (depth + rows ≤ 16384) × PartsMost 30001 (now stack) depth ⌝ }
     ensures { λ r. ⌜ ShutsGrown (now (stack .entry)) (now (nodes .entry)) depth rows (now (stack .exit)) (now (nodes .exit)) r ⌝ }
 {

@@ -50,7 +50,12 @@ fn begun_row(at: u16, row: NodeRow) -> NodeRow
 }
 
 // Names with `@` and references that wait innermost close.
-fn pass(stack: &[u16; NODE_WORDS], nodes: &mut [u16; NODE_WORDS], depth: usize, rows: usize) -> Heights
+fn pass(
+    stack: &[u16; NODE_WORDS],
+    nodes: &mut [u16; NODE_WORDS],
+    depth: usize,
+    rows: usize,
+) -> Heights
     requires { ⌜ (depth + rows ≤ 16384) × PartsMost 30001 (now stack) depth ⌝ }
     ensures { λ r. ⌜ Passes (now (stack .entry)) (now (nodes .entry)) depth rows (now (nodes .exit)) r ⌝ }
 {
@@ -81,7 +86,12 @@ pub fn begin_last(nodes: &mut [u16; NODE_WORDS], rows: usize, at: u16)
 }
 
 // What waits innermost is a leading `|`, an Or, or stays as it is.
-fn settle_last(stack: &mut [u16; NODE_WORDS], nodes: &mut [u16; NODE_WORDS], depth: usize, rows: usize) -> Heights
+fn settle_last(
+    stack: &mut [u16; NODE_WORDS],
+    nodes: &mut [u16; NODE_WORDS],
+    depth: usize,
+    rows: usize,
+) -> Heights
     requires { ⌜ (depth + rows ≤ 16384) × PartsMost 30001 (now stack) depth ⌝ }
     ensures { λ r. ⌜ SettlesLast (now (stack .entry)) (now (nodes .entry)) depth rows (now (stack .exit)) (now (nodes .exit)) r ⌝ }
 {
@@ -105,7 +115,12 @@ fn settle_last(stack: &mut [u16; NODE_WORDS], nodes: &mut [u16; NODE_WORDS], dep
     Heights { depth, rows }
 }
 
-pub fn settle(stack: &mut [u16; NODE_WORDS], nodes: &mut [u16; NODE_WORDS], depth: usize, rows: usize) -> Heights
+pub fn settle(
+    stack: &mut [u16; NODE_WORDS],
+    nodes: &mut [u16; NODE_WORDS],
+    depth: usize,
+    rows: usize,
+) -> Heights
     requires { ⌜ (depth + rows ≤ 16384) × PartsMost 30001 (now stack) depth ⌝ }
     ensures { λ r. ⌜ Settles (now (stack .entry)) (now (nodes .entry)) depth rows (now (stack .exit)) (now (nodes .exit)) r ⌝ }
 {
@@ -116,7 +131,13 @@ pub fn settle(stack: &mut [u16; NODE_WORDS], nodes: &mut [u16; NODE_WORDS], dept
 }
 
 // A node closes above what waits below it.
-pub fn shut(stack: &mut [u16; NODE_WORDS], nodes: &mut [u16; NODE_WORDS], below: usize, rows: usize, w: NodeRow) -> Heights
+pub fn shut(
+    stack: &mut [u16; NODE_WORDS],
+    nodes: &mut [u16; NODE_WORDS],
+    below: usize,
+    rows: usize,
+    w: NodeRow,
+) -> Heights
     requires { ⌜ (below + rows < 16384) × PartsMost 30001 (now stack) below ⌝ }
     ensures { λ r. ⌜ Shuts (now (stack .entry)) (now (nodes .entry)) below rows w (now (stack .exit)) (now (nodes .exit)) r ⌝ }
 {
