@@ -1,11 +1,11 @@
 // A mark behind what is held.
+use parsing_machine::ReadState;
 use parsing_moves::HeldRow;
 use parsing_moves::NodeMove;
 use parsing_moves::makers::literal_row;
 use parsing_moves::makers::named_row;
 use parsing_moves::makers::opens_named;
 use parsing_moves::makers::range_row;
-use parsing_machine::ReadState;
 ghost use mathlib.Core.Path.{_≡_};
 ghost use Rattle.parsing_machine.specs.declared.ReadState.the-variants.{AtName, AtBound, AtPath, AtLiteral, AtToPath, AtLabel, AtIndex, AtField};
 ghost use Rattle.parsing_moves.specs.Rows.{DecidesHeld, DecidesPath, DecidesLower, DecidesLowerLiteral, DecidesField};

@@ -1,9 +1,9 @@
 // A name or a char, by the state.
+use parsing_machine::ReadState;
 use parsing_moves::HeldRow;
 use parsing_moves::NodeMove;
 use parsing_moves::makers::holds_literal;
 use parsing_moves::makers::literal_row;
-use parsing_machine::ReadState;
 ghost use mathlib.Core.Path.{_≡_};
 ghost use Rattle.parsing_moves.specs.Rows.{holdsName};
 ghost use Rattle.parsing_moves.specs.Roles.{role, DecidesName, DecidesScalar};

@@ -1,6 +1,4 @@
 // A mark, by the state.
-use parsing_moves::HeldRow;
-use parsing_moves::NodeMove;
 use parsing_held::behind::bound_mark;
 use parsing_held::behind::field_mark;
 use parsing_held::behind::index_mark;
@@ -9,6 +7,9 @@ use parsing_held::behind::literal_mark;
 use parsing_held::behind::name_mark;
 use parsing_held::behind::path_mark;
 use parsing_held::behind::to_path_mark;
+use parsing_machine::ReadState;
+use parsing_moves::HeldRow;
+use parsing_moves::NodeMove;
 use parsing_moves::makers::holds_flags;
 use parsing_moves::makers::holds_literal;
 use parsing_moves::makers::literal_row;
@@ -17,7 +18,6 @@ use parsing_moves::starts::bound_move;
 use parsing_moves::starts::closing_move;
 use parsing_moves::starts::is_wide;
 use parsing_moves::starts::start_move;
-use parsing_machine::ReadState;
 ghost use mathlib.Core.Path.{_≡_};
 ghost use Prim.Native.Nat.{_<_};
 ghost use Rattle.parsing_machine.specs.declared.ReadState.the-variants.{Begin, BehindAmp, BehindRef, AtMinus, AtFrom, AtEtc};
