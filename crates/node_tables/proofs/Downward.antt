@@ -6,9 +6,8 @@ use mathlib.Core.List.{List, [], _∷_, _++_}
 use native.Mathlib.Omega.{arith}
 use lib.Dec.{eqb, ltb}
 use lib.ListN.{length}
-use borrow.Author.Tests.{ne-eqb, eqb-true, eqb-false, ltb-true, lt-ltb, le-ltb}
+use borrow.Author.Tests.{eqb-true, eqb-false, lt-ltb, le-ltb}
 use Rattle.pattern_syntax.specs.Written.{Node}
-use Rattle.pattern_syntax.specs.Closing.{ClosedNode}
 use Rattle.node_rows.specs.declared.NodeRow.{NodeRow}
 use Rattle.node_rows.specs.Nodes.{nodeRowAt, nodeOf, closedNodeOf, nodesIn}
 use Rattle.parsing_machine.specs.Waiting.{nodeKind}

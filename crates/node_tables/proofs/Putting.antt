@@ -1,20 +1,13 @@
 -- What a table holds when a row has been put, and what the rows below a count hold. Assumes nothing.
-use Prim.Native.Nat.{ℕ, zero, suc, _+_, _*_, _<_, _≤_}
-use mathlib.Core.Path.{_≡_, refl, sym, ap, _∙_}
-use mathlib.Core.Bool.{Bool, true, false, cond}
-use mathlib.Core.List.{List, [], _∷_, _++_}
+use Prim.Native.Nat.{ℕ, _+_, _*_, _<_}
+use mathlib.Core.Path.{_≡_, refl}
+use mathlib.Core.List.{List, []}
 use native.Mathlib.Omega.{arith}
-use lib.Dec.{eqb, ltb}
 use lib.ListN.{length, getD, set, length-set}
 use lib.Seq.{getD-set-same}
 use borrow.Author.Needs.{read-below}
-use borrow.Author.Tests.{ne-eqb, ltb-true}
-use Rattle.pattern_syntax.specs.Closing.{ClosedNode}
-use Rattle.node_rows.specs.declared.NodeRow.{NodeRow}
-use Rattle.node_rows.specs.Nodes.{nodeRowAt, nodeOf, closedNodeOf, nodesIn}
-use Rattle.parsing_machine.specs.Waiting.{nodeKind}
-use Rattle.parsing_machine.specs.Answers.{inOrder}
-use Rattle.node_tables.specs.Tables.{Puts, rowKind, rowsDown}
+use Rattle.node_rows.specs.Nodes.{nodeRowAt}
+use Rattle.node_tables.specs.Tables.{Puts}
 
 -- a word of a row of seven, when the later ones are put too
 under : (t : List ℕ) (i k a p m s f o x : ℕ) → x < 7 * i → getD (set (set (set (set (set (set (set t (7 * i) k) (7 * i + 1) a) (7 * i + 2) p) (7 * i + 3) m) (7 * i + 4) s) (7 * i + 5) f) (7 * i + 6) o) x 0 ≡ getD t x 0

@@ -1,12 +1,12 @@
 -- A move gains no more nodes than its token has bytes, with the one that is held. Assumes nothing.
 use Prim.Native.Nat.{ℕ, suc, _+_, _≤_}
-use mathlib.Core.Path.{_≡_, refl, sym, ap, _∙_}
-use mathlib.Core.Bool.{Bool, true, false, not, cond, _&&_, _||_}
+use mathlib.Core.Path.{_≡_, refl, ap}
+use mathlib.Core.Bool.{Bool, true, false, cond}
 use mathlib.Core.List.{List}
 use native.Mathlib.Omega.{arith}
 use lib.Dec.{eqb}
 use borrow.Author.Tests.{eqb-true}
-use Rattle.pattern_grammar.specs.Lexemes.{Spot, Identifier, Lexeme, name, scalar, mark, endMark, commaMark, orMark, closeBraceMark, refMark, mutMark, trueMark, falseMark, underscoreMark, integerMark, minusMark, openParenMark, openBracketMark, openBraceMark, andMark, andAndMark, bindMark, colonMark, pathSepMark, dotDotMark, dotDotEqMark, follows, strictly, wide}
+use Rattle.pattern_grammar.specs.Lexemes.{Spot, Identifier, Lexeme, name, scalar, mark, commaMark, orMark, closeBraceMark, refMark, mutMark, trueMark, falseMark, underscoreMark, integerMark, minusMark, openParenMark, openBracketMark, openBraceMark, andMark, andAndMark, bindMark, colonMark, pathSepMark, dotDotMark, dotDotEqMark, follows, strictly, wide}
 use Rattle.parsing_machine.specs.declared.ReadState.{ReadState}
 use Rattle.parsing_machine.specs.declared.ReadState.the-variants.{Begin, Expect, BehindAmp, BehindRef, BehindMut, AtName, AtBound, AtPath, AtSep, AtMinus, AtLiteral, AtDots, AtFrom, AtTo, AtToPath, AtAlt, AtBrace, AtLabel, AtIndex, AtField, AtEtc}
 use Rattle.parsing_machine.specs.Waiting.{innermostKind, closes}

@@ -1,6 +1,6 @@
 -- A move adds no more nodes than it gains. Assumes nothing.
 use Prim.Native.Nat.{ℕ, suc, _+_, _≤_}
-use mathlib.Core.Path.{_≡_, refl, sym, ap, _∙_}
+use mathlib.Core.Path.{_≡_, refl}
 use mathlib.Core.Bool.{Bool, true, false, not, cond, _&&_, _||_}
 use mathlib.Core.List.{List, [], _∷_}
 use native.Mathlib.Omega.{arith}
@@ -10,7 +10,7 @@ use Rattle.pattern_grammar.specs.Lexemes.{endMark, commaMark, orMark, closeBrac
 use Rattle.pattern_syntax.specs.Written.{restNode, rangeNode}
 use Rattle.pattern_syntax.specs.Closing.{ClosedNode, closedNode}
 use Rattle.parsing_machine.specs.declared.ReadState.the-variants.{Expect}
-use Rattle.parsing_machine.specs.Waiting.{Opened, opened, pushed, noted, nodeKind, innermostKind, closes, partMore, grown, begunLast, settle, shutTop, anotherAlt, lastAlt, withRest, restFits, isBareTuple}
+use Rattle.parsing_machine.specs.Waiting.{Opened, pushed, noted, nodeKind, innermostKind, closes, partMore, grown, begunLast, settle, shutTop, anotherAlt, lastAlt, withRest, restFits, isBareTuple}
 use Rattle.parsing_machine.specs.Moves.{nothingHeld, Move, halts, holds, opens, opensTwo, opensBehind, mutates, shuts, shutsBefore, shutsRange, shutsRangeBefore, shutsOpenRange, shutsRest, passesOn, shutsTop, addsField, addsLastField}
 use Rattle.parsing_machine.specs.Parser.{Course, goingIn, ended, mutated, itemLast, endedIn, behindAlt, restItem, restIn, restRead, openRange, perform}
 use Rattle.parsing_bounds.specs.Weights.{owed, openedSize, weight, orOne, gain}

@@ -1,7 +1,6 @@
 -- How many nodes wait, have closed or are held, against the bytes that have been read. Assumes nothing: these are definitions.
-use Prim.Native.Nat.{ℕ, suc, _+_}
+use Prim.Native.Nat.{ℕ, _+_}
 use mathlib.Core.Bool.{cond, _||_}
-use mathlib.Core.List.{List}
 use lib.Dec.{eqb}
 use lib.ListN.{length}
 use Rattle.pattern_grammar.specs.Lexemes.{Lexeme, name, scalar, mark, endMark, orMark, andAndMark, failsMark}

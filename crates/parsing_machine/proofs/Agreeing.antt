@@ -1,19 +1,18 @@
 -- The parser's moves agree with what the grammar's machine does, where a pattern begins and where a part of it closes. Assumes nothing.
-use Prim.Native.Nat.{ℕ, suc}
-use mathlib.Core.Path.{_≡_, refl, sym, ap, _∙_}
-use mathlib.Core.Bool.{Bool, true, false, not, cond, _&&_, _||_}
-use mathlib.Core.Option.{Option, none, some}
-use mathlib.Core.List.{List, [], _∷_}
+use Prim.Native.Nat.{ℕ}
+use mathlib.Core.Path.{_≡_, refl, sym, ap}
+use mathlib.Core.Bool.{Bool, true, false, cond}
+use mathlib.Core.Option.{none, some}
+use mathlib.Core.List.{List, []}
 use lib.Dec.{eqb}
 use Rattle.pattern_grammar.specs.Lexemes.{Spot, refMark, mutMark, trueMark, falseMark, underscoreMark, integerMark, minusMark, openParenMark, openBracketMark, andMark, andAndMark, dotDotMark, dotDotEqMark, strictly, wide}
-use Rattle.pattern_grammar.specs.Trees.{RangeBound, constant, trueAt, falseAt, whole, single, double, tupleAt, structAt, sliceAt, plain, between, upTo, WithoutRange, wild}
+use Rattle.pattern_grammar.specs.Trees.{RangeBound, constant, trueAt, falseAt, whole, single, double, tupleAt, structAt, sliceAt, between, upTo, WithoutRange, wild}
 use Rattle.pattern_grammar.specs.Admitted.{isRestPlain, upwardAt, isRestAlt, literalAt, boundAt}
 use Rattle.pattern_grammar.specs.Machine.{ForPlain, anyAlt, behindAmp, ForAlt, firstAlt, nextAlt, behindAt, wholeText, forItem, forField, RangeHead, upToHead, fromHead, rangeOf, Reading, readAlt, failed, closeAlt, closePlain, ranged, dotsIn, fitting, starts, bounds}
 use Rattle.pattern_syntax.specs.Written.{partCount}
 use Rattle.pattern_syntax.specs.Reduced.{isThere, firstPlace, listNode, headAt, literalValue, boundIn, writtenAlt, writtenBound, dotsAt, isExclusive, writtenPlain, beforeRest, writtenItems}
-use Rattle.pattern_syntax.specs.Closing.{ClosedNode, closedNode}
 use Rattle.parsing_machine.specs.declared.ReadState.the-variants.{AtDots}
-use Rattle.parsing_machine.specs.Waiting.{Opened, opened, pushed, noted, nodeKind, innermostKind, partMore, grown, settle, shutTop}
+use Rattle.parsing_machine.specs.Waiting.{Opened, pushed, noted, nodeKind, innermostKind, partMore, grown, settle, shutTop}
 use Rattle.parsing_machine.specs.Moves.{Move, halts, opens, rangeTo, fitMove, rangedMove, startMove, boundMove}
 use Rattle.parsing_machine.specs.Parser.{Course, haltedAt, altRead, perform}
 use Rattle.parsing_machine.proofs.Encoding.{closedOnto, partsOnto, partsNoted, openedPlain, openedAlt, openedPattern, openedRange, openedBehind, openedBound, openedName, encode, steady}

@@ -1,23 +1,23 @@
 -- What stands behind an alternative, in the parser as in the grammar's machine. Assumes nothing.
-use Prim.Native.Nat.{ℕ, suc}
-use mathlib.Core.Path.{_≡_, refl, sym, ap, _∙_}
-use mathlib.Core.Bool.{Bool, true, false, not, cond, _&&_, _||_}
+use Prim.Native.Nat.{ℕ}
+use mathlib.Core.Path.{_≡_, refl, sym, ap}
+use mathlib.Core.Bool.{Bool, true, false, not, cond, _&&_}
 use mathlib.Core.Option.{Option, none, some}
 use mathlib.Core.List.{List, [], _∷_}
 use lib.Dec.{eqb}
-use Rattle.pattern_grammar.specs.Lexemes.{Spot, endMark, commaMark, orMark, closeParenMark, closeBracketMark, closeBraceMark, strictly}
+use Rattle.pattern_grammar.specs.Lexemes.{Spot, endMark, commaMark, orMark, closeBraceMark, strictly}
 use Rattle.pattern_grammar.specs.Trees.{RecordHead, FieldKey, RecordFields, field, ListHead, tupleAt, structAt, sliceAt, closer, keyed, Pattern, alone, or, listTo, recordTo, ListItems, noItem, item}
 use Rattle.pattern_grammar.specs.Admitted.{isRest, isRestPlain, isNone, openAt, openItemAt, whenStrict}
-use Rattle.pattern_grammar.specs.Machine.{begin, readAlt, readBrace, done, failed, closePlain, ForPlain, ForPattern, wholeText, forItem, forField, Reading, unlessOpen, behind}
-use Rattle.pattern_syntax.specs.Written.{orNode, Written, Parts, noParts, more, partCount, begunAt, beginning}
-use Rattle.pattern_syntax.specs.Reduced.{keyName, headAt, listNode, itemCount, orElse, beforeRest, isPart, isGroup, firstBeginning, oneOf, alternatives, writtenPlain, writtenItems, writtenFields, writtenFieldOf}
+use Rattle.pattern_grammar.specs.Machine.{begin, readAlt, readBrace, done, failed, closePlain, ForPlain, ForPattern, wholeText, forItem, forField, unlessOpen, behind}
+use Rattle.pattern_syntax.specs.Written.{orNode, more, partCount}
+use Rattle.pattern_syntax.specs.Reduced.{headAt, listNode, itemCount, orElse, beforeRest, isPart, isGroup, firstBeginning, oneOf, alternatives, writtenPlain, writtenItems, writtenFields, writtenFieldOf}
 use Rattle.pattern_syntax.specs.Closing.{ClosedNode, closedNode}
 use Rattle.parsing_machine.specs.declared.ReadState.the-variants.{Begin, Expect}
 use Rattle.parsing_machine.specs.Moves.{nothingHeld}
-use Rattle.parsing_machine.specs.Waiting.{Opened, opened, pushed, noted, nodeKind, nodeBefore, innermostKind, closes, partMore, grown, begunLast, lastFrom, settle, shutTop, anotherAlt, lastAlt, isBareTuple}
-use Rattle.parsing_machine.specs.Parser.{Course, goingIn, altRead, itemLast, endedIn, ended, behindAlt}
+use Rattle.parsing_machine.specs.Waiting.{opened, pushed, nodeKind, nodeBefore, innermostKind, closes, partMore, grown, settle, shutTop, anotherAlt, lastAlt, isBareTuple}
+use Rattle.parsing_machine.specs.Parser.{goingIn, itemLast, endedIn, behindAlt}
 use Rattle.parsing_machine.proofs.Encoding.{closedOnto, partsOnto, partsNoted, orWaiting, openedPlain, openedAlt, openedPattern, openedRecord, openedBehind, encode, steady}
-use Rattle.parsing_machine.proofs.Settling.{begun-last, last-from, settle-plain, suc-some}
+use Rattle.parsing_machine.proofs.Settling.{begun-last, last-from, suc-some}
 use Rattle.parsing_machine.proofs.Agreeing.{Agrees, plainly, either, halted, shut-plain}
 
 -- what waits for a pattern is no Or

@@ -1,21 +1,19 @@
 -- What the parser has noted and what waits in it, for each reading of the grammar's machine. Assumes nothing.
 use Prim.Native.Nat.{ℕ, suc}
 use mathlib.Core.Bool.{Bool, true, false, not, _&&_}
-use mathlib.Core.Option.{Option, none, some}
+use mathlib.Core.Option.{none, some}
 use mathlib.Core.List.{List, [], _∷_}
-use Rattle.pattern_grammar.specs.Lexemes.{Spot, Identifier}
-use Rattle.pattern_grammar.specs.Trees.{NamePath, inside, RangeBound, BoundName, Ampersand, single, double, ListHead, RecordHead, FieldKey, index, Pattern, alone, or, NoTopAlt, ListItems, RecordFields, RecordField, keyed, short}
+use Rattle.pattern_grammar.specs.Trees.{NamePath, inside, BoundName, single, double, RecordHead, index, Pattern, alone, or, RecordFields, keyed, short}
 use Rattle.pattern_grammar.specs.Admitted.{pathAt, literalAt, boundAt, openAt, isRest, isNone}
-use Rattle.pattern_grammar.specs.Machine.{ForPlain, anyAlt, behindAmp, ForAlt, firstAlt, nextAlt, behindAt, ForPattern, wholeText, forItem, forField, Closed, RangeHead, upToHead, fromHead, BoundPlace, atStart, atEnd, NamePlace, inPattern, inRecord, Reading, begin, expect, readAmp, readRef, readMut, readName, readBound, readPath, readSep, readMinus, readLiteral, readDots, readFrom, readTo, readToPath, readAlt, readBrace, readLabel, readIndex, readField, readEtc, done, failed}
-use Rattle.pattern_grammar.specs.Trees.{exclusive, inclusive}
-use Rattle.pattern_syntax.specs.Written.{Name, rangeNode, identNode, referenceNode, recordNode, fieldNode, orNode, Written, written, Parts, noParts, more, partCount}
+use Rattle.pattern_grammar.specs.Machine.{ForPlain, anyAlt, behindAmp, ForAlt, firstAlt, nextAlt, behindAt, ForPattern, wholeText, forItem, forField, RangeHead, upToHead, fromHead, BoundPlace, atStart, atEnd, NamePlace, inPattern, inRecord, Reading, begin, expect, readAmp, readRef, readMut, readName, readBound, readPath, readSep, readMinus, readLiteral, readDots, readFrom, readTo, readToPath, readAlt, readBrace, readLabel, readIndex, readField, readEtc, done, failed}
+use Rattle.pattern_grammar.specs.Trees.{exclusive}
+use Rattle.pattern_syntax.specs.Written.{rangeNode, identNode, referenceNode, recordNode, fieldNode, orNode, Written, written, Parts, noParts, more, partCount}
 use Rattle.pattern_syntax.specs.Reduced.{identName, pathName, keyName, literalValue, boundIn, dotsAt, isExclusive, isThere, firstPlace, boundNameAt, headAt, listNode, beforeRest, firstBeginning, oneOf, alternatives, writtenItems, writtenFields}
 use Rattle.pattern_syntax.specs.Closing.{ClosedNode, closedNode}
-use Rattle.parsing_machine.specs.declared.ReadState.{ReadState}
-use Rattle.parsing_machine.specs.declared.ReadState.the-variants.{Begin, Expect, BehindAmp, BehindRef, BehindMut, AtName, AtBound, AtPath, AtSep, AtMinus, AtLiteral, AtDots, AtFrom, AtTo, AtToPath, AtAlt, AtBrace, AtLabel, AtIndex, AtField, AtEtc}
+use Rattle.parsing_machine.specs.declared.ReadState.the-variants.{Begin, Expect, BehindAmp, BehindRef, BehindMut, AtName, AtBound, AtPath, AtSep, AtMinus, AtLiteral, AtDots, AtFrom, AtTo, AtToPath, AtBrace, AtLabel, AtIndex, AtField, AtEtc}
 use Rattle.parsing_machine.specs.Waiting.{Opened, opened, pushed, noted}
 use Rattle.parsing_machine.specs.Moves.{Held, noName, namedHeld, literalHeld, placeHeld, nothingHeld, nameHeld}
-use Rattle.parsing_machine.specs.Parser.{Course, going, goingIn, endedWith, haltedAt, altRead}
+use Rattle.parsing_machine.specs.Parser.{Course, goingIn, endedWith, haltedAt, altRead}
 
 -- a tree's nodes have closed behind others: the last first
 unfoldable mutual

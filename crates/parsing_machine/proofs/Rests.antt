@@ -8,18 +8,18 @@ use lib.Dec.{eqb}
 use borrow.Author.Tests.{not-true, eqb-true}
 use Rattle.image.proofs.Bools.{and-left, and-right}
 use Rattle.pattern_grammar.specs.Lexemes.{Spot, commaMark, orMark, closeBracketMark, strictly}
-use Rattle.pattern_grammar.specs.Trees.{RangeBound, exclusive, BoundName, single, double, ListHead, tupleAt, structAt, sliceAt, closer, Pattern, alone, or, plain, upward, rest, identAt, listTo, ListItems, noItem, item}
+use Rattle.pattern_grammar.specs.Trees.{RangeBound, exclusive, BoundName, single, double, ListHead, tupleAt, structAt, sliceAt, closer, Pattern, alone, plain, upward, rest, identAt, listTo, ListItems, noItem, item}
 use Rattle.pattern_grammar.specs.Admitted.{RestRoom, noRest, bareRest, boundRest, fitsRest, behindName, behindBar, listRoom, hasRest, itemRoom, isRest, isRestAlt, isRestPlain, isNone, openAt, upwardAt, openItemAt, whenStrict, boundAt}
-use Rattle.pattern_grammar.specs.Machine.{ForPlain, anyAlt, behindAmp, ForAlt, firstAlt, nextAlt, behindAt, ForPattern, wholeText, forItem, forField, Closed, expect, upToHead, fromHead, Reading, begin, readAlt, failed, closeAlt, closePlain, roomIn, roomBehind, roomOf, restStands, unlessOpen, behind, after}
-use Rattle.pattern_syntax.specs.Written.{restNode, rangeNode, identNode, Parts, noParts, more, partCount}
-use Rattle.pattern_syntax.specs.Reduced.{headAt, listNode, itemCount, orElse, beforeRest, isPart, isGroup, oneOf, alternatives, writtenAlt, writtenPlain, writtenIdent, writtenItems, dotsAt, isExclusive, boundIn}
+use Rattle.pattern_grammar.specs.Machine.{ForPlain, anyAlt, behindAmp, ForAlt, firstAlt, nextAlt, behindAt, wholeText, forItem, forField, Closed, expect, upToHead, fromHead, Reading, failed, closeAlt, roomIn, roomBehind, roomOf, restStands, unlessOpen, behind, after}
+use Rattle.pattern_syntax.specs.Written.{rangeNode, partCount}
+use Rattle.pattern_syntax.specs.Reduced.{headAt, listNode, itemCount, orElse, beforeRest, isPart, isGroup, oneOf, alternatives, writtenAlt, writtenPlain, writtenIdent, writtenItems, dotsAt, boundIn}
 use Rattle.pattern_syntax.specs.Closing.{ClosedNode, closedNode}
 use Rattle.parsing_machine.specs.declared.ReadState.the-variants.{Begin, Expect}
 use Rattle.parsing_machine.specs.Moves.{nothingHeld}
-use Rattle.parsing_machine.specs.Waiting.{Opened, opened, pushed, noted, nodeKind, nodeBefore, innermostKind, closes, partMore, settle, nodeWithRest, withRest, takesRest, sliceTakesRest, restFits}
-use Rattle.parsing_machine.specs.Parser.{Course, haltedAt, goingIn, altRead, restItem, restIn, restRead, openRange, endedIn, behindAlt}
-use Rattle.parsing_machine.proofs.Encoding.{closedOnto, partsOnto, partsNoted, identWaiting, openedPlain, openedAlt, openedPattern, openedRange, openedBehind, encode, steady}
-use Rattle.parsing_machine.proofs.Settling.{settle-alt, settle-plain, calm, calm-plain}
+use Rattle.parsing_machine.specs.Waiting.{opened, pushed, noted, nodeKind, nodeBefore, innermostKind, closes, partMore, settle, nodeWithRest, withRest, takesRest, sliceTakesRest, restFits}
+use Rattle.parsing_machine.specs.Parser.{Course, haltedAt, goingIn, restItem, restIn, restRead, openRange, endedIn, behindAlt}
+use Rattle.parsing_machine.proofs.Encoding.{closedOnto, partsOnto, partsNoted, openedPlain, openedAlt, openedPattern, openedRange, openedBehind, encode, steady}
+use Rattle.parsing_machine.proofs.Settling.{settle-alt, calm, calm-plain}
 use Rattle.parsing_machine.proofs.Agreeing.{Agrees, plainly, either, halted, shut-plain}
 use Rattle.parsing_machine.proofs.Behind.{another, last-one, openWhere, never-open, behind-agrees, closes-list}
 

@@ -1,20 +1,19 @@
 -- An alternative closes in the parser as it does in the grammar's machine. Assumes nothing.
 use Prim.Native.Nat.{ℕ, suc}
 use mathlib.Core.Path.{_≡_, refl, sym, ap, _∙_}
-use mathlib.Core.Bool.{Bool, true, false, not, cond, _&&_, _||_}
-use mathlib.Core.Option.{Option, none, some}
+use mathlib.Core.Bool.{Bool, true, false, not, cond, _&&_}
+use mathlib.Core.Option.{none, some}
 use mathlib.Core.List.{List, [], _∷_}
 use native.Mathlib.Omega.{arith}
 use lib.Dec.{eqb}
 use borrow.Author.Tests.{ne-eqb}
-use Rattle.pattern_grammar.specs.Lexemes.{Spot}
-use Rattle.pattern_grammar.specs.Trees.{single, double, tupleAt, structAt, sliceAt, Pattern, alone, or, NoTopAlt, plain, between, upward, upTo, WithoutRange, identAt, reference}
+use Rattle.pattern_grammar.specs.Trees.{single, double, tupleAt, structAt, sliceAt, Pattern, alone, or, NoTopAlt, plain, WithoutRange, identAt, reference}
 use Rattle.pattern_grammar.specs.Admitted.{upwardAt, openAt, isRestAlt, isRestPlain, isRest, isNone}
-use Rattle.pattern_grammar.specs.Machine.{ForPlain, anyAlt, behindAmp, ForAlt, firstAlt, nextAlt, behindAt, ForPattern, wholeText, forItem, forField, Closed, closedIn, closeAlt, closePlain}
-use Rattle.pattern_syntax.specs.Written.{orNode, Written, written, Parts, noParts, more, partCount, begunAt, beginning}
-use Rattle.pattern_syntax.specs.Reduced.{firstBeginning, writtenIdent, writtenReference, alternatives, writtenAlt, writtenPlain, headAt, listNode}
+use Rattle.pattern_grammar.specs.Machine.{ForPlain, anyAlt, behindAmp, ForAlt, firstAlt, nextAlt, behindAt, ForPattern, wholeText, forItem, forField, Closed, closeAlt, closePlain}
+use Rattle.pattern_syntax.specs.Written.{orNode, Written, written, more, partCount, begunAt, beginning}
+use Rattle.pattern_syntax.specs.Reduced.{firstBeginning, writtenIdent, writtenReference, alternatives, writtenAlt, writtenPlain, listNode}
 use Rattle.pattern_syntax.specs.Closing.{ClosedNode, closedNode}
-use Rattle.parsing_machine.specs.Waiting.{Opened, opened, pushed, noted, nodeKind, innermostKind, partMore, begunLast, settle, lastFrom}
+use Rattle.parsing_machine.specs.Waiting.{Opened, opened, pushed, noted, nodeKind, partMore, begunLast, settle, lastFrom}
 use Rattle.parsing_machine.proofs.Encoding.{closedOnto, partsOnto, partsNoted, openedPlain, openedAlt, openedPattern, openedBehind}
 
 -- from another byte on

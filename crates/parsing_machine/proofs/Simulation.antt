@@ -1,23 +1,23 @@
 -- The parser goes through a text's tokens as the grammar's machine does, and ends with the nodes of its tree. Assumes nothing.
-use Prim.Native.Nat.{ℕ, suc}
-use mathlib.Core.Path.{_≡_, refl, sym, ap, _∙_}
-use mathlib.Core.Bool.{Bool, true, false, not, cond, _&&_, _||_, false≢true}
-use mathlib.Core.Option.{Option, none, some}
+use Prim.Native.Nat.{ℕ}
+use mathlib.Core.Path.{_≡_, refl, sym}
+use mathlib.Core.Bool.{true, false, cond, false≢true}
+use mathlib.Core.Option.{none, some}
 use mathlib.Core.List.{List, [], _∷_}
 use lib.Dec.{eqb}
 use Rattle.pattern_grammar.specs.Lexemes.{Spot, Identifier, Lexeme, name, scalar, mark, lexemeAt, commaMark, orMark, closeBraceMark, refMark, mutMark, integerMark, openParenMark, openBraceMark, bindMark, colonMark, pathSepMark, dotDotMark, dotDotEqMark, follows, strictly}
-use Rattle.pattern_grammar.specs.Trees.{NamePath, segment, inside, LiteralPattern, character, negative, constant, place, BoundName, bareName, single, double, tupleAt, structAt, sliceAt, closer, RecordHead, RecordFields, keyed, short, ident, literal, path, list, recordOf, recordTo, recordDots, noItem, noField}
+use Rattle.pattern_grammar.specs.Trees.{NamePath, segment, inside, character, negative, constant, place, BoundName, bareName, single, double, tupleAt, structAt, sliceAt, closer, RecordHead, RecordFields, keyed, short, ident, literal, path, list, recordOf, recordTo, recordDots}
 use Rattle.pattern_grammar.specs.Admitted.{pathAt, literalAt, boundAt, isRestPlain}
 use Rattle.pattern_grammar.specs.Machine.{ForPlain, anyAlt, behindAmp, ForAlt, firstAlt, ForPattern, wholeText, forItem, forField, RangeHead, upToHead, fromHead, rangeOf, atStart, atEnd, inPattern, inRecord, Reading, begin, expect, readAmp, readRef, readMut, readName, readBound, readPath, readSep, readMinus, readLiteral, readDots, readFrom, readTo, readToPath, readAlt, readBrace, readLabel, readIndex, readField, readEtc, done, failed, closeAlt, closePlain, ends, namedIn, pathIn, negativeIn, behindPath, behindField, after, onMark, onName, onScalar, step, feed}
-use Rattle.pattern_grammar.specs.Trees.{exclusive, inclusive}
+use Rattle.pattern_grammar.specs.Trees.{exclusive}
 use Rattle.pattern_syntax.specs.Written.{partCount}
 use Rattle.pattern_syntax.specs.Reduced.{isThere, firstPlace, boundNameAt, pathBytes, keyName, headAt, listNode, boundIn, dotsAt, isExclusive, beforeRest, literalValue, writtenIdent, writtenPlain, writtenItems, writtenFields, writtenFieldOf}
 use Rattle.parsing_machine.specs.Waiting.{pushed, noted, nodeKind, innermostKind, closes, partMore, grown, shutTop}
-use Rattle.parsing_machine.specs.Moves.{Move, nothingHeld, placeHeld, minusMove, nameMove, scalarMove, markMove, pathMove, fieldMove}
-use Rattle.parsing_machine.specs.Parser.{Course, going, endedWith, haltedAt, perform, mutated, stepped, stepCourse, readOn}
-use Rattle.parsing_machine.proofs.Encoding.{closedOnto, partsOnto, partsNoted, openedPlain, openedAlt, openedPattern, openedRecord, openedRange, openedBound, openedName, openedBehind, pathHeld, encode, steady}
+use Rattle.parsing_machine.specs.Moves.{Move, placeHeld, minusMove, nameMove, scalarMove, markMove, pathMove, fieldMove}
+use Rattle.parsing_machine.specs.Parser.{perform, mutated, stepped, stepCourse, readOn}
+use Rattle.parsing_machine.proofs.Encoding.{closedOnto, partsOnto, partsNoted, openedPlain, openedAlt, openedPattern, openedRecord, openedRange, openedBound, openedName, pathHeld, encode, steady}
 use Rattle.parsing_machine.proofs.Settling.{settle-plain, calm, calm-plain}
-use Rattle.parsing_machine.proofs.Agreeing.{Agrees, plainly, AgreesBy, by, branch, either, halted, halts-by, fitted, plain-kind, shut-plain, settle-range, calm-range, shut-range, ranged-agrees, start-agrees, bounds-agree}
+use Rattle.parsing_machine.proofs.Agreeing.{Agrees, plainly, AgreesBy, by, branch, halted, halts-by, fitted, plain-kind, shut-plain, settle-range, calm-range, shut-range, ranged-agrees, start-agrees, bounds-agree}
 use Rattle.parsing_machine.proofs.Rests.{rest-agrees, after-agrees, open-range-agrees}
 
 -- a name behind `ref` and `mut`: no record waits where a pattern begins

@@ -1,6 +1,6 @@
 -- What the parser does at a token, by what it has read last and by the kind of what waits innermost. Assumes nothing: these are definitions.
 use Prim.Native.Nat.{ℕ, suc}
-use mathlib.Core.Bool.{Bool, true, false, cond, _||_}
+use mathlib.Core.Bool.{Bool, true, false, cond}
 use mathlib.Core.Option.{none}
 use mathlib.Core.List.{List, [], _++_}
 use lib.Dec.{eqb}

@@ -1,9 +1,9 @@
 -- The machine that reads a pattern token by token and notes its nodes as they close. Assumes nothing: these are definitions.
-use Prim.Native.Nat.{ℕ, suc}
-use mathlib.Core.Bool.{Bool, true, false, not, cond, _&&_, _||_}
+use Prim.Native.Nat.{ℕ}
+use mathlib.Core.Bool.{true, false, not, cond, _&&_, _||_}
 use mathlib.Core.List.{List, [], _∷_}
 use lib.Dec.{eqb}
-use Rattle.pattern_grammar.specs.Lexemes.{Spot, Lexeme, name, scalar, mark, endMark, commaMark, orMark, closeBracketMark, closeBraceMark, lexemeAt}
+use Rattle.pattern_grammar.specs.Lexemes.{Lexeme, name, scalar, mark, endMark, commaMark, orMark, closeBracketMark, closeBraceMark, lexemeAt}
 use Rattle.pattern_syntax.specs.Written.{restNode, rangeNode, referenceNode}
 use Rattle.pattern_syntax.specs.Closing.{ClosedNode, closedNode}
 use Rattle.parsing_machine.specs.declared.ReadState.{ReadState}

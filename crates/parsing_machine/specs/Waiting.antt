@@ -1,12 +1,12 @@
 -- What is open while a pattern is read, as nodes that wait to close, and what has closed. Assumes nothing: these are definitions.
 use Prim.Native.Nat.{ℕ, suc}
-use mathlib.Core.Bool.{Bool, true, false, not, cond, _&&_, _||_}
+use mathlib.Core.Bool.{Bool, false, cond, _&&_, _||_}
 use mathlib.Core.Option.{Option, none, some}
 use mathlib.Core.List.{List, [], _∷_}
 use lib.Dec.{eqb}
 use Rattle.pattern_grammar.specs.Lexemes.{closeParenMark, closeBracketMark}
 use Rattle.pattern_grammar.specs.Admitted.{isNone}
-use Rattle.pattern_syntax.specs.Written.{Name, LiteralValue, Node, wildcardNode, restNode, literalNode, boundNode, boundPathNode, rangeNode, pathNode, identNode, referenceNode, tupleNode, tupleStructNode, sliceNode, recordNode, fieldNode, orNode}
+use Rattle.pattern_syntax.specs.Written.{Node, wildcardNode, restNode, literalNode, boundNode, boundPathNode, rangeNode, pathNode, identNode, referenceNode, tupleNode, tupleStructNode, sliceNode, recordNode, fieldNode, orNode}
 use Rattle.pattern_syntax.specs.Closing.{ClosedNode, closedNode}
 
 -- The nodes that wait, the innermost first, each with the parts that it has so far; an Or with none is a leading `|`. And the nodes that have

@@ -4,7 +4,7 @@ use mathlib.Core.Path.{_≡_}
 use mathlib.Core.Bool.{Bool, true, false, cond, _||_, _&&_}
 use mathlib.Core.List.{List}
 use lib.Dec.{eqb, leb}
-use Rattle.pattern_grammar.specs.Lexemes.{Spot, integerMark, over, wide, strictly}
+use Rattle.pattern_grammar.specs.Lexemes.{Spot, integerMark, over}
 use Rattle.pattern_syntax.specs.Written.{Name, wholeValue, boundNode, rangeNode}
 use Rattle.pattern_syntax.specs.Reduced.{bytesFrom, decimalIn}
 use Rattle.pattern_syntax.specs.Closing.{closedNode}

@@ -1,9 +1,6 @@
-// What the parser does at a token, as numbers and rows.
-mod behind;
-mod makers;
-pub mod names;
-mod starts;
-pub mod states;
+// What the parser does where a pattern or a bound begins, as numbers and rows.
+pub mod makers;
+pub mod starts;
 
 use node_rows::NodeRow;
 use parsing_machine::ReadState;

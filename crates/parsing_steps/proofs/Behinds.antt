@@ -1,19 +1,18 @@
 -- A mark behind an alternative, on the tables as in the machine. Assumes nothing.
-use Prim.Native.Nat.{ℕ, zero, suc, _+_, _<_, _≤_}
+use Prim.Native.Nat.{ℕ, zero, suc, _≤_}
 use mathlib.Core.Path.{_≡_, refl, sym, ap, _∙_}
-use mathlib.Core.Bool.{Bool, true, false, cond, false≢true}
+use mathlib.Core.Bool.{true, false, false≢true}
 use mathlib.Core.List.{List, [], _∷_}
 use native.Mathlib.Omega.{arith}
 use lib.Dec.{eqb}
-use Rattle.pattern_grammar.specs.Lexemes.{endMark, commaMark, orMark}
-use Rattle.pattern_syntax.specs.Written.{orNode}
-use Rattle.pattern_syntax.specs.Closing.{ClosedNode, closedNode}
+use Rattle.pattern_grammar.specs.Lexemes.{endMark, orMark}
+use Rattle.pattern_syntax.specs.Closing.{ClosedNode}
 use Rattle.node_rows.specs.declared.NodeRow.{NodeRow}
 use Rattle.node_rows.specs.Nodes.{nodeRowAt, nodeOf, closedNodeOf}
 use Rattle.parsing_machine.specs.declared.ReadState.the-variants.{Expect}
-use Rattle.parsing_machine.specs.Waiting.{Opened, opened, pushed, nodeKind, innermostKind, lastFrom, anotherAlt, lastAlt}
+use Rattle.parsing_machine.specs.Waiting.{opened, pushed, nodeKind, innermostKind, lastFrom, anotherAlt, lastAlt}
 use Rattle.parsing_machine.specs.Moves.{nothingHeld}
-use Rattle.parsing_machine.specs.Parser.{goingIn, endedIn, ended, behindAlt}
+use Rattle.parsing_machine.specs.Parser.{goingIn, endedIn, behindAlt}
 use Rattle.node_tables.specs.Tables.{Puts, rowKind, rowsDown, openedOf}
 use Rattle.node_tables.proofs.Downward.{rows-put, kind-same}
 use Rattle.parsing_bounds.specs.Weights.{orOne}

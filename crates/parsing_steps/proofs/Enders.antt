@@ -1,19 +1,18 @@
 -- A mark behind an item or a field's pattern, on the tables as in the machine. Assumes nothing.
-use Prim.Native.Nat.{ℕ, suc, _+_, _<_, _≤_}
+use Prim.Native.Nat.{ℕ, suc}
 use mathlib.Core.Path.{_≡_, refl, sym, ap, _∙_}
-use mathlib.Core.Bool.{Bool, true, false, cond}
+use mathlib.Core.Bool.{Bool, true, false}
 use mathlib.Core.List.{List, [], _∷_}
-use native.Mathlib.Omega.{arith}
 use lib.Dec.{eqb}
 use Rattle.pattern_grammar.specs.Lexemes.{commaMark, closeBraceMark}
 use Rattle.node_rows.specs.declared.NodeRow.{NodeRow}
-use Rattle.node_rows.specs.Nodes.{nodeRowAt, nodeOf, closedNodeOf}
+use Rattle.node_rows.specs.Nodes.{nodeRowAt, closedNodeOf}
 use Rattle.parsing_machine.specs.declared.ReadState.the-variants.{Begin, AtAlt, AtBrace}
-use Rattle.parsing_machine.specs.Waiting.{Opened, opened, nodeKind, closes, partMore, grown, settle, shutTop}
+use Rattle.parsing_machine.specs.Waiting.{opened, nodeKind, closes, partMore, grown, settle, shutTop}
 use Rattle.parsing_machine.specs.Moves.{nothingHeld}
-use Rattle.parsing_machine.specs.Parser.{goingIn, altRead, haltedAt, itemLast}
+use Rattle.parsing_machine.specs.Parser.{goingIn, altRead}
 use Rattle.node_tables.specs.Tables.{Puts, rowKind, rowsDown, openedOf}
-use Rattle.node_tables.proofs.Downward.{rows-below, rows-put, kind-same}
+use Rattle.node_tables.proofs.Downward.{rows-put, kind-same}
 use Rattle.parsing_moves.specs.Rows.{heldIn}
 use Rattle.parsing_steps.specs.declared.Heights.{Heights}
 use Rattle.parsing_steps.specs.declared.ParseStep.{ParseStep}

@@ -1,7 +1,7 @@
 -- The last item of a list closes, on the tables as in the machine. Assumes nothing.
-use Prim.Native.Nat.{ℕ, suc, _+_, _<_, _≤_}
+use Prim.Native.Nat.{ℕ}
 use mathlib.Core.Path.{_≡_, refl, sym, ap, _∙_}
-use mathlib.Core.Bool.{Bool, true, false, cond, _||_, _&&_}
+use mathlib.Core.Bool.{Bool, true, false, cond, _&&_}
 use mathlib.Core.Option.{none, some}
 use mathlib.Core.List.{List, [], _∷_}
 use native.Mathlib.Omega.{arith}
@@ -9,10 +9,10 @@ use lib.Dec.{eqb, ltb}
 use borrow.Author.Tests.{eqb-true}
 use Rattle.pattern_grammar.specs.Admitted.{isNone}
 use Rattle.node_rows.specs.declared.NodeRow.{NodeRow}
-use Rattle.node_rows.specs.Nodes.{nodeRowAt, nodeOf, nameIn, numberIn, closedNodeOf}
-use Rattle.parsing_machine.specs.Waiting.{nodeKind, nodeBefore, closes, partMore, begunLast, settle, isBareTuple}
+use Rattle.node_rows.specs.Nodes.{nodeOf, numberIn, closedNodeOf}
+use Rattle.parsing_machine.specs.Waiting.{nodeBefore, closes, partMore, begunLast, settle, isBareTuple}
 use Rattle.parsing_machine.specs.Parser.{itemLast}
-use Rattle.node_tables.specs.Tables.{rowKind, rowsDown, openedOf}
+use Rattle.node_tables.specs.Tables.{rowKind, rowsDown}
 use Rattle.node_tables.proofs.Downward.{kind-same}
 use Rattle.parsing_steps.specs.declared.Heights.{Heights}
 use Rattle.parsing_steps.specs.Settling.{grownRow, BeginsLast, Settles, Shuts}

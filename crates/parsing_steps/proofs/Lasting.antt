@@ -1,7 +1,7 @@
 -- What waits innermost is a leading `|`, an Or, or stays as it is, when an alternative has closed. Assumes nothing.
-use Prim.Native.Nat.{ℕ, suc, _+_, _-_, _<_, _≤_}
+use Prim.Native.Nat.{ℕ, suc, _-_, _<_, _≤_}
 use mathlib.Core.Path.{_≡_, refl, sym, ap, _∙_}
-use mathlib.Core.Bool.{Bool, true, false, cond, _||_}
+use mathlib.Core.Bool.{Bool, true, false}
 use mathlib.Core.Logic.{_⊎_, inl, inr}
 use mathlib.Core.List.{List, [], _∷_}
 use native.Mathlib.Omega.{arith}
@@ -9,10 +9,10 @@ use lib.Dec.{eqb, ltb}
 use borrow.Author.Tests.{ltb-true, ltb-false}
 use Rattle.pattern_syntax.specs.Closing.{ClosedNode}
 use Rattle.node_rows.specs.declared.NodeRow.{NodeRow}
-use Rattle.node_rows.specs.Nodes.{nodeRowAt, nodeOf, nameIn, closedNodeOf}
-use Rattle.parsing_machine.specs.Waiting.{Opened, opened, nodeKind, partMore, begunLast, settle}
+use Rattle.node_rows.specs.Nodes.{nodeRowAt, closedNodeOf}
+use Rattle.parsing_machine.specs.Waiting.{opened, nodeKind, partMore, begunLast, settle}
 use Rattle.node_tables.specs.Tables.{Puts, rowKind, rowsDown, openedOf}
-use Rattle.node_tables.proofs.Downward.{rows-below, rows-put, kind-same}
+use Rattle.node_tables.proofs.Downward.{rows-put, kind-same}
 use Rattle.parsing_steps.specs.declared.Heights.{Heights}
 use Rattle.parsing_steps.specs.Settling.{grownRow, PartsMost, passesFirst, Passes, BeginsLast, SettlesLast, Settles, Shuts}
 use Rattle.parsing_steps.proofs.Passing.{grown-node}

@@ -1,16 +1,16 @@
 -- Names with `@` and references close one after another. Assumes nothing.
 use Prim.Native.Nat.{ℕ, suc, _+_, _-_, _<_, _≤_}
 use mathlib.Core.Path.{_≡_, refl, sym, ap, _∙_}
-use mathlib.Core.Bool.{Bool, true, false, cond, _||_}
+use mathlib.Core.Bool.{Bool, true, false, _||_}
 use mathlib.Core.List.{List, [], _∷_}
 use native.Mathlib.Omega.{arith}
 use lib.Dec.{eqb}
 use Rattle.pattern_syntax.specs.Closing.{ClosedNode}
 use Rattle.node_rows.specs.declared.NodeRow.{NodeRow}
 use Rattle.node_rows.specs.Nodes.{nodeRowAt, nodeOf, nameIn, closedNodeOf}
-use Rattle.parsing_machine.specs.Waiting.{opened, nodeKind, partMore, begunLast, settle}
-use Rattle.node_tables.specs.Tables.{Puts, rowKind, rowsDown}
-use Rattle.node_tables.proofs.Downward.{rows-below, rows-put, kind-same}
+use Rattle.parsing_machine.specs.Waiting.{nodeKind, partMore, begunLast, settle}
+use Rattle.node_tables.specs.Tables.{Puts, rowsDown}
+use Rattle.node_tables.proofs.Downward.{rows-put, kind-same}
 use Rattle.parsing_steps.specs.Settling.{passesBy, grownRow, begunRow, PartsMost, passesFirst, GoesOn, BeginsLast}
 
 -- what the loop keeps

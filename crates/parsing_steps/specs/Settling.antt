@@ -1,7 +1,7 @@
 -- What the tables hold when an alternative has closed. Assumes nothing: these are definitions.
 use Prim.Native.Nat.{ℕ, suc, _+_, _<_, _≤_}
 use mathlib.Core.Path.{_≡_}
-use mathlib.Core.Bool.{Bool, true, false, _||_}
+use mathlib.Core.Bool.{Bool, false, _||_}
 use mathlib.Core.List.{List, [], _∷_}
 use lib.Dec.{eqb}
 use Rattle.pattern_syntax.specs.Closing.{ClosedNode}

@@ -4,7 +4,6 @@ use Rattle.node_tables.proofs.kind_of.Reads as reads
 use Rattle.node_tables.proofs.kind_of.Lts as lts
 use borrow.Author.Tests.{lt-ltb, le-ltb}
 use Rattle.node_tables.specs.Tables.{rowKind}
-use native.Mathlib.Omega.{arith}
 
 returns : tie.Need-returns
 unfolding rowKind

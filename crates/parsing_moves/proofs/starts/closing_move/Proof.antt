@@ -2,16 +2,11 @@ use Rattle.parsing_moves.proofs.starts.closing_move.Statement.{statemen
 use Rattle.parsing_moves.proofs.starts.closing_move.Tie as tie
 use Rattle.parsing_moves.proofs.starts.closing_move.Reads as reads
 use Rattle.parsing_moves.proofs.starts.closing_move.Lts as lts
-use mathlib.Core.Path.{_≡_, refl, sym, ap, _∙_}
-use mathlib.Core.Bool.{true, false, cond}
-use native.Mathlib.Omega.{arith}
-use native.Mathlib.Numerals.{add-one}
-use borrow.Author.Tests.{eq-eqb, ne-eqb, lt-ltb, le-ltb, not-true}
-use Rattle.pattern_grammar.specs.Lexemes.{wide, over}
+use borrow.Author.Tests.{eq-eqb, ne-eqb}
 use Rattle.parsing_machine.specs.Waiting.{closes}
-use Rattle.parsing_machine.specs.Moves.{markMove, startMove, boundMove, rangedMove, fitMove, pathMove, fieldMove}
+use Rattle.parsing_machine.specs.Moves.{markMove, startMove, boundMove, rangedMove, fitMove}
 use Rattle.node_rows.specs.Nodes.{closedNodeOf, nodeOf, literalIn, numberIn, nameIn}
-use Rattle.parsing_moves.specs.Rows.{moveOf, heldIn, overIn, isIndex}
+use Rattle.parsing_moves.specs.Rows.{moveOf, heldIn}
 use Rattle.parsing_moves.proofs.Deciding.{closes-not}
 
 returns : tie.Need-returns

@@ -4,17 +4,8 @@ use Rattle.parsing_moves.proofs.starts.is_over.Tie as tie
 use Rattle.parsing_moves.proofs.starts.is_over.Reads as reads
 use Rattle.parsing_moves.proofs.starts.is_over.Lts as lts
 use Rattle.parsing_moves.proofs.starts.over_halves.Reads as over-halves-reads
-use mathlib.Core.Path.{_≡_, refl, sym, ap, _∙_}
-use mathlib.Core.Bool.{true, false, cond}
-use native.Mathlib.Omega.{arith}
-use native.Mathlib.Numerals.{add-one}
-use borrow.Author.Tests.{eq-eqb, ne-eqb, lt-ltb, le-ltb, not-true, not-false}
-use Rattle.pattern_grammar.specs.Lexemes.{wide, over}
-use Rattle.parsing_machine.specs.Waiting.{closes}
-use Rattle.parsing_machine.specs.Moves.{markMove, startMove, boundMove, rangedMove, fitMove, pathMove, fieldMove}
-use Rattle.node_rows.specs.Nodes.{closedNodeOf, nodeOf, literalIn, numberIn, nameIn}
-use Rattle.parsing_moves.specs.Rows.{moveOf, heldIn, overIn, isIndex}
-use Rattle.parsing_moves.proofs.Deciding.{closes-not, over-equal, over-other, over-over, over-plain, over-minus}
+use borrow.Author.Tests.{not-true, not-false}
+use Rattle.parsing_moves.proofs.Deciding.{over-over, over-plain, over-minus}
 
 enum-told : tie.Need-enum-told
 enum-told c = search needs

@@ -5,17 +5,9 @@ use Rattle.parsing_moves.proofs.starts.is_wide.Reads as reads
 use Rattle.parsing_moves.proofs.starts.is_wide.Lts as lts
 use Rattle.decimal_values.proofs.integer_value.Reads as integer-value-reads
 use Rattle.parsing_moves.proofs.starts.is_over.Reads as is-over-reads
-use mathlib.Core.Path.{_≡_, refl, sym, ap, _∙_}
-use mathlib.Core.Bool.{true, false, cond}
-use native.Mathlib.Omega.{arith}
-use native.Mathlib.Numerals.{add-one}
-use borrow.Author.Tests.{eq-eqb, ne-eqb, lt-ltb, le-ltb, not-true}
-use Rattle.pattern_grammar.specs.Lexemes.{wide, over}
-use Rattle.parsing_machine.specs.Waiting.{closes}
-use Rattle.parsing_machine.specs.Moves.{markMove, startMove, boundMove, rangedMove, fitMove, pathMove, fieldMove}
-use Rattle.node_rows.specs.Nodes.{closedNodeOf, nodeOf, literalIn, numberIn, nameIn}
-use Rattle.parsing_moves.specs.Rows.{moveOf, heldIn, overIn, isIndex}
-use Rattle.parsing_moves.proofs.Deciding.{closes-not}
+use mathlib.Core.Path.{ap, _∙_}
+use Rattle.pattern_grammar.specs.Lexemes.{wide}
+use Rattle.parsing_moves.specs.Rows.{overIn}
 
 integer-value-requires : tie.Need-integer-value-requires
 integer-value-requires c κs = search needs

@@ -10,17 +10,11 @@ use Rattle.parsing_moves.proofs.makers.opens_row.Reads as opens-row-rea
 use Rattle.parsing_moves.proofs.makers.two_references.Reads as two-references-reads
 use Rattle.parsing_moves.proofs.starts.dots_move.Reads as dots-move-reads
 use Rattle.parsing_moves.proofs.starts.whole_move.Reads as whole-move-reads
-use mathlib.Core.Path.{_≡_, refl, sym, ap, _∙_}
-use mathlib.Core.Bool.{true, false, cond}
-use native.Mathlib.Omega.{arith}
-use native.Mathlib.Numerals.{add-one}
-use borrow.Author.Tests.{eq-eqb, ne-eqb, lt-ltb, le-ltb, not-true}
-use Rattle.pattern_grammar.specs.Lexemes.{wide, over}
+use borrow.Author.Tests.{ne-eqb}
 use Rattle.parsing_machine.specs.Waiting.{closes}
 use Rattle.parsing_machine.specs.Moves.{markMove, startMove, boundMove, rangedMove, fitMove, pathMove, fieldMove}
 use Rattle.node_rows.specs.Nodes.{closedNodeOf, nodeOf, literalIn, numberIn, nameIn}
-use Rattle.parsing_moves.specs.Rows.{moveOf, heldIn, overIn, isIndex}
-use Rattle.parsing_moves.proofs.Deciding.{closes-not}
+use Rattle.parsing_moves.specs.Rows.{moveOf, heldIn, isIndex}
 
 holds-flags-requires : tie.Need-holds-flags-requires
 holds-flags-requires c κs = search needs

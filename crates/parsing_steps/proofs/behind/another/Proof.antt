@@ -7,13 +7,10 @@ use Rattle.node_tables.proofs.put_node.Reads as put-node-reads
 use Rattle.parsing_steps.proofs.behind.last_from.Reads as last-from-reads
 use Rattle.parsing_steps.proofs.behind.or_row.Reads as or-row-reads
 use Rattle.parsing_steps.proofs.behind.top_kind.Reads as top-kind-reads
-use mathlib.Core.Path.{_≡_, refl, sym, ap, _∙_}
 use native.Mathlib.Omega.{arith}
 use borrow.Author.Needs.{needs}
 use borrow.Author.Tests.{eq-eqb, ne-eqb}
-use Rattle.parsing_steps.proofs.Passing.{parts-fit}
-use Rattle.parsing_steps.proofs.Lasting.{fewer}
-use Rattle.parsing_steps.proofs.Behinds.{top-none, top-some, last-none, last-some, waits-same, waits-new, ends-whole, ends-not, ends-field, ends-item, behind-or, behind-ends, behind-shuts, some-waits, or-one}
+use Rattle.parsing_steps.proofs.Behinds.{waits-same, waits-new}
 
 top-kind-requires : tie.Need-top-kind-requires
 top-kind-requires c κs = search needs

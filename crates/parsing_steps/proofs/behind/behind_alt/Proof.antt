@@ -9,13 +9,11 @@ use Rattle.parsing_steps.proofs.behind.another.Reads as another-reads
 use Rattle.parsing_steps.proofs.behind.ended.Reads as ended-reads
 use Rattle.parsing_steps.proofs.behind.top_kind.Reads as top-kind-reads
 use Rattle.parsing_steps.proofs.ending.going_on.Reads as going-on-reads
-use mathlib.Core.Path.{_≡_, refl, sym, ap, _∙_}
 use native.Mathlib.Omega.{arith}
 use borrow.Author.Needs.{needs}
 use borrow.Author.Tests.{eq-eqb, ne-eqb}
-use Rattle.parsing_steps.proofs.Passing.{parts-fit}
 use Rattle.parsing_steps.proofs.Lasting.{fewer}
-use Rattle.parsing_steps.proofs.Behinds.{top-none, top-some, last-none, last-some, waits-same, waits-new, ends-whole, ends-not, ends-field, ends-item, behind-or, behind-ends, behind-shuts, some-waits, or-one}
+use Rattle.parsing_steps.proofs.Behinds.{behind-or, behind-ends, behind-shuts, some-waits, or-one}
 
 another-requires : tie.Need-another-requires
 another-requires c κs = omega (arith, c .before .before .before .pre .0, or-one _ (c .before .before .if1 .taken))

@@ -7,13 +7,12 @@ use Rattle.node_tables.proofs.kind_of.Reads as kind-of-reads
 use Rattle.node_tables.proofs.node_at.Reads as node-at-reads
 use Rattle.parsing_steps.proofs.ending.ended_field.Reads as ended-field-reads
 use Rattle.parsing_steps.proofs.ending.ended_item.Reads as ended-item-reads
-use mathlib.Core.Path.{_≡_, refl, sym, ap, _∙_}
 use native.Mathlib.Omega.{arith}
 use borrow.Author.Needs.{needs}
 use borrow.Author.Tests.{eq-eqb, ne-eqb}
 use Rattle.parsing_steps.proofs.Passing.{parts-fit}
 use Rattle.parsing_steps.proofs.Lasting.{fewer}
-use Rattle.parsing_steps.proofs.Behinds.{top-none, top-some, last-none, last-some, waits-same, waits-new, ends-whole, ends-not, ends-field, ends-item, behind-or, behind-ends, behind-shuts, some-waits, or-one}
+use Rattle.parsing_steps.proofs.Behinds.{ends-whole, ends-not, ends-field, ends-item}
 
 returns : tie.Need-returns
 returns c = ends-whole _ _ _ _ _ _ (c .before .if1 .taken) (eq-eqb _ 0 (c .if2 .taken))

@@ -5,13 +5,9 @@ use Rattle.parsing_steps.proofs.behind.top_kind.Reads as reads
 use Rattle.parsing_steps.proofs.behind.top_kind.Lts as lts
 use Rattle.node_tables.proofs.kind_of.Reads as kind-of-reads
 use Rattle.node_tables.proofs.node_at.Reads as node-at-reads
-use mathlib.Core.Path.{_≡_, refl, sym, ap, _∙_}
 use native.Mathlib.Omega.{arith}
 use borrow.Author.Needs.{needs}
-use borrow.Author.Tests.{eq-eqb, ne-eqb}
-use Rattle.parsing_steps.proofs.Passing.{parts-fit}
-use Rattle.parsing_steps.proofs.Lasting.{fewer}
-use Rattle.parsing_steps.proofs.Behinds.{top-none, top-some, last-none, last-some, waits-same, waits-new, ends-whole, ends-not, ends-field, ends-item, behind-or, behind-ends, behind-shuts, some-waits, or-one}
+use Rattle.parsing_steps.proofs.Behinds.{top-none, top-some}
 
 returns : tie.Need-returns
 returns c = top-none _ _ (c .if1 .taken)

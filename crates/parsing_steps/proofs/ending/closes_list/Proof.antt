@@ -2,7 +2,7 @@ use Rattle.parsing_steps.proofs.ending.closes_list.Statement.{statement
 use Rattle.parsing_steps.proofs.ending.closes_list.Tie as tie
 use Rattle.parsing_steps.proofs.ending.closes_list.Reads as reads
 use Rattle.parsing_steps.proofs.ending.closes_list.Lts as lts
-use mathlib.Core.Path.{_≡_, refl, sym, ap, _∙_}
+use mathlib.Core.Path.{sym}
 use borrow.Author.Tests.{eq-eqb, ne-eqb}
 use Rattle.parsing_machine.specs.Waiting.{closes}
 use Rattle.parsing_moves.proofs.Deciding.{closes-not}

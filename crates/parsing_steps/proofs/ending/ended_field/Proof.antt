@@ -8,12 +8,9 @@ use Rattle.parsing_steps.proofs.ending.going_on.Reads as going-on-reads
 use Rattle.parsing_steps.proofs.ending.grow_top.Reads as grow-top-reads
 use Rattle.parsing_steps.proofs.ending.shut_grown.Reads as shut-grown-reads
 use Rattle.parsing_steps.proofs.settling.grown_row.Reads as grown-row-reads
-use mathlib.Core.Path.{_≡_, refl, sym, ap, _∙_}
 use native.Mathlib.Omega.{arith}
 use borrow.Author.Tests.{eq-eqb, ne-eqb}
-use Rattle.parsing_steps.proofs.Passing.{parts-fit}
-use Rattle.parsing_steps.proofs.Lasting.{fewer}
-use Rattle.parsing_steps.proofs.Enders.{grows-none, grows-one, shuts-none, shuts-one, item-next, item-ends, item-halts, field-next, field-ends, field-halts}
+use Rattle.parsing_steps.proofs.Enders.{field-next, field-ends, field-halts}
 
 grown-row-requires : tie.Need-grown-row-requires
 grown-row-requires c κs = search needs

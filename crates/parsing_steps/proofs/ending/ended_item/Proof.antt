@@ -9,12 +9,10 @@ use Rattle.parsing_steps.proofs.ending.closes_list.Reads as closes-list
 use Rattle.parsing_steps.proofs.ending.going_on.Reads as going-on-reads
 use Rattle.parsing_steps.proofs.ending.item_last.Reads as item-last-reads
 use Rattle.parsing_steps.proofs.settling.grown_row.Reads as grown-row-reads
-use mathlib.Core.Path.{_≡_, refl, sym, ap, _∙_}
+use mathlib.Core.Path.{sym, _∙_}
 use native.Mathlib.Omega.{arith}
 use borrow.Author.Tests.{eq-eqb, ne-eqb}
-use Rattle.parsing_steps.proofs.Passing.{parts-fit}
-use Rattle.parsing_steps.proofs.Lasting.{fewer}
-use Rattle.parsing_steps.proofs.Enders.{grows-none, grows-one, shuts-none, shuts-one, item-next, item-ends, item-halts, field-next, field-ends, field-halts}
+use Rattle.parsing_steps.proofs.Enders.{item-next, item-ends, item-halts}
 
 grown-row-requires : tie.Need-grown-row-requires
 grown-row-requires c κs = search needs

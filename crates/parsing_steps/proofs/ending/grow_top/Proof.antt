@@ -6,12 +6,9 @@ use Rattle.parsing_steps.proofs.ending.grow_top.Lts as lts
 use Rattle.node_tables.proofs.node_at.Reads as node-at-reads
 use Rattle.node_tables.proofs.put_node.Reads as put-node-reads
 use Rattle.parsing_steps.proofs.settling.grown_row.Reads as grown-row-reads
-use mathlib.Core.Path.{_≡_, refl, sym, ap, _∙_}
 use native.Mathlib.Omega.{arith}
-use borrow.Author.Tests.{eq-eqb, ne-eqb}
 use Rattle.parsing_steps.proofs.Passing.{parts-fit}
-use Rattle.parsing_steps.proofs.Lasting.{fewer}
-use Rattle.parsing_steps.proofs.Enders.{grows-none, grows-one, shuts-none, shuts-one, item-next, item-ends, item-halts, field-next, field-ends, field-halts}
+use Rattle.parsing_steps.proofs.Enders.{grows-none, grows-one}
 
 returns : tie.Need-returns
 returns c = grows-none _ _ (c .if1 .taken)

@@ -8,7 +8,7 @@ use Rattle.parsing_steps.proofs.settling.begin_last.Reads as begin-last
 use Rattle.parsing_steps.proofs.settling.grown_row.Reads as grown-row-reads
 use Rattle.parsing_steps.proofs.settling.settle.Reads as settle-reads
 use Rattle.parsing_steps.proofs.settling.shut.Reads as shut-reads
-use mathlib.Core.Path.{_≡_, refl, sym, ap, _∙_}
+use mathlib.Core.Path.{sym, _∙_}
 use native.Mathlib.Omega.{arith}
 use Rattle.parsing_steps.proofs.LastItems.{ends-bare, ends-list}
 

@@ -6,12 +6,10 @@ use Rattle.parsing_steps.proofs.ending.shut_grown.Lts as lts
 use Rattle.node_tables.proofs.node_at.Reads as node-at-reads
 use Rattle.parsing_steps.proofs.settling.grown_row.Reads as grown-row-reads
 use Rattle.parsing_steps.proofs.settling.shut.Reads as shut-reads
-use mathlib.Core.Path.{_≡_, refl, sym, ap, _∙_}
 use native.Mathlib.Omega.{arith}
-use borrow.Author.Tests.{eq-eqb, ne-eqb}
 use Rattle.parsing_steps.proofs.Passing.{parts-fit}
 use Rattle.parsing_steps.proofs.Lasting.{fewer}
-use Rattle.parsing_steps.proofs.Enders.{grows-none, grows-one, shuts-none, shuts-one, item-next, item-ends, item-halts, field-next, field-ends, field-halts}
+use Rattle.parsing_steps.proofs.Enders.{shuts-none, shuts-one}
 
 returns : tie.Need-returns
 returns c = shuts-none _ _ _ _ (c .if1 .taken)

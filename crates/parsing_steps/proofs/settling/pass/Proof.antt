@@ -8,11 +8,9 @@ use Rattle.parsing_steps.proofs.settling.grown_row.Reads as grown-row-r
 use Rattle.parsing_steps.proofs.settling.passes.Reads as passes-reads
 use Rattle.parsing_steps.proofs.Passing.{zero-of}
 use borrow.Author.Needs.{needs}
-use mathlib.Core.Path.{_≡_, refl, sym, ap, _∙_}
+use mathlib.Core.Path.{refl, sym, _∙_}
 use native.Mathlib.Omega.{arith}
-use native.Mathlib.Numerals.{add-one}
 use borrow.Author.Tests.{not-true, not-false}
-use Rattle.parsing_steps.specs.Settling.{PartsMost, passesBy}
 use Rattle.parsing_steps.proofs.Passing.{parts-fit, Passing, passes-one, passes-none, passes-nothing}
 
 abbrev Inv-loop : tie.InvT-loop

@@ -8,7 +8,6 @@ use Rattle.node_tables.proofs.node_at.Reads as node-at-reads
 use Rattle.node_tables.proofs.put_node.Reads as put-node-reads
 use Rattle.parsing_steps.proofs.settling.begin_last.Reads as begin-last-reads
 use Rattle.parsing_steps.proofs.settling.grown_row.Reads as grown-row-reads
-use mathlib.Core.Path.{_≡_, refl, sym, ap, _∙_}
 use native.Mathlib.Omega.{arith}
 use borrow.Author.Tests.{eq-eqb, ne-eqb}
 use Rattle.parsing_steps.proofs.Passing.{parts-fit}

@@ -1,0 +1,2 @@
+// What the parser does at a mark behind what is held.
+pub mod behind;
