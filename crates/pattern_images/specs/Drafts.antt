@@ -135,7 +135,8 @@ typeIn sheet d t = cond (ltb t (typeCount sheet)) (typeAt sheet t) (getD (d .typ
 abbrev pub sameFlag : Bool → Bool → Bool
 sameFlag x y = cond x y (cond y false true)
 
--- "same kind, same target or element by number, same length, copy flag set or not alike; words a kind does not use are not looked at"
+-- types are alike with the same kind, the same target or element by number, the same length, and copy flags that are both set or both not; words
+-- that a kind does not use are not looked at
 unfoldable pub alike : TypeRow → TypeRow → Bool
 alike row other =
     eqb (row .kind) (other .kind)

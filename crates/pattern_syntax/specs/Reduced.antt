@@ -31,7 +31,7 @@ identName text n = record { at = n .spot .from; bytes = identBytes text n }
 abbrev pub pathName : List ℕ → NamePath → Name
 pathName text p = record { at = pathAt p; bytes = pathBytes text p }
 
--- a field before `:`; an integer is a field "by its bytes as written"
+-- a field before `:`; an integer is a field by its bytes as they are written
 unfoldable pub keyName : List ℕ → FieldKey → Name
 keyName text (index q) = record { at = q .from; bytes = bytesFrom text (q .from) (q .to) }
 keyName text (label n) = identName text n
@@ -80,7 +80,7 @@ boundNameAt b = firstPlace (b .byRef) (firstPlace (b .mutable) (b .called .spot 
 unfoldable pub writtenIdent : List ℕ → BoundName → Parts → Written
 writtenIdent text b sub = written (boundNameAt b) (identNode (isThere (b .byRef)) (isThere (b .mutable)) (identName text (b .called))) sub
 
--- "&&" is a reference to a reference, the inner one at the second byte (patterns.ref.ref-ref, tokens)
+-- `&&` is a reference to a reference, the inner one at the second byte (patterns.ref.ref-ref)
 unfoldable pub writtenReference : Ampersand → Option Spot → Written → Written
 writtenReference (single q) m w = written (q .from) (referenceNode (isThere m)) (only w)
 writtenReference (double q) m w =
@@ -182,7 +182,7 @@ unfoldable mutual
   writtenFields text noField = noParts
   writtenFields text (field fs f c) = more (writtenFields text fs) (writtenFieldOf text f)
 
-  -- a name alone is a field and its pattern (patterns.struct.syntax)
+  -- a name alone is "a shorthand for fieldname: fieldname" (patterns.struct.binding-shorthand)
   pub writtenFieldOf : List ℕ → RecordField → Written
   writtenFieldOf text (keyed key c p) = writtenField (keyName text key) (oneOf (alternatives text p))
   writtenFieldOf text (short b) = writtenField (identName text (b .called)) (writtenIdent text b noParts)

@@ -45,7 +45,7 @@ unfoldable pub standsBefore : Option ℕ → ℕ → Bool
 standsBefore none i = true
 standsBefore (some before) i = ltb i before
 
--- "An argument's field is its number, or behind a rest counted from the end"
+-- an argument's field is its number, or behind `..` counted from the end
 unfoldable pub argumentContext : List ℕ → FieldTypes → ℕ → Option ℕ → ℕ → ℕ → Context
 argumentContext sheet fields mode before many i =
     cond (standsBefore before i) (fieldContext sheet fields mode i)
@@ -62,7 +62,7 @@ itemContext sheet t mode before many i =
     cond (isRestItem before i) (restAmong t (many - 1) mode)
     (cond (isArray sheet t || isSlice sheet t) (typed (typeAt sheet t .a) mode) partless)
 
--- `&` and `&mut` set the default mode back (patterns.ident.binding.ref)
+-- behind `&` and `&mut` the default mode starts anew (patterns.ident.binding.move)
 unfoldable pub targetContext : List ℕ → Bool → ℕ → Context
 targetContext sheet mutable t = cond (isWrittenAs sheet mutable t) (typed (typeAt sheet t .a) byValue) partless
 

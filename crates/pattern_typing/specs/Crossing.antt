@@ -46,8 +46,8 @@ pub record Crossed : Type 0 where
   pub derefs : ℕ
   pub mode : ℕ
 
--- "If a binding pattern does not explicitly have ref, ref mut, or mut, then it uses the default binding mode": `&` makes it ref, and `&mut` ref
--- mut unless it is ref (patterns.ident.binding.default-mode)
+-- "References will set the default binding mode to ref. Mutable references will set the mode to ref mut unless the mode is already ref"
+-- (patterns.ident.binding.ref, patterns.ident.binding.ref-mut)
 unfoldable pub behindReference : Bool → ℕ → ℕ
 behindReference shared mode = cond (shared || eqb mode byRef) byRef byRefMut
 
@@ -65,8 +65,9 @@ unfoldable pub crossUpTo : ℕ → List ℕ → Crossed → Crossed
 crossUpTo zero sheet c = c
 crossUpTo (suc most) sheet c = cond (isReference sheet (c .ty)) (crossUpTo most sheet (crossOne sheet c)) c
 
--- "the pattern is .. dereferenced" until what is there is no reference (patterns.ident.binding.non-reference). A sheet has at most 256 types, so
--- what is a reference behind 257 goes round
+-- "Each time a reference is matched using a non-reference pattern, it will automatically dereference the value", and "If the automatically
+-- dereferenced value is still a reference, .. this process repeats" (patterns.ident.binding.auto-deref, patterns.ident.binding.nested-references).
+-- A sheet has at most 256 types, so what is a reference behind 257 goes round
 unfoldable pub crossed : List ℕ → ℕ → ℕ → Crossed
 crossed sheet t mode = crossUpTo 257 sheet (record { ty = t; derefs = 0; mode = mode })
 

@@ -46,7 +46,8 @@ pub record Marked : Type 0 where
   pub mutable : Bool
   pub called : Name
 
--- "`ref x` is mode 1, `ref mut x` mode 2 ..; `mut x` mode 0, whatever the default mode; `x` the default mode" (patterns.ident.binding)
+-- `ref x` is mode 1, `ref mut x` mode 2, `mut x` mode 0 whatever the default mode; "If a binding pattern does not explicitly have ref, ref mut, or
+-- mut, then it uses the default binding mode" (patterns.ident.ref, patterns.ident.binding.default-mode)
 unfoldable pub modeOf : Marked → ℕ → ℕ
 modeOf m mode = cond (m .reference) (cond (m .mutable) byRefMut byRef) (cond (m .mutable) byValue mode)
 
@@ -70,7 +71,7 @@ restBoundAt sheet t others =
     (boundAtArray (typeAt sheet t .a) (typeAt sheet t .b - others) (cond (isSet (typeAt sheet (typeAt sheet t .a) .copy)) 1 0))
     (boundAtType t)
 
--- "A bound rest has no part where the type is no array or slice, or the array is shorter than its other items"
+-- a rest that is bound has no part where the type is no array or slice, or the array is shorter than the other items
 unfoldable pub restHolds : List ℕ → ℕ → ℕ → Bool
 restHolds sheet t others = isSlice sheet t || isArray sheet t && leb others (typeAt sheet t .b)
 
@@ -135,8 +136,9 @@ tupleStructAs sheet c before many v =
 unfoldable pub recordAs : Crossed → ℕ → Resolved
 recordAs c v = resolvedTo (listRow 6 c v 0) (fieldParts (c .ty) v (c .mode))
 
--- a node of this type and default mode, with so many parts, by its kind: Wild 3, Rest 1, Path 9, Tuple 4, Or 5. Literals, ranges, paths, tuple
--- structs, records, tuples and slices cross references ("non-reference patterns"), others do not
+-- a node of this type and default mode, with so many parts, by its kind: Wild 3, Rest 1, Path 9, Tuple 4, Or 5. "Non-reference patterns include all
+-- patterns except bindings, wildcard patterns (_), .. and reference patterns" (patterns.ident.binding.non-reference): literals, ranges, paths, tuple
+-- structs, records, tuples and slices cross references, the alternatives of an Or each by themselves
 unfoldable pub resolvedNode : List ℕ → List ℕ → Node → ℕ → ℕ → ℕ → Resolved
 resolvedNode sheet names wildcardNode many t mode = resolvedTo (rowMade (patternRow 3 t 0 0 0 0 0)) unseenParts
 resolvedNode sheet names restNode many t mode = resolvedTo (restMade t) unseenParts
