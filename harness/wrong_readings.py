@@ -90,12 +90,16 @@ def prepare(folder):
 
 
 def declarations(folder):
-    """Of the crates whose definitions are changed only what declares structs, enums and constants stays of the code."""
+    """Of the code of the crates whose definitions are changed, only the structs, enums and constants of lib.rt stay, with what these name."""
     for name in {change[1] for change in CHANGES}:
-        for path in (folder / "crates" / name / "src").glob("*.rt"):
-            text = path.read_text()
-            kept = re.findall(r"^pub (?:struct|enum) [^{]*\{.*?^\}\n|^pub const .*?;\n", text, re.M | re.S)
-            path.write_text("".join(kept) or "// no declaration\n")
+        source = folder / "crates" / name / "src"
+        for path in source.glob("*.rt"):
+            if path.name != "lib.rt":
+                path.unlink()
+        text = (source / "lib.rt").read_text()
+        kept = "".join(re.findall(r"^pub (?:struct|enum) [^{]*\{.*?^\}\n|^pub const .*?;\n", text, re.M | re.S))
+        uses = [use[0] for use in re.finditer(r"^use [\w:]+::(\w+);\n", text, re.M) if re.search(rf"\({use[1]}\)|: {use[1]}\b", kept)]
+        (source / "lib.rt").write_text("".join(uses) + kept or "// no declaration\n")
 
 
 def main():
