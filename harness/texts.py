@@ -1,10 +1,12 @@
 #!/usr/bin/env python3
-"""texts.py [few|quick|full] [SEED]: rustc as the judge of samples/reading.py on pattern texts.
+"""texts.py [few|quick|full] [SEED] [REPLAY]: rustc and samples/reading.py as the judges of pattern texts.
 
-First the grammar: texts made by the grammar, damaged ones and the corners are matched as `$p:pat` in edition 2021. What reading.py takes
-rustc must take, and what it refuses with 19 rustc must refuse, but for the forms of LEFT_OUT. Then types: texts over the sample classes
-stand in match arms over their declarations. rustc must accept those whose image fits, with the bindings' types that the image has, and no
-others, but for the sorts of PARTED. A difference is printed and fails the run."""
+REPLAY is the program that replays stored records: its answers are judged, or without it those of samples/reading.py. First the grammar:
+texts made by the grammar, damaged ones and the corners are matched as `$p:pat` in edition 2021. What is taken rustc must take, and what is
+refused with 19 rustc must refuse, but for the forms of LEFT_OUT. Then types: texts over the sample classes stand in match arms over their
+declarations. rustc must accept those whose image fits, with the bindings' types that the image has, and no others, but for the sorts of
+PARTED. The program's image and its refusals must be those of samples/reading.py, byte for byte. A difference is printed and fails the
+run."""
 import json
 import random
 import re
@@ -19,6 +21,8 @@ HERE = Path(__file__).resolve().parent
 sys.path.insert(0, str(HERE.parent / 'samples'))
 
 from grammar import Failed, Parser, made_text
+from reading_corners import class_tables
+from reading_program import Program
 from typed_texts import typed
 from tokens import token
 
@@ -210,12 +214,20 @@ def left_out(text, at):
     return form and f'left out by the request, and taken by rustc: {form}'
 
 
-def compare_grammar(judge, seed, count):
+def failing_places(program, texts):
+    """the position of 19, or None, for each text"""
+    sheet, names = class_tables()
+    answers = program.answers([(text, sheet, names, 0) for text in texts])
+    return [answer[1] if isinstance(answer, tuple) and answer[0] == 19 else None for answer in answers]
+
+
+def compare_grammar(judge, program, seed, count):
     """how many texts of each sort, and the differences"""
     texts = grammar_texts(seed, count)
     tally, differences = Counter(), []
-    for text, said in zip(texts, judge.patterns(texts)):
-        at = verdict(text)
+    for text, at, said in zip(texts, failing_places(program, texts), judge.patterns(texts)):
+        if at != verdict(text):
+            differences.append((text, at, 'and by samples/grammar.py', verdict(text)))
         if at is None:
             sort = 'taken by both' if not said else None
         else:
@@ -236,17 +248,18 @@ def told(title, tally, differences):
     return len(differences)
 
 
-def main(mode='quick', seed='1851'):
+def main(mode='quick', seed='1851', replay=None):
     if subprocess.run(['rustc', '--version'], capture_output=True).returncode:
         print(f'skipped: harness/texts.py {mode} (no rustc that runs)')
         return 0
     grammar, each = COUNTS[mode]
+    program = Program(replay)
     with tempfile.TemporaryDirectory() as room:
         judge = Judge(room)
-        wrong = told('texts as `$p:pat`', *compare_grammar(judge, int(seed), grammar))
+        wrong = told('texts as `$p:pat`', *compare_grammar(judge, program, int(seed), grammar))
         for name in ('text', 'laser', 'mixed'):
-            wrong += told(f'texts over samples/{name}.class', *typed(judge, name, int(seed), each))
-        print(f'{judge.runs} runs of rustc')
+            wrong += told(f'texts over samples/{name}.class', *typed(judge, program, name, int(seed), each))
+        print(f'{judge.runs} runs of rustc; {program.asked} texts read by {program.name}')
     return 1 if wrong else 0
 
 

@@ -167,16 +167,25 @@ def sort_of(case):
     return 'does not fit, and accepted by rustc: a union' if case.has_union() else None
 
 
-def typed(judge, name, seed, count):
+def otherwise(program, declarations, cases):
+    """the texts that the program answers otherwise than samples/reading.py"""
+    answers = program.answers([(case.text, declarations.sheet, declarations.names, case.expected) for case in cases])
+    for case, answer in zip(cases, answers):
+        if answer != (case.refusal or case.m.encode()):
+            yield case.text.decode(errors='replace'), 't%d' % case.expected, 'the program and samples/reading.py differ', answer, case.refusal
+
+
+def typed(judge, program, name, seed, count):
     """how many texts of each sort, and the differences"""
     declarations = Declarations(name)
     found = list(chance_texts(seed, declarations.m, declarations.names, count))
     if name == 'text':
         found += [(text, expected) for text, expected, _ in corners()]
     cases = [Case(declarations, text, expected) for text, expected in found]
+    differences = list(otherwise(program, declarations, cases))
     cases = [case for case in cases if case.refusal is None or case.refusal[0] == 20]
     judged(judge, declarations, cases)
-    tally, differences = Counter(), []
+    tally = Counter()
     for case in cases:
         sort = sort_of(case)
         tally[sort or 'differ'] += 1

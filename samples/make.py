@@ -1,4 +1,4 @@
-"""Writes the samples and the stored lists of images, of calls, of listings and of parameters.
+"""Writes the samples and the stored lists of images, of calls, of listings, of parameters, of fits and of texts.
 
 `python3 samples/make.py` writes every file; `python3 samples/make.py --check`
 writes none, and fails if a file is not what it would write.
@@ -18,12 +18,13 @@ from listing_list import listing_records
 from lowering import listing
 from params_list import params_records
 from readable import sample_files
+from reading_list import first_rule, reading_records
 from records import IMAGE, record
 from whole import valid_images
 
 ROOT = Path(__file__).resolve().parent.parent
 REFUSED = "refused 1 65535 0"
-LARGEST_FILE = 2_000_000
+LARGEST_FILE = 3_000_000
 
 README = """# Sample images
 
@@ -47,6 +48,7 @@ n bytes and z zero bytes; and what its sort has besides:
 | 3 | a script: four big-endian bytes m, and m commands of four big-endian words | a line for each call |
 | 4 | a call on parameters: four big-endian bytes k, and k big-endian words | the listing and the locals, or the refusal |
 | 5 | a question whether a pattern fits: the same, with other words | `fits`, `does not fit` or the refusal |
+| 6 | a type sheet in the image's place: a name table, an expected type and a text (see `reading_list.py`) | `image` and its bytes in hexadecimal, or the refusal |
 
 `list.txt` has one line for each record of sort 1: its number from 1, its name, and `valid`
 or the names of the rules that it breaks. The names follow the order of the document; they
@@ -172,19 +174,19 @@ each script the number of its first line in `crates/replay/stdout`, its name, an
 - `text_chance.py`: random texts that follow the types of a class, but for slips.
 - `reading_cases.py`: calls at the edges: the order of the refusals, broken sheets and name
   tables, names and types alike, limits, texts that lie deep.
-- `reading_list.py`: writes the stored list of all these: `readings.in` has the records,
-  `readings.out` a line for each, and `readings.txt` for each its number from 1, its name and what
-  is added to the sheet, or the refusal. A record is a byte 6, the sheet as the records above have
+- `reading_list.py`: the stored calls on texts, records of sort 6: the sheet as the records above have
   their image, the name table behind its length in four big-endian bytes, the expected type as
-  a big-endian word, and the text behind its length in four bytes. No program replays it yet.
+  a big-endian word, and the text behind its length in four bytes. `readings.txt` has for each its
+  number from 1, its name and what is added to the sheet, or the refusal.
 - `reading_theorems.py`: writes `crates/reading_samples/proofs`, in which the definitions of reading
   are computed on 400 of these calls and held to the judge's answers.
 
-The program that reads a text is to take on standard input the type sheet and the name table, each
+The program `read_pattern` takes on standard input the type sheet and the name table, each
 beginning with its own length in four big-endian bytes, as all in the house form do; the
 expected type, a big-endian word; and the text behind its length in four big-endian bytes.
-What is missing at the end counts as empty, and what follows is not looked at. It is to write the
-image's bytes, or a line `refused` with the three numbers.
+What is missing at the end counts as empty, and what follows is not looked at. It writes the
+image's bytes, or a line `refused` with the three numbers. `crates/read_pattern/stdin` has the first
+rule of `laser.rules`.
 """
 
 
@@ -234,7 +236,8 @@ def replay_files():
     given, printed, listed = image_records()
     files = {"samples/list.txt": listed.encode()}
     for name, (more, lines, text) in (("calls", call_records(len(printed))), ("listings", listing_records()),
-                                      ("params", params_records()), ("fits", fit_records())):
+                                      ("params", params_records()), ("fits", fit_records()),
+                                      ("readings", reading_records())):
         given, printed = given + more, printed + lines
         files[f"samples/{name}.txt"] = text.encode()
     files["crates/replay/stdin"] = b"".join(given)
@@ -262,6 +265,7 @@ def all_files():
     files.update(replay_files())
     files["crates/listing/stdin"] = sample
     files["crates/listing/stdout"] = listing(sample).encode()
+    files["crates/read_pattern/stdin"], files["crates/read_pattern/stdout"] = first_rule()
     assert all(len(content) < LARGEST_FILE for content in files.values())
     return files
 

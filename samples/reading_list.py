@@ -1,12 +1,10 @@
 #!/usr/bin/env python3
-"""reading_list.py: writes the stored list of texts that are read: readings.in, readings.out and readings.txt.
-reading_list.py --check: writes none, and fails if one is not what it would write, or a class file's tables are not
-what scripts/class_file makes of it.
+"""reading_list.py --check: fails if a class file's tables are not what scripts/class_file makes of it.
 
-A record of readings.in is a byte 6; the sheet, as any record has its image (records.py); the name table behind its
-length in four big-endian bytes; the expected type as a big-endian word; and the text behind its length in four
-bytes. readings.out has a line for each: `image` and the image's bytes in hexadecimal, or the refusal. readings.txt
-has for each its number from 1, its name, and the refusal or what is added to the sheet, cut at 160 characters."""
+Its records are calls on texts for the stored lists (make.py): the sheet, as any record has its image (records.py); the name table behind
+its length in four big-endian bytes; the expected type as a big-endian word; and the text behind its length in four bytes. For each a line
+is printed: `image` and the image's bytes in hexadecimal, or the refusal. readings.txt has for each its number from 1, its name, and the
+refusal or what is added to the sheet, cut at 160 characters."""
 import struct
 import subprocess
 import sys
@@ -16,13 +14,13 @@ from pathlib import Path
 sys.dont_write_bytecode = True
 
 from images import decode
-from reading import read
+from reading import program, read
 from reading_cases import all_cases
 from reading_corners import HERE, added, class_tables, corners
-from records import record
+from records import reading_record
 from text_chance import chance_texts
 
-READING, LONGEST_LINE = 6, 160
+LONGEST_LINE = 160
 SEED, CHANCE = 1401, 60
 CLASSES = {'text': 0, 'laser': 14, 'mixed': 2}
 
@@ -42,8 +40,8 @@ def calls():
             yield f'{name}:{number}', text, sheet, names, expected
 
 
-def files():
-    """the three files' bytes by their names"""
+def reading_records():
+    """the records, the line printed for each, and readings.txt"""
     given, printed, listed, seen = [], [], [], set()
     for number, (name, text, sheet, names, expected) in enumerate(calls(), 1):
         assert name not in seen and ' ' not in name, name
@@ -51,11 +49,18 @@ def files():
         answer = read(text, sheet, names, expected)
         refused = isinstance(answer, tuple)
         line = 'refused %d %d %d' % answer if refused else 'image ' + answer.hex()
-        parts = struct.pack('>I', len(names)), names, struct.pack('>HI', expected, len(text)), text
-        given.append(record(READING, sheet) + b''.join(parts))
+        given.append(reading_record(text, sheet, names, expected))
         printed.append(line + '\n')
         listed.append(f'{number} {name} {line if refused else added(answer, sheet)}'[:LONGEST_LINE] + '\n')
-    return {'readings.in': b''.join(given), 'readings.out': ''.join(printed).encode(), 'readings.txt': ''.join(listed).encode()}
+    return given, printed, ''.join(listed)
+
+
+def first_rule():
+    """what the program read_pattern is run on, and what it writes"""
+    sheet, names = class_tables('laser')
+    text = (HERE / 'laser.rules').read_bytes().splitlines()[0]
+    given = sheet + names + struct.pack('>HI', CLASSES['laser'], len(text)) + text
+    return given, program(given)
 
 
 def class_faults():
@@ -69,16 +74,13 @@ def class_faults():
 
 
 def main(arguments):
-    made = files()
-    if arguments == ['--check']:
-        wrong = [name for name, content in made.items() if not (HERE / name).is_file() or (HERE / name).read_bytes() != content]
-        wrong += class_faults()
-        for name in wrong:
-            print(f'differs: samples/{name}')
-        return 1 if wrong else 0
-    for name, content in made.items():
-        (HERE / name).write_bytes(content)
-    return 0
+    if arguments != ['--check']:
+        print(__doc__)
+        return 2
+    wrong = list(class_faults())
+    for name in wrong:
+        print(f'differs: samples/{name}')
+    return 1 if wrong else 0
 
 
 if __name__ == '__main__':

@@ -4,7 +4,9 @@ A byte, the record's sort; four big-endian bytes n, four big-endian bytes z, and
 image is these n bytes and z zero bytes. Behind it stands what the sort has besides.
 """
 
-IMAGE, LISTING, SCRIPT, PARAMETERS, FIT = range(1, 6)
+import struct
+
+IMAGE, LISTING, SCRIPT, PARAMETERS, FIT, READING = range(1, 7)
 # From so many zero bytes at its end on, an image is stored without them.
 LONG_ZEROS = 64
 
@@ -16,3 +18,8 @@ def record(sort, image, zeros=0):
         head = image
     zeros += len(image) - len(head)
     return bytes([sort]) + len(head).to_bytes(4, "big") + zeros.to_bytes(4, "big") + head
+
+
+def reading_record(text, sheet, names, expected):
+    """A call on a text: the name table, the expected type and the text stand behind the sheet."""
+    return record(READING, sheet) + struct.pack(">I", len(names)) + names + struct.pack(">HI", expected, len(text)) + text

@@ -108,3 +108,11 @@ pub fn next_entry(buffer: &mut [u8]) -> Entry
     let z = next_number() as usize;
     read_entry(buffer, n, z)
 }
+
+// A number of four bytes, big-endian, and as many bytes.
+pub fn next_bytes(buffer: &mut [u8]) -> Entry
+    ensures { λ r. ⌜ Fits r (length (now (buffer .entry))) ⌝ }
+{
+    let n = next_number() as usize;
+    read_entry(buffer, n, 0)
+}

@@ -1,0 +1,15 @@
+-- What a call on a text answers, and what it leaves in the image's bytes. Assumes nothing: these are definitions.
+use Prim.Native.Nat.{ℕ, _≤_}
+use mathlib.Core.Path.{_≡_}
+use mathlib.Core.List.{List}
+use lib.ListN.{length}
+use Rattle.row_tables.specs.Rows.{stored}
+use Rattle.pattern_reading.specs.Reads.{Answer, imageOf, refusedWith}
+use Rattle.reading_call.specs.declared.PatternRead.{PatternRead}
+use Rattle.reading_call.specs.declared.PatternRead.the-variants.{Image, RefusedAt}
+
+-- an image's bytes are the first ones, those behind them are as they were, and the answer is its length, which is within the room; what is refused
+-- writes nothing
+abbrev pub ReadsAs : Answer → List ℕ → PatternRead → List ℕ → Type 0
+ReadsAs (imageOf bytes) before r after = (r ≡ Image (length bytes)) × (length bytes ≤ 34321) × (after ≡ stored before 0 bytes)
+ReadsAs (refusedWith number at) before r after = (r ≡ RefusedAt number at) × (after ≡ before)
