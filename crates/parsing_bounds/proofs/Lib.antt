@@ -1,2 +1,5 @@
 pub mod Sizes
 pub mod Gains
+pub mod Parts
+pub mod Tokens
+pub mod Lasts

@@ -3,6 +3,7 @@ use Prim.Native.Nat.{ℕ, suc}
 use mathlib.Core.Path.{_≡_, refl, sym, ap, _∙_}
 use mathlib.Core.Bool.{Bool, true, false}
 use mathlib.Core.List.{List, [], _∷_}
+use native.Mathlib.Omega.{arith}
 use lib.Dec.{eqb}
 use Rattle.pattern_grammar.specs.Lexemes.{commaMark, closeBraceMark}
 use Rattle.node_rows.specs.declared.NodeRow.{NodeRow}
@@ -20,9 +21,10 @@ use Rattle.parsing_steps.specs.declared.ParseStep.the-variants.{Halted}
 use Rattle.parsing_steps.specs.Settling.{grownRow, Shuts}
 use Rattle.parsing_steps.specs.Stepping.{courseOf, goingOn, EndsItem, GrowsTop, ShutsGrown, EndsInItem, EndsInField}
 use Rattle.parsing_steps.proofs.Passing.{grown-node}
+use Rattle.parsing_steps.proofs.Lasting.{same-parts, fewer}
 
 -- a row with a part more is put
-rows-grown :
+pub rows-grown :
     {t t′ : List ℕ} {i : ℕ} {f g : NodeRow} → g ≡ grownRow f → Puts t i g t′ → (text names : List ℕ)
     → rowsDown text names t′ (suc i) ≡ partMore (closedNodeOf text names f) ∷ rowsDown text names t i
 rows-grown {t} {t′} {i} {f} ge w text names =
@@ -49,6 +51,8 @@ pub shuts-none : (stack nodes : List ℕ) (depth rows : ℕ) → depth ≡ 0 →
 unfolding openedOf rowsDown grown shutTop
 shuts-none stack nodes depth rows e = record {
   shows = λ text names. rw e refl;
+  total = omega arith;
+  raises = same-parts stack depth depth (omega arith);
 }
 
 pub shuts-one :
@@ -62,10 +66,12 @@ shuts-one {stack} {nodes} {depth} {rows} {e} {f} de fe ge s = record {
       ∙ (ap (λ x. settle (rowsDown text names stack e) (x ∷ rowsDown text names nodes rows)) (grown-node text names f)
       ∙ (ap (λ x. settle (rowsDown text names stack e) (partMore (closedNodeOf text names x) ∷ rowsDown text names nodes rows)) fe
       ∙ ap (λ x. shutTop (grown (rowsDown text names stack x)) (rowsDown text names nodes rows)) (sym de))));
+  total = let t = s .total in omega (arith, t, de);
+  raises = λ most w. s .raises most (fewer w (omega (arith, de)));
 }
 
 -- the kind of a row, where a list's end is asked for
-kinds-close : (text names : List ℕ) (f : NodeRow) (k m : ℕ) (b : Bool) → k ≡ rowKind f → closes k m ≡ b → closes (nodeKind (closedNodeOf text names f .is)) m ≡ b
+pub kinds-close : (text names : List ℕ) (f : NodeRow) (k m : ℕ) (b : Bool) → k ≡ rowKind f → closes k m ≡ b → closes (nodeKind (closedNodeOf text names f .is)) m ≡ b
 unfolding closedNodeOf
 kinds-close text names f k m b e h = ap (λ x. closes x m) (kind-same text names f ∙ sym e) ∙ h
 

@@ -36,7 +36,8 @@ kind-nine row e = by (ltb (row .kind) 14) (eqb-true (cond (ltb (row .kind) 14) (
     by true h = h
     by false h = omega (arith, h)
 
-none-number : (w : ℕ) → isNone (numberIn w) ≡ eqb w 65535
+-- a number is none by its word
+pub none-number : (w : ℕ) → isNone (numberIn w) ≡ eqb w 65535
 unfolding isNone numberIn
 none-number w = by (eqb w 65535)
   where

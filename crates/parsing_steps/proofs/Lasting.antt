@@ -36,10 +36,11 @@ unfolding settle passesFirst
 or-more f fs cs p o z = rw p (rw o (rw z refl))
 
 -- no more parts than before
-same-parts : (stack : List ℕ) (depth d : ℕ) → d ≤ depth → (most : ℕ) → PartsMost most stack depth → PartsMost (suc most) stack d
+pub same-parts : (stack : List ℕ) (depth d : ℕ) → d ≤ depth → (most : ℕ) → PartsMost most stack depth → PartsMost (suc most) stack d
 same-parts stack depth d h most w = record { fit = λ i l. let p = w .fit i (omega (arith, l, h)) in omega (arith, p) }
 
-split : (i e : ℕ) → i ≤ e → (i < e) ⊎ (i ≡ e)
+-- below, or the last
+pub split : (i e : ℕ) → i ≤ e → (i < e) ⊎ (i ≡ e)
 split i e h = cut (ltb i e) refl
   where
     cut : (b : Bool) → ltb i e ≡ b → (i < e) ⊎ (i ≡ e)

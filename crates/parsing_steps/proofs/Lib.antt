@@ -3,3 +3,4 @@ pub mod Lasting
 pub mod LastItems
 pub mod Enders
 pub mod Behinds
+pub mod Bridging

@@ -83,5 +83,5 @@ pub zero-of : {n : ℕ} → n ≤ 0 → n ≡ 0
 zero-of h = omega (arith, h)
 
 -- a part more of what waits fits in its word
-pub parts-fit : {stack : List ℕ} {depth : ℕ} {f : NodeRow} (i : ℕ) → PartsMost 30001 stack depth → i < depth → f ≡ nodeRowAt stack i → f .parts < 65535
+pub parts-fit : {stack : List ℕ} {depth : ℕ} {f : NodeRow} (i : ℕ) → PartsMost 60001 stack depth → i < depth → f ≡ nodeRowAt stack i → f .parts < 65535
 parts-fit i w l e = let p = w .fit i l in let q = ap (λ (r : NodeRow). r .parts) e in omega (arith, p, q)

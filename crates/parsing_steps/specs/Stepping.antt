@@ -17,6 +17,7 @@ use Rattle.parsing_moves.specs.Rows.{heldIn}
 use Rattle.parsing_steps.specs.declared.Heights.{Heights}
 use Rattle.parsing_steps.specs.declared.ParseStep.{ParseStep}
 use Rattle.parsing_steps.specs.declared.ParseStep.the-variants.{Going, Ended, Halted}
+use Rattle.parsing_steps.specs.Settling.{PartsMost}
 
 -- the course of a step, with what the tables hold
 unfoldable pub courseOf : List ℕ → List ℕ → List ℕ → List ℕ → ParseStep → Course
@@ -52,6 +53,8 @@ pub record ShutsGrown (stack nodes : List ℕ) (depth rows : ℕ) (stack′ node
   pub shows :
       (text names : List ℕ)
       → openedOf text names stack′ nodes′ (r .depth) (r .rows) ≡ shutTop (grown (rowsDown text names stack depth)) (rowsDown text names nodes rows)
+  pub total : r .depth + r .rows ≤ depth + rows
+  pub raises : (most : ℕ) → PartsMost most stack depth → PartsMost (suc most) stack′ (r .depth)
 
 -- a mark behind a list's item, and behind a field's pattern, as `endedIn` has it
 pub record EndsInItem (stack nodes : List ℕ) (below rows : ℕ) (f : NodeRow) (m at : ℕ) (stack′ nodes′ : List ℕ) (r : ParseStep) : Type 0 where

@@ -83,7 +83,7 @@ fn ended(
     m: u16,
     at: u16,
 ) -> ParseStep
-    requires { ⌜ (depth + rows ≤ 16384) × PartsMost 30001 (now stack) depth ⌝ }
+    requires { ⌜ (depth + rows ≤ 16384) × PartsMost 60001 (now stack) depth ⌝ }
     ensures { λ r. ⌜ EndsIn (now (stack .entry)) (now (nodes .entry)) depth rows m at (now (stack .exit)) (now (nodes .exit)) r ⌝ }
 {
     if depth == 0 {
@@ -107,7 +107,7 @@ pub fn behind_alt(
     m: u16,
     at: u16,
 ) -> ParseStep
-    requires { ⌜ (depth + rows + orOne m ≤ 16384) × PartsMost 30001 (now stack) depth ⌝ }
+    requires { ⌜ (depth + rows + orOne m ≤ 16384) × PartsMost 60001 (now stack) depth ⌝ }
     ensures { λ r. ⌜ StandsBehind (now (stack .entry)) (now (nodes .entry)) depth rows m at (now (stack .exit)) (now (nodes .exit)) r ⌝ }
 {
     if m == 2 {

@@ -77,7 +77,7 @@ fn item_last(
     rows: usize,
     f: NodeRow,
 ) -> Heights
-    requires { ⌜ (below + rows < 16384) × PartsMost 30001 (now stack) below × (f .parts < 65535) ⌝ }
+    requires { ⌜ (below + rows < 16384) × PartsMost 60001 (now stack) below × (f .parts < 65535) ⌝ }
     ensures { λ r. ⌜ EndsItem (now (stack .entry)) (now (nodes .entry)) below rows f (now (stack .exit)) (now (nodes .exit)) r ⌝ }
 {
     if is_bare(f) {
@@ -89,8 +89,8 @@ fn item_last(
 }
 
 // What waits innermost has a part more.
-fn grow_top(stack: &mut [u16; NODE_WORDS], depth: usize)
-    requires { ⌜ (depth ≤ 16384) × PartsMost 30001 (now stack) depth ⌝ }
+pub fn grow_top(stack: &mut [u16; NODE_WORDS], depth: usize)
+    requires { ⌜ (depth ≤ 16384) × PartsMost 60001 (now stack) depth ⌝ }
     ensures { λ _. ⌜ GrowsTop (now (stack .entry)) depth (now (stack .exit)) ⌝ }
 {
     if depth == 0 {
@@ -107,7 +107,7 @@ pub fn shut_grown(
     depth: usize,
     rows: usize,
 ) -> Heights
-    requires { ⌜ (depth + rows ≤ 16384) × PartsMost 30001 (now stack) depth ⌝ }
+    requires { ⌜ (depth + rows ≤ 16384) × PartsMost 60001 (now stack) depth ⌝ }
     ensures { λ r. ⌜ ShutsGrown (now (stack .entry)) (now (nodes .entry)) depth rows (now (stack .exit)) (now (nodes .exit)) r ⌝ }
 {
     if depth == 0 {
@@ -127,7 +127,7 @@ pub fn ended_item(
     m: u16,
     at: u16,
 ) -> ParseStep
-    requires { ⌜ (below + rows < 16384) × PartsMost 30001 (now stack) below × (f .parts < 65535) ⌝ }
+    requires { ⌜ (below + rows < 16384) × PartsMost 60001 (now stack) below × (f .parts < 65535) ⌝ }
     ensures { λ r. ⌜ EndsInItem (now (stack .entry)) (now (nodes .entry)) below rows f m at (now (stack .exit)) (now (nodes .exit)) r ⌝ }
 {
     if m == 1 {
@@ -156,7 +156,7 @@ pub fn ended_field(
     m: u16,
     at: u16,
 ) -> ParseStep
-    requires { ⌜ (below + rows < 16384) × PartsMost 30001 (now stack) below × (f .parts < 65535) ⌝ }
+    requires { ⌜ (below + rows < 16384) × PartsMost 60001 (now stack) below × (f .parts < 65535) ⌝ }
     ensures { λ r. ⌜ EndsInField (now (stack .entry)) (now (nodes .entry)) below rows f m at (now (stack .exit)) (now (nodes .exit)) r ⌝ }
 {
     if m == 1 {

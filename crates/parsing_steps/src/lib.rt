@@ -1,7 +1,7 @@
 // The parser's moves on lent tables: the stack of what waits, and the nodes that have closed.
-mod behind;
-mod ending;
-mod settling;
+pub mod behind;
+pub mod ending;
+pub mod settling;
 
 use parsing_machine::ReadState;
 use parsing_moves::HeldRow;

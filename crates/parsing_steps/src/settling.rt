@@ -56,7 +56,7 @@ fn pass(
     depth: usize,
     rows: usize,
 ) -> Heights
-    requires { ⌜ (depth + rows ≤ 16384) × PartsMost 30001 (now stack) depth ⌝ }
+    requires { ⌜ (depth + rows ≤ 16384) × PartsMost 60001 (now stack) depth ⌝ }
     ensures { λ r. ⌜ Passes (now (stack .entry)) (now (nodes .entry)) depth rows (now (nodes .exit)) r ⌝ }
 {
     let mut d = depth;
@@ -92,7 +92,7 @@ fn settle_last(
     depth: usize,
     rows: usize,
 ) -> Heights
-    requires { ⌜ (depth + rows ≤ 16384) × PartsMost 30001 (now stack) depth ⌝ }
+    requires { ⌜ (depth + rows ≤ 16384) × PartsMost 60001 (now stack) depth ⌝ }
     ensures { λ r. ⌜ SettlesLast (now (stack .entry)) (now (nodes .entry)) depth rows (now (stack .exit)) (now (nodes .exit)) r ⌝ }
 {
     if depth == 0 {
@@ -121,7 +121,7 @@ pub fn settle(
     depth: usize,
     rows: usize,
 ) -> Heights
-    requires { ⌜ (depth + rows ≤ 16384) × PartsMost 30001 (now stack) depth ⌝ }
+    requires { ⌜ (depth + rows ≤ 16384) × PartsMost 60001 (now stack) depth ⌝ }
     ensures { λ r. ⌜ Settles (now (stack .entry)) (now (nodes .entry)) depth rows (now (stack .exit)) (now (nodes .exit)) r ⌝ }
 {
     let h = pass(stack, nodes, depth, rows);
@@ -138,7 +138,7 @@ pub fn shut(
     rows: usize,
     w: NodeRow,
 ) -> Heights
-    requires { ⌜ (below + rows < 16384) × PartsMost 30001 (now stack) below ⌝ }
+    requires { ⌜ (below + rows < 16384) × PartsMost 60001 (now stack) below ⌝ }
     ensures { λ r. ⌜ Shuts (now (stack .entry)) (now (nodes .entry)) below rows w (now (stack .exit)) (now (nodes .exit)) r ⌝ }
 {
     put_node(nodes, rows, w);
