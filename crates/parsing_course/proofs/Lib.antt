@@ -1,2 +1,2 @@
-pub mod Stopping
+pub mod Ending
 pub mod Reading

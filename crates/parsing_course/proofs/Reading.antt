@@ -11,17 +11,19 @@ use Rattle.pattern_tokens.specs.Tokens.{tokenAt}
 use Rattle.pattern_grammar.specs.Lexemes.{Lexeme, lexeme}
 use Rattle.pattern_grammar.specs.Parsed.{isLast, lexemesFrom, lexemes}
 use Rattle.pattern_grammar.proofs.Progress.{advances}
-use Rattle.parsing_machine.specs.Parser.{Course, going, endedWith, haltedAt, stepped, stepCourse, readOn}
+use Rattle.parsing_machine.specs.Parser.{Course, haltedAt, stepCourse, readOn}
 use Rattle.parsing_machine.specs.Answers.{nodesAre, failsThere, parsedNodes, answerFrom, freshCourse}
 use Rattle.parsing_machine.proofs.Answering.{parser-answers}
 use Rattle.node_rows.specs.Nodes.{nodesIn}
 use Rattle.node_tables.proofs.Downward.{rows-in-order}
+use Rattle.parsing_bounds.specs.Parts.{isGoing}
+use Rattle.parsing_bounds.proofs.Lasts.{last-stops}
 use Rattle.parsing_steps.specs.declared.ParseState.{ParseState}
 use Rattle.parsing_steps.specs.declared.ParseStep.{ParseStep}
 use Rattle.parsing_steps.specs.declared.ParseStep.the-variants.{Going, Ended, Halted}
 use Rattle.parsing_steps.specs.Stepping.{courseOf}
-use Rattle.parsing_course.specs.Course.{stops, hasEnded, parserOf, SameBelow, ReadSoFar, StepsTo}
-use Rattle.parsing_course.proofs.Stopping.{last-stops, ends-last}
+use Rattle.parsing_course.specs.Course.{hasEnded, SameBelow, ReadSoFar, StepsTo}
+use Rattle.parsing_course.proofs.Ending.{ends-last}
 
 -- bytes that are the same below a place are so below another before it
 same-below : {named more : ℕ} {names after other : List ℕ} → named ≤ more → SameBelow named names after → SameBelow more after other → SameBelow named names other
@@ -56,12 +58,12 @@ module _ {text names : List ℕ} {named : ℕ} {stack nodes : List ℕ} {at : �
       ∙ (rw e at (S .comes other (same-below grows kept same)))
 
   not-last : (q : ParseState) → StepsTo text stack nodes at p after more stack′ nodes′ (Going q) → isLast (lexeme (tokenAt text at)) ≡ false
-  unfolding stops courseOf
+  unfolding isGoing courseOf
   not-last q W = by (isLast (lexeme (tokenAt text at))) refl
     where
       by : (b : Bool) → isLast (lexeme (tokenAt text at)) ≡ b → b ≡ false
       by false e = refl
-      by true e = absurd (false≢true (ap stops (W .shows after itself) ∙ last-stops text _ _ e))
+      by true e = absurd (false≢true (sym (last-stops text _ _ e) ∙ sym (ap isGoing (W .shows after itself))))
 
   is-last : (n : ℕ) → StepsTo text stack nodes at p after more stack′ nodes′ (Ended n) → isLast (lexeme (tokenAt text at)) ≡ true
   unfolding hasEnded courseOf

@@ -16,12 +16,6 @@ use Rattle.parsing_steps.specs.declared.ParseStep.{ParseStep}
 use Rattle.parsing_steps.specs.declared.ParseStep.the-variants.{Going}
 use Rattle.parsing_steps.specs.Stepping.{courseOf}
 
--- it does not go on
-unfoldable pub stops : Course → Bool
-stops (going z) = false
-stops (endedWith closed) = true
-stops (haltedAt at) = true
-
 -- the text has ended
 unfoldable pub hasEnded : Course → Bool
 hasEnded (going z) = false
