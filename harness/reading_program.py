@@ -2,7 +2,7 @@
 import subprocess
 
 from reading import read
-from records import reading_record
+from records import reading_records
 
 
 class Program:
@@ -15,8 +15,7 @@ class Program:
         self.asked += len(calls)
         if not self.replay:
             return [read(*call) for call in calls]
-        given = b''.join(reading_record(*call) for call in calls)
-        ran = subprocess.run([self.replay], input=given, capture_output=True, check=True)
+        ran = subprocess.run([self.replay], input=b''.join(reading_records(calls)), capture_output=True, check=True)
         lines = ran.stdout.decode().splitlines()
         assert len(lines) == len(calls) and not ran.stderr, (len(lines), len(calls), ran.stderr)
         return [answer(line) for line in lines]

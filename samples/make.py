@@ -18,13 +18,13 @@ from listing_list import listing_records
 from lowering import listing
 from params_list import params_records
 from readable import sample_files
-from reading_list import first_rule, reading_records
+from reading_list import first_rule, text_records
 from records import IMAGE, record
 from whole import valid_images
 
 ROOT = Path(__file__).resolve().parent.parent
 REFUSED = "refused 1 65535 0"
-LARGEST_FILE = 3_000_000
+LARGEST_FILE = 2_000_000
 
 README = """# Sample images
 
@@ -48,7 +48,7 @@ n bytes and z zero bytes; and what its sort has besides:
 | 3 | a script: four big-endian bytes m, and m commands of four big-endian words | a line for each call |
 | 4 | a call on parameters: four big-endian bytes k, and k big-endian words | the listing and the locals, or the refusal |
 | 5 | a question whether a pattern fits: the same, with other words | `fits`, `does not fit` or the refusal |
-| 6 | a type sheet in the image's place: a name table, an expected type and a text (see `reading_list.py`) | `image` and its bytes in hexadecimal, or the refusal |
+| 6 | a type sheet in the image's place, a name table, and texts with expected types | a line for each text: `image` and its bytes in hexadecimal, or the refusal |
 
 `list.txt` has one line for each record of sort 1: its number from 1, its name, and `valid`
 or the names of the rules that it breaks. The names follow the order of the document; they
@@ -175,9 +175,10 @@ each script the number of its first line in `crates/replay/stdout`, its name, an
 - `reading_cases.py`: calls at the edges: the order of the refusals, broken sheets and name
   tables, names and types alike, limits, texts that lie deep.
 - `reading_list.py`: the stored calls on texts, records of sort 6: the sheet as the records above have
-  their image, the name table behind its length in four big-endian bytes, the expected type as
-  a big-endian word, and the text behind its length in four bytes. `readings.txt` has for each its
-  number from 1, its name and what is added to the sheet, or the refusal.
+  their image, the name table behind its length in four big-endian bytes, and, behind their number
+  in four such bytes, texts, each with the expected type as a big-endian word and its length in
+  four bytes before it. `readings.txt` has for each text its number from 1, its name and what is
+  added to the sheet, or the refusal.
 - `reading_theorems.py`: writes `crates/reading_samples/proofs`, in which the definitions of reading
   are computed on 400 of these calls and held to the judge's answers.
 
@@ -237,7 +238,7 @@ def replay_files():
     files = {"samples/list.txt": listed.encode()}
     for name, (more, lines, text) in (("calls", call_records(len(printed))), ("listings", listing_records()),
                                       ("params", params_records()), ("fits", fit_records()),
-                                      ("readings", reading_records())):
+                                      ("readings", text_records())):
         given, printed = given + more, printed + lines
         files[f"samples/{name}.txt"] = text.encode()
     files["crates/replay/stdin"] = b"".join(given)

@@ -2,9 +2,9 @@
 """reading_list.py --check: fails if a class file's tables are not what scripts/class_file makes of it.
 
 Its records are calls on texts for the stored lists (make.py): the sheet, as any record has its image (records.py); the name table behind
-its length in four big-endian bytes; the expected type as a big-endian word; and the text behind its length in four bytes. For each a line
-is printed: `image` and the image's bytes in hexadecimal, or the refusal. readings.txt has for each its number from 1, its name, and the
-refusal or what is added to the sheet, cut at 160 characters."""
+its length in four big-endian bytes; and, behind their number in four such bytes, texts, each of which has the expected type as a
+big-endian word and its length in four bytes before it. For each text a line is printed: `image` and the image's bytes in hexadecimal, or
+the refusal. readings.txt has for each its number from 1, its name, and the refusal or what is added to the sheet, cut at 160 characters."""
 import struct
 import subprocess
 import sys
@@ -17,7 +17,7 @@ from images import decode
 from reading import program, read
 from reading_cases import all_cases
 from reading_corners import HERE, added, class_tables, corners
-from records import reading_record
+from records import reading_records
 from text_chance import chance_texts
 
 LONGEST_LINE = 160
@@ -40,19 +40,19 @@ def calls():
             yield f'{name}:{number}', text, sheet, names, expected
 
 
-def reading_records():
-    """the records, the line printed for each, and readings.txt"""
-    given, printed, listed, seen = [], [], [], set()
-    for number, (name, text, sheet, names, expected) in enumerate(calls(), 1):
+def text_records():
+    """the records, the lines printed for them, and readings.txt"""
+    asked, printed, listed, seen = [], [], [], set()
+    for number, (name, *call) in enumerate(calls(), 1):
         assert name not in seen and ' ' not in name, name
         seen.add(name)
-        answer = read(text, sheet, names, expected)
+        answer = read(*call)
         refused = isinstance(answer, tuple)
         line = 'refused %d %d %d' % answer if refused else 'image ' + answer.hex()
-        given.append(reading_record(text, sheet, names, expected))
+        asked.append(call)
         printed.append(line + '\n')
-        listed.append(f'{number} {name} {line if refused else added(answer, sheet)}'[:LONGEST_LINE] + '\n')
-    return given, printed, ''.join(listed)
+        listed.append(f'{number} {name} {line if refused else added(answer, call[1])}'[:LONGEST_LINE] + '\n')
+    return list(reading_records(asked)), printed, ''.join(listed)
 
 
 def first_rule():

@@ -5,6 +5,7 @@ image is these n bytes and z zero bytes. Behind it stands what the sort has besi
 """
 
 import struct
+from itertools import groupby
 
 IMAGE, LISTING, SCRIPT, PARAMETERS, FIT, READING = range(1, 7)
 # From so many zero bytes at its end on, an image is stored without them.
@@ -20,6 +21,8 @@ def record(sort, image, zeros=0):
     return bytes([sort]) + len(head).to_bytes(4, "big") + zeros.to_bytes(4, "big") + head
 
 
-def reading_record(text, sheet, names, expected):
-    """A call on a text: the name table, the expected type and the text stand behind the sheet."""
-    return record(READING, sheet) + struct.pack(">I", len(names)) + names + struct.pack(">HI", expected, len(text)) + text
+def reading_records(calls):
+    """Calls on texts, each a text, a sheet, a name table and an expected type: one record for those in a row with the same tables."""
+    for (sheet, names), own in groupby(calls, key=lambda call: call[1:3]):
+        texts = [struct.pack(">HI", expected, len(text)) + text for text, _, _, expected in own]
+        yield record(READING, sheet) + struct.pack(">I", len(names)) + names + struct.pack(">I", len(texts)) + b"".join(texts)

@@ -12,6 +12,8 @@ pub const SCRIPT: u8 = 3;
 pub const PARAMETERS: u8 = 4;
 /// A question whether a pattern fits: the same, with other words.
 pub const FIT: u8 = 5;
+/// Calls on texts: behind the sheet a name table, and then texts, each with its expected type.
+pub const READING: u8 = 6;
 
 pub struct Record {
     pub sort: u8,
@@ -28,6 +30,9 @@ pub fn read(mut list: &[u8]) -> Vec<Record> {
         let mut image = list[9..9 + kept].to_vec();
         image.resize(kept + zeros, 0);
         list = &list[9 + kept..];
+        if sort == READING {
+            list = behind_texts(list);
+        }
         let width = width(sort);
         let mut words = Vec::new();
         if width > 0 {
@@ -38,6 +43,15 @@ pub fn read(mut list: &[u8]) -> Vec<Record> {
         found.push(Record { sort, image, words });
     }
     found
+}
+
+/// What follows the name table and the texts of calls.
+fn behind_texts(list: &[u8]) -> &[u8] {
+    let list = &list[4 + number(list, 0)..];
+    let behind_text = |rest: &mut &[u8]| *rest = &rest[6 + number(rest, 2)..];
+    let mut rest = &list[4..];
+    (0..number(list, 0)).for_each(|_| behind_text(&mut rest));
+    rest
 }
 
 fn number(list: &[u8], at: usize) -> usize {
