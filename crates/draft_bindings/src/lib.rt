@@ -86,7 +86,7 @@ fn with_mode(
 }
 
 // The binding of a name that has none yet.
-fn new_binding(
+pub fn new_binding(
     sheet: &[u8],
     tables: Tables,
     draft: &mut [u16],

@@ -41,3 +41,13 @@ first-same test other at (suc many) same =
     ap₂ (λ (b : Bool) (o : Option ℕ). cond b (some at) o)
     (same at (omega arith) (omega arith))
     (first-same test other (suc at) many (λ i low high. same i (omega arith) (omega arith)))
+
+-- what is found is one of the numbers
+pub first-below : (test : ℕ → Bool) (at many found : ℕ) → some found ≡ firstFrom test at many → found < at + many
+unfolding firstFrom
+first-below test at zero found e = absurd (let z : _≡_ {A = ℕ} 0 1 = cc in omega arith)
+first-below test at (suc many) found e = go (test at) e (λ q. first-below test (suc at) many found q)
+  where
+    go : (b : Bool) → some found ≡ cond b (some at) (firstFrom test (suc at) many) → (some found ≡ firstFrom test (suc at) many → found < suc at + many) → found < at + suc many
+    go true q later = let same : found ≡ at = cc in omega arith
+    go false q later = omega (arith, later q)

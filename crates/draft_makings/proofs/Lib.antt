@@ -1,0 +1,3 @@
+pub mod RowKinds
+pub mod Leaves
+pub mod Ways

@@ -1,0 +1,3 @@
+pub mod RowsDone
+pub mod DataBytes
+pub mod Limits
