@@ -8,6 +8,7 @@ use native.Mathlib.Omega.{arith}
 use lib.Dec.{ltb}
 use lib.ListN.{length}
 use borrow.Author.Tests.{lt-ltb, le-ltb}
+use Rattle.image.specs.declared.Tables.{Tables}
 use Rattle.image.specs.Tables.{typeCount}
 use Rattle.image.specs.Rules.{absent}
 use Rattle.row_tables.specs.Rows.{stored}
@@ -18,7 +19,7 @@ use Rattle.pattern_syntax.specs.Closing.{ClosedNode, closing}
 use Rattle.type_sheets.specs.declared.Sheet.{Sheet}
 use Rattle.type_sheets.specs.Sheets.{sheetHolds}
 use Rattle.type_sheets.specs.Reading.{sheetOf}
-use Rattle.type_sheets.proofs.Known.{sheet-refused}
+use Rattle.type_sheets.proofs.Known.{sheet-read, sheet-refused}
 use Rattle.name_tables.specs.Names.{namesHold}
 use Rattle.pattern_typing.specs.Crossing.{byValue}
 use Rattle.pattern_typing.specs.Contexts.{typed}
@@ -38,12 +39,15 @@ use Rattle.node_typing.proofs.Typings.{tree-made, tree-refused}
 use Rattle.draft_stack.specs.Stack.{emitUp, partsStand}
 use Rattle.draft_stack.proofs.Upward.{tree-parts-stand}
 use Rattle.tree_forms.proofs.Forms.{tree-formed}
+use Rattle.draft_makings.specs.Makings.{literalsFit}
+use Rattle.literal_bounds.proofs.Texts.{text-literals-fit}
+use Rattle.image_making.specs.Images.{ImageReady, draftUp, ImageOf, NoImageOf}
 use Rattle.parsing_machine.specs.Answers.{NodesOrFailure, nodesAre, failsThere, nodesFrom, parsedNodes}
 use Rattle.reading_passes.specs.Passes.{emittedFrom, readNodes, afterNodes, readInPasses}
 use Rattle.reading_passes.proofs.Passes.{read-in-passes}
 use Rattle.reading_call.specs.declared.PatternRead.{PatternRead}
 use Rattle.reading_call.specs.declared.PatternRead.the-variants.{Image, RefusedAt}
-use Rattle.reading_call.specs.Calls.{ReadsAs}
+use Rattle.reading_call.specs.Calls.{NodesRead, TablesRead, ReadsAs}
 
 -- an image within the limits is at most 34,321 bytes long
 image-few : (sheet : List ℕ) (d : Draft) → sheetHolds sheet ≡ true → withinImageLimits sheet d ≡ true → length (imageWith sheet d) ≤ 34321
@@ -76,36 +80,49 @@ tree-of text nodes e = by (outcome (parsed text)) refl e
     by (failsAt at) r s = absurd (let z : _≡_ {A = ℕ} 1 0 = ap areNodes s in omega arith)
 
 -- behind the pass down
-module _ {sheet names spelled nodes : List ℕ} {n expected : ℕ} {made : List ℕ} {r : Refused} (T : PatternTyped sheet names spelled nodes n expected made r) (text : List ℕ) (e : nodesAre (nodesIn text spelled nodes n) ≡ parsedNodes text) where
+module _ {sheet names spelled nodes : List ℕ} {n expected : ℕ} {made : List ℕ} {r : Refused} (T : PatternTyped sheet names spelled nodes n expected made r) (text : List ℕ) (N : NodesRead text spelled nodes n) where
   -- number 20
   pub refused-typed : (at : ℕ) (before : List ℕ) → r ≡ Refused.At at →
       ReadsAs (emittedFrom sheet (typeNodes sheet names (nodesIn text spelled nodes n) (typingOf expected))) before (RefusedAt 20 at) before
   unfolding emittedFrom unlessRefused refusedOf
   refused-typed at before is = rw (sym (T .refuses text)) (rw is (refl, refl))
 
-  -- what is made of nodes that are not refused finds its parts
-  pub parts-found : r ≡ Refused.No → partsStand (makingsIn text spelled made n) 0 ≡ true
+  -- what is made of nodes that are not refused finds its parts, and its literals are in 16 bytes
+  pub image-ready : {tables : Tables} → TablesRead sheet tables names expected → r ≡ Refused.No → ImageReady sheet tables (makingsIn text spelled made n)
   unfolding refusedOf
-  parts-found is =
-      let t = tree-of text (nodesIn text spelled nodes n) e in
+  image-ready B is =
+      let t = tree-of text (nodesIn text spelled nodes n) (N .same) in
       let w = reduced text (t .tree) in
-      subst (λ ms. partsStand ms 0 ≡ true) (sym (tree-made T text w (t .same)))
-      (tree-parts-stand sheet names w expected byValue (tree-formed text (t .tree) (t .read)) (sym (tree-refused T text w (t .same)) ∙ ap refusedOf is))
+      let m = sym (tree-made T text w (t .same)) in
+      let free = sym (tree-refused T text w (t .same)) ∙ ap refusedOf is in
+      record {
+        whole = B .whole;
+        ruled = B .ruled;
+        stand = subst (λ ms. partsStand ms 0 ≡ true) m (tree-parts-stand sheet names w expected byValue (tree-formed text (t .tree) (t .read)) free);
+        fit = subst (λ ms. literalsFit ms ≡ true) m (text-literals-fit text (t .tree) (t .read) sheet names (typed expected byValue));
+      }
 
   -- the image that is made of it
-  pub image-typed : (before after : List ℕ) → r ≡ Refused.No → sheetHolds sheet ≡ true → (d : Draft) → emitUp sheet (makingsIn text spelled made n) [] emptyDraft .draft ≡ d
-      → withinImageLimits sheet d ≡ true → after ≡ stored before 0 (imageWith sheet d)
-      → ReadsAs (emittedFrom sheet (typeNodes sheet names (nodesIn text spelled nodes n) (typingOf expected))) before (Image (length (imageWith sheet d))) after
+  pub image-typed : (before after : List ℕ) (long : ℕ) → r ≡ Refused.No → sheetHolds sheet ≡ true
+      → ImageOf sheet (draftUp sheet (makingsIn text spelled made n)) before long after
+      → ReadsAs (emittedFrom sheet (typeNodes sheet names (nodesIn text spelled nodes n) (typingOf expected))) before (Image long) after
   unfolding emittedFrom unlessRefused refusedOf imaged
-  image-typed before after is holds d same within wrote =
-      rw (sym (T .refuses text)) (rw (sym (T .makes text)) (rw is (rw same (rw within (refl, image-few sheet d holds within, wrote)))))
+  image-typed before after long is holds I =
+      rw (sym (T .refuses text))
+      (rw (sym (T .makes text)) (rw is (rw (I .within) (ap Image (I .bytes), image-few sheet _ holds (I .within), I .written))))
 
   -- or number 1
-  pub limit-typed : (before : List ℕ) → r ≡ Refused.No → (d : Draft) → emitUp sheet (makingsIn text spelled made n) [] emptyDraft .draft ≡ d
-      → withinImageLimits sheet d ≡ false
-      → ReadsAs (emittedFrom sheet (typeNodes sheet names (nodesIn text spelled nodes n) (typingOf expected))) before (RefusedAt 1 absent) before
+  pub limit-typed : (before after : List ℕ) → r ≡ Refused.No → NoImageOf sheet (draftUp sheet (makingsIn text spelled made n)) before after
+      → ReadsAs (emittedFrom sheet (typeNodes sheet names (nodesIn text spelled nodes n) (typingOf expected))) before (RefusedAt 1 absent) after
   unfolding emittedFrom unlessRefused refusedOf imaged
-  limit-typed before is d same past = rw (sym (T .refuses text)) (rw (sym (T .makes text)) (rw is (rw same (rw past (refl, refl)))))
+  limit-typed before after is I = rw (sym (T .refuses text)) (rw (sym (T .makes text)) (rw is (rw (I .past) (refl, I .kept))))
+
+-- what is handed in keeps its rules
+pub tables-read : {sheet names : List ℕ} {tables : Tables} {expected : ℕ} → Sheet.Tables tables ≡ sheetOf sheet → expected < tables .types .count → namesHold sheet names ≡ true
+    → TablesRead sheet tables names expected
+tables-read {sheet} {names} {tables} h less named =
+    let s = sheet-read sheet tables h in
+    record { whole = s .1; ruled = s .0; known = omega (arith, less, s .1 .type-count); named = named }
 
 -- numbers 1 and 2 for what is handed in
 module _ (sheet names : List ℕ) (expected : ℕ) (nodes : List ClosedNode) (before : List ℕ) where
@@ -113,9 +130,11 @@ module _ (sheet names : List ℕ) (expected : ℕ) (nodes : List ClosedNode) (be
   unfolding readNodes
   sheet-broken h = rw (sheet-refused sheet h) (refl, refl)
 
-  pub type-missing : sheetHolds sheet ≡ true → typeCount sheet ≤ expected → ReadsAs (readNodes sheet names expected nodes) before (RefusedAt 2 absent) before
+  pub type-missing : {tables : Tables} → Sheet.Tables tables ≡ sheetOf sheet → tables .types .count ≤ expected → ReadsAs (readNodes sheet names expected nodes) before (RefusedAt 2 absent) before
   unfolding readNodes
-  type-missing holds h = rw holds (rw (le-ltb expected (typeCount sheet) h) (refl, refl))
+  type-missing {tables} h few =
+      let s = sheet-read sheet tables h in
+      rw (s .0) (rw (le-ltb expected (typeCount sheet) (omega (arith, few, s .1 .type-count))) (refl, refl))
 
   pub names-broken : sheetHolds sheet ≡ true → namesHold sheet names ≡ false → ReadsAs (readNodes sheet names expected nodes) before (RefusedAt 2 absent) before
   unfolding readNodes
@@ -126,10 +145,10 @@ module _ (sheet names : List ℕ) (expected : ℕ) (nodes : List ClosedNode) (be
       by false = (refl, refl)
 
   -- and then what is made of the nodes
-  pub nodes-read : (r : PatternRead) (after : List ℕ) → sheetHolds sheet ≡ true → expected < typeCount sheet → namesHold sheet names ≡ true
+  pub nodes-read : (r : PatternRead) (after : List ℕ) {tables : Tables} → TablesRead sheet tables names expected
       → ReadsAs (emittedFrom sheet (typeNodes sheet names nodes (typingOf expected))) before r after → ReadsAs (readNodes sheet names expected nodes) before r after
   unfolding readNodes
-  nodes-read r after holds less named reads = rw holds (rw (lt-ltb expected (typeCount sheet) less) (rw named reads))
+  nodes-read r after B reads = rw (B .ruled) (rw (lt-ltb expected (typeCount sheet) (B .known)) (rw (B .named) reads))
 
 -- number 19, and then the nodes
 module _ (text sheet names : List ℕ) (expected : ℕ) (before : List ℕ) where

@@ -1,12 +1,31 @@
 -- What a call on a text answers, and what it leaves in the image's bytes. Assumes nothing: these are definitions.
-use Prim.Native.Nat.{ℕ, _≤_}
+use Prim.Native.Nat.{ℕ, _<_, _≤_}
 use mathlib.Core.Path.{_≡_}
+use mathlib.Core.Bool.{true}
 use mathlib.Core.List.{List}
 use lib.ListN.{length}
+use Rattle.image.specs.declared.Tables.{Tables}
+use Rattle.image.specs.Tables.{Whole, typeCount}
 use Rattle.row_tables.specs.Rows.{stored}
+use Rattle.type_sheets.specs.Sheets.{sheetHolds}
+use Rattle.name_tables.specs.Names.{namesHold}
+use Rattle.node_rows.specs.Nodes.{nodesIn}
+use Rattle.parsing_machine.specs.Answers.{nodesAre, parsedNodes}
 use Rattle.pattern_reading.specs.Reads.{Answer, imageOf, refusedWith}
 use Rattle.reading_call.specs.declared.PatternRead.{PatternRead}
 use Rattle.reading_call.specs.declared.PatternRead.the-variants.{Image, RefusedAt}
+
+-- so many rows are the nodes of a text, with the names that they spell
+pub record NodesRead (text spelled nodes : List ℕ) (n : ℕ) : Type 0 where
+  pub few : n ≤ 16384
+  pub same : nodesAre (nodesIn text spelled nodes n) ≡ parsedNodes text
+
+-- sheet, expected type and name table keep their rules
+pub record TablesRead (sheet : List ℕ) (tables : Tables) (names : List ℕ) (expected : ℕ) : Type 0 where
+  pub whole : Whole sheet tables
+  pub ruled : sheetHolds sheet ≡ true
+  pub known : expected < typeCount sheet
+  pub named : namesHold sheet names ≡ true
 
 -- an image's bytes are the first ones, those behind them are as they were, and the answer is its length, which is within the room; what is refused
 -- writes nothing

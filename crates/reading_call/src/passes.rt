@@ -13,17 +13,10 @@ use node_typing::WAITING_WORDS;
 use node_typing::type_nodes;
 use type_sheets::Sheet;
 use type_sheets::read_sheet;
-ghost use mathlib.Core.Path.{_≡_};
-ghost use mathlib.Core.Bool.{true};
-ghost use Prim.Native.Nat.{_<_, _≤_};
-ghost use Rattle.image.specs.Tables.{Whole, typeCount};
-ghost use Rattle.type_sheets.specs.Sheets.{sheetHolds};
-ghost use Rattle.name_tables.specs.Names.{namesHold};
 ghost use Rattle.pattern_typing.specs.Downward.{typeNodes, typingOf};
 ghost use Rattle.node_rows.specs.Nodes.{nodesIn};
-ghost use Rattle.parsing_machine.specs.Answers.{nodesAre, parsedNodes};
 ghost use Rattle.reading_passes.specs.Passes.{emittedFrom, readNodes};
-ghost use Rattle.reading_call.specs.Calls.{ReadsAs};
+ghost use Rattle.reading_call.specs.Calls.{NodesRead, TablesRead, ReadsAs};
 
 // Number 20 by the pass down over the nodes, or the image by the pass up, or number 1 for a limit.
 fn read_typed(
@@ -40,8 +33,7 @@ fn read_typed(
     draft: &mut [u16; DRAFT_WORDS],
     image: &mut [u8; IMAGE_BYTES],
 ) -> PatternRead
-    requires { ⌜ Whole (now sheet) tables × (sheetHolds (now sheet) ≡ true) × (namesHold (now sheet) (now names) ≡ true) × (expected < typeCount (now sheet)) ⌝ }
-    requires { ⌜ (n ≤ 16384) × (nodesAre (nodesIn (now text) (now spelled) (now nodes) n) ≡ parsedNodes (now text)) ⌝ }
+    requires { ⌜ TablesRead (now sheet) tables (now names) expected × NodesRead (now text) (now spelled) (now nodes) n ⌝ }
     ensures { λ r. ⌜ ReadsAs (emittedFrom (now (sheet .entry)) (typeNodes (now (sheet .entry)) (now (names .entry)) (nodesIn (now (text .entry)) (now (spelled .entry)) (now (nodes .entry)) n) (typingOf expected))) (now (image .entry)) r (now (image .exit)) ⌝ }
 {
     if let Refused::At(at) = type_nodes(
@@ -69,7 +61,7 @@ pub fn read_nodes(
     draft: &mut [u16; DRAFT_WORDS],
     image: &mut [u8; IMAGE_BYTES],
 ) -> PatternRead
-    requires { ⌜ (n ≤ 16384) × (nodesAre (nodesIn (now text) (now spelled) (now nodes) n) ≡ parsedNodes (now text)) ⌝ }
+    requires { ⌜ NodesRead (now text) (now spelled) (now nodes) n ⌝ }
     ensures { λ r. ⌜ ReadsAs (readNodes (now (sheet .entry)) (now (names .entry)) expected (nodesIn (now (text .entry)) (now (spelled .entry)) (now (nodes .entry)) n)) (now (image .entry)) r (now (image .exit)) ⌝ }
 {
     let Sheet::Tables(tables) = read_sheet(sheet) else {
