@@ -1,9 +1,11 @@
 -- A token's positions are words, and so are its parts. Assumes nothing.
 use Prim.Native.Nat.{ℕ, _+_, _*_, _/_, _%_, _<_, _≤_}
 use mathlib.Core.Path.{_≡_, refl, sym, ap, _∙_}
+use mathlib.Core.Bool.{Bool, true, false, cond}
 use mathlib.Core.List.{List}
 use native.Mathlib.Omega.{arith}
 use native.Mathlib.Nat.{div-add-mod'}
+use lib.Dec.{eqb}
 use lib.ListN.{length}
 use Rattle.pattern_words.specs.declared.Kind.{Kind}
 use Rattle.pattern_tokens.specs.declared.Token.{Token}
@@ -52,6 +54,19 @@ module _ (text : List ℕ) (at : ℕ) (t : Token) (short : length text ≤ 16384
   pub row-is : (r : TokenRow) → lexemeOf r ≡ ofKind (t .kind) (spotFrom (t .from) (t .to)) → lexemeOf r ≡ lexeme (tokenAt text at)
   unfolding lexeme
   row-is r f = f ∙ ap lexeme e
+
+-- where a row's token stands
+pub row-spot : (r : TokenRow) → lexemeSpot (lexemeOf r) ≡ spotFrom (r .from) (r .to)
+unfolding lexemeOf lexemeSpot
+row-spot r = by (eqb (r .sort) 0) (eqb (r .sort) 1)
+  where
+    by :
+        (a b : Bool)
+        → lexemeSpot (cond a (name (record { own = r .own; spot = spotFrom (r .from) (r .to) })) (cond b (scalar (r .own * 65536 + r .mark) (spotFrom (r .from) (r .to))) (mark (r .mark) (spotFrom (r .from) (r .to)))))
+        ≡ spotFrom (r .from) (r .to)
+    by true b = refl
+    by false true = refl
+    by false false = refl
 
 -- so the row spans its token
 pub row-spans :
