@@ -1,1 +1,2 @@
 pub mod ByRole
+pub mod Naming

@@ -6,7 +6,8 @@ use parsing_moves::makers::holds_literal;
 use parsing_moves::makers::literal_row;
 ghost use mathlib.Core.Path.{_≡_};
 ghost use Rattle.parsing_moves.specs.Rows.{holdsName};
-ghost use Rattle.parsing_moves.specs.Roles.{role, DecidesName, DecidesScalar};
+ghost use Rattle.parsing_moves.specs.Roles.{role, DecidesScalar};
+ghost use Rattle.parsing_states.specs.Naming.{NamesHeld};
 
 // What a state waits for: 0 a pattern, 1 a name behind `ref` or `mut`, 2 a name behind `::`, 3 a bound, 4 a field, 5 no name.
 pub fn role_of(state: ReadState) -> u16
@@ -61,7 +62,7 @@ pub fn name_move(
     start: u16,
     end: u16,
 ) -> NodeMove
-    ensures { λ r. ⌜ DecidesName state held top from start end r ⌝ }
+    ensures { λ r. ⌜ NamesHeld state held top from start end r ⌝ }
 {
     let at = held.at;
     let more = held.more;

@@ -1,0 +1,4 @@
+pub mod Stepping
+pub mod Paths
+pub mod States
+pub mod Moving
