@@ -19,7 +19,7 @@ use parsing_steps::ParseStep;
 use parsing_steps::behind::behind_alt;
 ghost use Prim.Native.Nat.{_+_, _≤_};
 ghost use Rattle.parsing_steps.specs.Settling.{PartsMost};
-ghost use Rattle.parsing_performing.specs.Performing.{moveGain, PerformsMove};
+ghost use Rattle.parsing_performing.specs.Performing.{moveGain, Performed};
 
 pub fn perform(
     stack: &mut [u16; NODE_WORDS],
@@ -31,7 +31,7 @@ pub fn perform(
     at: u16,
 ) -> ParseStep
     requires { ⌜ (depth + rows + moveGain made m ≤ 16384) × PartsMost 30001 (now stack) depth ⌝ }
-    ensures { λ r. ⌜ PerformsMove (now (stack .entry)) (now (nodes .entry)) depth rows made m at (now (stack .exit)) (now (nodes .exit)) r ⌝ }
+    ensures { λ r. ⌜ Performed (now (stack .entry)) (now (nodes .entry)) depth rows made m at (now (stack .exit)) (now (nodes .exit)) r ⌝ }
 {
     match made {
         NodeMove::Halts(place) => ParseStep::Halted(place),

@@ -116,52 +116,52 @@ add-last-field-requires : tie.Need-add-last-field-requires
 add-last-field-requires c κs = (room-last _ _ (c .before .before .before .made11 .given .1) (c .before .before .before .before .before .pre .0), c .before .before .before .before .before .pre .1)
 
 returns : tie.Need-returns
-returns c = made-halts (c .before .made .given .1)
+returns c = record { performs = made-halts (c .before .made .given .1); holds = rw (c .before .made .given .1) tt }
 
 returns-2 : tie.Need-returns-2
-returns-2 c = made-holds (c .before .before .made2 .given .1) (c .hold .ensures)
+returns-2 c = record { performs = made-holds (c .before .before .made2 .given .1) (c .hold .ensures); holds = rw (c .before .before .made2 .given .1) (c .hold .ensures) }
 
 returns-3 : tie.Need-returns-3
-returns-3 c = by-over (c .before .before .before .made3 .given .1) (c .open-node .ensures)
+returns-3 c = record { performs = by-over (c .before .before .before .made3 .given .1) (c .open-node .ensures); holds = rw (c .before .before .before .made3 .given .1) tt }
 
 returns-4 : tie.Need-returns-4
-returns-4 c = by-over (c .before .before .before .made4 .given .1) (c .open-two .ensures)
+returns-4 c = record { performs = by-over (c .before .before .before .made4 .given .1) (c .open-two .ensures); holds = rw (c .before .before .before .made4 .given .1) tt }
 
 returns-5 : tie.Need-returns-5
-returns-5 c = by-any (c .before .before .before .before .made5 .given .1) (c .open-behind .ensures)
+returns-5 c = record { performs = by-any (c .before .before .before .before .made5 .given .1) (c .open-behind .ensures); holds = rw (c .before .before .before .before .made5 .given .1) tt }
 
 returns-6 : tie.Need-returns-6
-returns-6 c = by-over (c .before .before .enum-told .given .1) (c .make-mut .ensures)
+returns-6 c = record { performs = by-over (c .before .before .enum-told .given .1) (c .make-mut .ensures); holds = rw (c .before .before .enum-told .given .1) tt }
 
 returns-7 : tie.Need-returns-7
-returns-7 c = by-any (c .before .before .before .before .made6 .given .1) (c .shut-node .ensures)
+returns-7 c = record { performs = by-any (c .before .before .before .before .made6 .given .1) (c .shut-node .ensures); holds = rw (c .before .before .before .before .made6 .given .1) tt }
 
 returns-8 : tie.Need-returns-8
-returns-8 c = made-before (c .before .before .before .before .made7 .given .1) (c .shut-before .ensures)
+returns-8 c = record { performs = made-before (c .before .before .before .before .made7 .given .1) (c .shut-before .ensures); holds = rw (c .before .before .before .before .made7 .given .1) tt }
 
 returns-9 : tie.Need-returns-9
-returns-9 c = by-any (c .before .before .before .before .made8 .given .1) (c .shut-range .ensures)
+returns-9 c = record { performs = by-any (c .before .before .before .before .made8 .given .1) (c .shut-range .ensures); holds = rw (c .before .before .before .before .made8 .given .1) tt }
 
 returns-10 : tie.Need-returns-10
-returns-10 c = by-form (c .before .before .before .before .made9 .given .1) (c .shut-range-before .ensures)
+returns-10 c = record { performs = by-form (c .before .before .before .before .made9 .given .1) (c .shut-range-before .ensures); holds = rw (c .before .before .before .before .made9 .given .1) tt }
 
 returns-11 : tie.Need-returns-11
-returns-11 c = made-range (c .before .before .before .enum-told2 .given .1) (c .open-range .ensures)
+returns-11 c = record { performs = made-range (c .before .before .before .enum-told2 .given .1) (c .open-range .ensures); holds = rw (c .before .before .before .enum-told2 .given .1) tt }
 
 returns-12 : tie.Need-returns-12
-returns-12 c = made-rest (c .before .before .before .enum-told3 .given .1) (c .rest-read .ensures)
+returns-12 c = record { performs = made-rest (c .before .before .before .enum-told3 .given .1) (c .rest-read .ensures); holds = rw (c .before .before .before .enum-told3 .given .1) tt }
 
 returns-13 : tie.Need-returns-13
-returns-13 c = made-passes (c .before .before .before .enum-told4 .given .1) (c .behind-alt .ensures)
+returns-13 c = record { performs = made-passes (c .before .before .before .enum-told4 .given .1) (c .behind-alt .ensures); holds = rw (c .before .before .before .enum-told4 .given .1) tt }
 
 returns-14 : tie.Need-returns-14
-returns-14 c = by-any (c .before .before .before .enum-told5 .given .1) (c .shut-top .ensures)
+returns-14 c = record { performs = by-any (c .before .before .before .enum-told5 .given .1) (c .shut-top .ensures); holds = rw (c .before .before .before .enum-told5 .given .1) tt }
 
 returns-15 : tie.Need-returns-15
-returns-15 c = by-any (c .before .before .before .before .made10 .given .1) (c .add-field .ensures)
+returns-15 c = record { performs = by-any (c .before .before .before .before .made10 .given .1) (c .add-field .ensures); holds = rw (c .before .before .before .before .made10 .given .1) tt }
 
 returns-16 : tie.Need-returns-16
-returns-16 c = by-any (c .before .before .before .before .made11 .given .1) (c .add-last-field .ensures)
+returns-16 c = record { performs = by-any (c .before .before .before .before .made11 .given .1) (c .add-last-field .ensures); holds = rw (c .before .before .before .before .made11 .given .1) tt }
 
 pub perform-spec : {M : Type 1} → statement M
 perform-spec =
