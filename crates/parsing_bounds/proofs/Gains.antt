@@ -199,67 +199,80 @@ owed-one : (b : Bool) (x y : ReadState) (k : ℕ) → owed x ≤ k → owed y �
 owed-one true x y k h g = h
 owed-one false x y k h g = g
 
-name-gains : (text : List ℕ) (s : ReadState) (h : Held) (top : ℕ) (n : Identifier) → Gains (nameMove text s h top n) 0 (owed s + 1)
+-- neither a name nor a char looks at a mark
+name-gains : (text : List ℕ) (s : ReadState) (h : Held) (top : ℕ) (n : Identifier) (m : ℕ) → Gains (nameMove text s h top n) m (owed s + 1)
 unfolding nameMove owed gain
-name-gains text Begin h top n = record { most = omega arith }
-name-gains text Expect h top n = record { most = omega arith }
-name-gains text BehindAmp h top n = record { most = omega arith }
-name-gains text BehindRef h top n = record { most = owed-one (eqb top 12) AtField AtBound 1 (omega arith) (omega arith) }
-name-gains text BehindMut h top n = record { most = owed-one (eqb top 12) AtField AtBound 1 (omega arith) (omega arith) }
-name-gains text AtName h top n = halting
-name-gains text AtBound h top n = halting
-name-gains text AtPath h top n = halting
-name-gains text AtSep h top n = record { most = owed-one (eqb top 5) AtToPath AtPath 2 (omega arith) (omega arith) }
-name-gains text AtMinus h top n = halting
-name-gains text AtLiteral h top n = halting
-name-gains text AtDots h top n = record { most = omega arith }
-name-gains text AtFrom h top n = record { most = omega arith }
-name-gains text AtTo h top n = record { most = omega arith }
-name-gains text AtToPath h top n = halting
-name-gains text AtAlt h top n = halting
-name-gains text AtBrace h top n = record { most = omega arith }
-name-gains text AtLabel h top n = halting
-name-gains text AtIndex h top n = halting
-name-gains text AtField h top n = halting
-name-gains text AtEtc h top n = halting
+name-gains text Begin h top n m = record { most = omega arith }
+name-gains text Expect h top n m = record { most = omega arith }
+name-gains text BehindAmp h top n m = record { most = omega arith }
+name-gains text BehindRef h top n m = record { most = owed-one (eqb top 12) AtField AtBound 1 (omega arith) (omega arith) }
+name-gains text BehindMut h top n m = record { most = owed-one (eqb top 12) AtField AtBound 1 (omega arith) (omega arith) }
+name-gains text AtName h top n m = halting
+name-gains text AtBound h top n m = halting
+name-gains text AtPath h top n m = halting
+name-gains text AtSep h top n m = record { most = owed-one (eqb top 5) AtToPath AtPath 2 (omega arith) (omega arith) }
+name-gains text AtMinus h top n m = halting
+name-gains text AtLiteral h top n m = halting
+name-gains text AtDots h top n m = record { most = omega arith }
+name-gains text AtFrom h top n m = record { most = omega arith }
+name-gains text AtTo h top n m = record { most = omega arith }
+name-gains text AtToPath h top n m = halting
+name-gains text AtAlt h top n m = halting
+name-gains text AtBrace h top n m = record { most = omega arith }
+name-gains text AtLabel h top n m = halting
+name-gains text AtIndex h top n m = halting
+name-gains text AtField h top n m = halting
+name-gains text AtEtc h top n m = halting
 
-scalar-gains : (s : ReadState) (v : ℕ) (q : Spot) → Gains (scalarMove s v q) 0 (owed s + 1)
+scalar-gains : (s : ReadState) (v : ℕ) (q : Spot) (m : ℕ) → Gains (scalarMove s v q) m (owed s + 1)
 unfolding scalarMove owed gain
-scalar-gains Begin v q = record { most = omega arith }
-scalar-gains Expect v q = record { most = omega arith }
-scalar-gains BehindAmp v q = record { most = omega arith }
-scalar-gains BehindRef v q = halting
-scalar-gains BehindMut v q = halting
-scalar-gains AtName v q = halting
-scalar-gains AtBound v q = halting
-scalar-gains AtPath v q = halting
-scalar-gains AtSep v q = halting
-scalar-gains AtMinus v q = halting
-scalar-gains AtLiteral v q = halting
-scalar-gains AtDots v q = record { most = omega arith }
-scalar-gains AtFrom v q = record { most = omega arith }
-scalar-gains AtTo v q = record { most = omega arith }
-scalar-gains AtToPath v q = halting
-scalar-gains AtAlt v q = halting
-scalar-gains AtBrace v q = halting
-scalar-gains AtLabel v q = halting
-scalar-gains AtIndex v q = halting
-scalar-gains AtField v q = halting
-scalar-gains AtEtc v q = halting
+scalar-gains Begin v q m = record { most = omega arith }
+scalar-gains Expect v q m = record { most = omega arith }
+scalar-gains BehindAmp v q m = record { most = omega arith }
+scalar-gains BehindRef v q m = halting
+scalar-gains BehindMut v q m = halting
+scalar-gains AtName v q m = halting
+scalar-gains AtBound v q m = halting
+scalar-gains AtPath v q m = halting
+scalar-gains AtSep v q m = halting
+scalar-gains AtMinus v q m = halting
+scalar-gains AtLiteral v q m = halting
+scalar-gains AtDots v q m = record { most = omega arith }
+scalar-gains AtFrom v q m = record { most = omega arith }
+scalar-gains AtTo v q m = record { most = omega arith }
+scalar-gains AtToPath v q m = halting
+scalar-gains AtAlt v q m = halting
+scalar-gains AtBrace v q m = halting
+scalar-gains AtLabel v q m = halting
+scalar-gains AtIndex v q m = halting
+scalar-gains AtField v q m = halting
+scalar-gains AtEtc v q m = halting
+
+-- what a move gains, in numbers
+pub name-weighs : (text : List ℕ) (s : ReadState) (h : Held) (top : ℕ) (n : Identifier) (m : ℕ) → gain (nameMove text s h top n) m ≤ owed s + 1
+name-weighs text s h top n m = name-gains text s h top n m .most
+
+pub scalar-weighs : (s : ReadState) (v : ℕ) (q : Spot) (m : ℕ) → gain (scalarMove s v q) m ≤ owed s + 1
+scalar-weighs s v q m = scalar-gains s v q m .most
+
+pub mark-weighs : (text : List ℕ) (s : ReadState) (h : Held) (top m : ℕ) (q : Spot) → gain (markMove text s h top m q) m ≤ owed s + markBytes m
+mark-weighs text s h top m q =
+    let g = mark-gains text s h top m q .most in
+    let a = allowed-owed s m in
+    omega (arith, g, a)
 
 -- one token: what waits, has closed or is held grows by no more than the token's bytes
 pub step-weight : (text : List ℕ) (z : Parser) (t : Lexeme) → weight (stepped text z t) ≤ weight (going z) + lexemeBytes t
 unfolding stepped weight lexemeBytes
 step-weight text z (name n) =
     let h = perform-weight (nameMove text (z .state) (z .held) (innermostKind (z .nodes .waiting)) n) 0 0 (z .nodes) in
-    let g = name-gains text (z .state) (z .held) (innermostKind (z .nodes .waiting)) n .most in
+    let g = name-weighs text (z .state) (z .held) (innermostKind (z .nodes .waiting)) n 0 in
     omega (arith, h, g)
 step-weight text z (scalar v q) =
     let h = perform-weight (scalarMove (z .state) v q) 0 0 (z .nodes) in
-    let g = scalar-gains (z .state) v q .most in
+    let g = scalar-weighs (z .state) v q 0 in
     omega (arith, h, g)
 step-weight text z (mark m q) =
     let h = perform-weight (markMove text (z .state) (z .held) (innermostKind (z .nodes .waiting)) m q) m (q .from) (z .nodes) in
-    let g = mark-gains text (z .state) (z .held) (innermostKind (z .nodes .waiting)) m q .most in
-    let a = allowed-owed (z .state) m in
-    omega (arith, h, g, a)
+    let g = mark-weighs text (z .state) (z .held) (innermostKind (z .nodes .waiting)) m q in
+    omega (arith, h, g)
