@@ -13,7 +13,7 @@ use Rattle.parsing_machine.specs.Moves.{Move, halts, holds, opens, opensTwo, op
 use Rattle.parsing_machine.specs.Parser.{Course, haltedAt, mutated, itemLast, endedIn, behindAlt, restItem, restIn, restRead, openRange, perform}
 use Rattle.parsing_bounds.specs.Parts.{partsAt, PartsWithin, waitingOf, openedParts}
 
-none-within : {n : ℕ} → PartsWithin n []
+pub none-within : {n : ℕ} → PartsWithin n []
 unfolding partsAt
 none-within = record { fit = λ i. omega arith }
 
