@@ -6,16 +6,18 @@ use mathlib.Core.List.{List, []}
 use native.Mathlib.Omega.{arith}
 use lib.Dec.{eqb}
 use lib.ListN.{length}
+use borrow.Author.Tests.{lt-ltb}
 use Rattle.pattern_tokens.specs.Tokens.{tokenAt}
 use Rattle.pattern_grammar.specs.Lexemes.{Spot, Lexeme, name, scalar, mark, lexeme}
-use Rattle.pattern_grammar.specs.Parsed.{lexemes}
+use Rattle.pattern_grammar.specs.Parsed.{lexemes, parsed}
 use Rattle.node_rows.specs.Nodes.{nodeRowAt, nodesIn, closedNodeOf}
 use Rattle.parsing_machine.specs.declared.ReadState.{ReadState}
 use Rattle.parsing_machine.specs.declared.ReadState.the-variants.{Begin, Expect, BehindAmp, BehindRef, BehindMut, AtName, AtBound, AtPath, AtSep, AtMinus, AtLiteral, AtDots, AtFrom, AtTo, AtToPath, AtAlt, AtBrace, AtLabel, AtIndex, AtField, AtEtc}
 use Rattle.parsing_machine.specs.Waiting.{innermostKind}
 use Rattle.parsing_machine.specs.Moves.{Held}
 use Rattle.parsing_machine.specs.Parser.{Course, going, perform, stepped}
-use Rattle.parsing_machine.specs.Answers.{nodesAre, failsThere, parsedNodes}
+use Rattle.parsing_machine.specs.Answers.{nodesAre, failsThere, nodesFrom, parsedNodes}
+use Rattle.pattern_reading.specs.Reads.{outcome}
 use Rattle.parsing_bounds.specs.Weights.{owed, openedSize, weight, gain, lexemeBytes}
 use Rattle.parsing_bounds.specs.Parts.{partsAt, PartsWithin, waitingOf}
 use Rattle.parsing_bounds.proofs.Gains.{step-weight, name-weighs, scalar-weighs, mark-weighs}
@@ -44,7 +46,7 @@ use Rattle.token_rows.specs.TokenRows.{spotFrom, lexemeOf}
 use Rattle.token_rows.proofs.Wording.{row-spot, row-spans}
 use Rattle.token_moves.specs.TokenMoves.{moveAt, pending, pendingBehind, holdsPath, PathEnds, Readable, MovesOn}
 use Rattle.token_moves.proofs.Stepping.{step-by-row}
-use Rattle.pattern_parsing.specs.Parsing.{ParsingAt, NodesParsed, TokenRead}
+use Rattle.pattern_parsing.specs.Parsing.{freshState, ParsingAt, NodesParsed, TokenRead}
 use Rattle.pattern_parsing.proofs.Calming.{isCalm, isHolding, step-calm}
 
 -- a table's parts as the machine's
@@ -154,6 +156,9 @@ module _ {text names : List ℕ} {named : ℕ} {stack nodes : List ℕ} {at : �
   spans : Spans text at (lexemeOf r)
   spans = row-spans text at r (P .inside) e
 
+  pub token-ends : r .to ≤ 16384
+  token-ends = let to = ap (λ (q : Spot). q .to) (row-spot r) in omega (arith, few, to, spans .lies .inside)
+
   pub token-readable : Readable text named (p .state) (p .held) (lexemeOf r)
   token-readable = record { short = few; lies = spans .lies; room = omega (arith, P .spelled, spans .behind); path = P .path }
 
@@ -247,3 +252,26 @@ module _ {text names : List ℕ} {named : ℕ} {stack nodes : List ℕ} {at : �
         few = omega (arith, bound, rows, few, to, row-spans text at r (P .inside) e .lies .inside);
       }
   token-read (Halted place) W = fails-there (P .so-far) (P .inside) (kept few P r e T M W) (M .grows) place (steps-to few P r e T M W) few
+
+-- before the first token
+pub starts : (text names stack nodes : List ℕ) → ParsingAt text names 0 stack nodes 0 freshState
+unfolding courseOf heldIn openedOf rowsDown lexemes owed holdsPath pending
+starts text names stack nodes =
+    record {
+      so-far = record { left = suc (length text); enough = omega arith; comes = λ other same. refl };
+      inside = omega arith;
+      weighs = omega arith;
+      parts = record { fit = λ i h. absurd (omega (arith, h)) };
+      path = λ e. absurd (false≢true e);
+      spelled = omega arith;
+    }
+
+-- "text over 16,384 bytes is 19 at 16,384"
+pub too-long : (text : List ℕ) → 16384 < length text → failsThere 16384 ≡ parsedNodes text
+unfolding parsedNodes nodesFrom parsed outcome
+too-long text h = rw (lt-ltb 16384 (length text) h) refl
+
+-- a step that goes on
+pub goes-again : {text names : List ℕ} {at next named : ℕ} {stack nodes : List ℕ} {step : ParseStep} {q : ParseState} → step ≡ Going q
+    → TokenRead text at step next named names stack nodes → ParsingAt text names named stack nodes next q × (at < next)
+goes-again {text} {names} {at} {next} {named} {stack} {nodes} is T = subst (λ (x : ParseStep). TokenRead text at x next named names stack nodes) is T

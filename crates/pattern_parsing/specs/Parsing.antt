@@ -4,6 +4,7 @@ use mathlib.Core.Path.{_≡_}
 use mathlib.Core.List.{List}
 use lib.ListN.{length}
 use Rattle.node_rows.specs.Nodes.{nodesIn}
+use Rattle.parsing_machine.specs.declared.ReadState.the-variants.{Begin}
 use Rattle.parsing_machine.specs.Answers.{nodesAre, failsThere, parsedNodes}
 use Rattle.parsing_bounds.specs.Weights.{owed}
 use Rattle.parsing_steps.specs.declared.ParseState.{ParseState}
@@ -13,6 +14,10 @@ use Rattle.parsing_steps.specs.Settling.{PartsMost}
 use Rattle.parsing_course.specs.Course.{ReadSoFar}
 use Rattle.token_moves.specs.TokenMoves.{pending, PathEnds}
 use Rattle.pattern_parsing.specs.declared.Parsed.{Parsed}
+
+-- the parser before the first token
+abbrev pub freshState : ParseState
+freshState = record { state = Begin; held = record { at = 0; more = 0; spot = 0; from = 0; to = 0 }; depth = 0; rows = 0 }
 
 -- The parser before a token: what is read on from here is what is read of the whole text; nodes and names are no more than the bytes read, and a path
 -- that may go on ends with the names
