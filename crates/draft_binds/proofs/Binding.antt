@@ -13,7 +13,6 @@ use Rattle.image.specs.Rules.{absent}
 use Rattle.row_tables.specs.Rows.{rowAt}
 use Rattle.pattern_words.specs.Words.{sameWord}
 use Rattle.name_tables.specs.Names.{firstFrom}
-use Rattle.pattern_syntax.specs.Reduced.{bytesFrom}
 use Rattle.pattern_typing.specs.Making.{BoundAt, bindMade, patternRow}
 use Rattle.pattern_images.specs.Drafts.{Draft, bindingFor}
 use Rattle.pattern_images.specs.Emitting.{withPattern, newBinding, withBinding, bindingNumber, emitNode}
@@ -24,9 +23,8 @@ use Rattle.draft_tables.specs.declared.DraftCounts.{DraftCounts}
 use Rattle.draft_tables.specs.declared.DraftStep.{DraftStep}
 use Rattle.draft_tables.specs.Layout.{nameOfWords, draftIn, stackedIn, heightIs, drafted}
 use Rattle.draft_tables.specs.Room.{DraftRoom}
-use Rattle.draft_tables.specs.Steps.{DraftHeld, DraftStepped}
-use Rattle.draft_tables.proofs.Counted.{room-within, binding-length, called-length, called-at-row}
-use Rattle.draft_tables.proofs.Chaining.{same-height}
+use Rattle.draft_tables.specs.Steps.{DraftStepped}
+use Rattle.draft_tables.proofs.Counted.{binding-length, called-length, called-at-row}
 use Rattle.draft_names.specs.declared.FoundBinding.{FoundBinding}
 use Rattle.draft_names.specs.declared.FoundBinding.the-variants.{At, NotYet}
 use Rattle.draft_names.specs.Names.{foundBinding}
@@ -36,7 +34,7 @@ use Rattle.draft_rows.proofs.Lowering.{cutTo, lowered}
 use Rattle.draft_nodes.proofs.Words.{cut-at, first-is}
 use Rattle.draft_binds.specs.Named.{HeldFor, SteppedFor}
 use Rattle.draft_binds.specs.Binds.{boundDraft, boundNumber, BindingHeld}
-use Rattle.draft_binds.proofs.Naming.{held-for, stepped-for, for-same, for-then}
+use Rattle.draft_binds.proofs.Naming.{stepped-for, for-same, for-then}
 
 module _ (names table : List ℕ) (c : DraftCounts) (name : List ℕ) where
   -- the search among the table's names

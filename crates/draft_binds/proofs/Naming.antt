@@ -1,7 +1,6 @@
 -- Steps where the names' bytes are known: one that is right for all names, and one behind another. Assumes nothing.
 use Prim.Native.Nat.{ℕ}
 use mathlib.Core.Path.{_≡_, refl, sym, ap, _∙_}
-use mathlib.Core.Bool.{true}
 use mathlib.Core.List.{List}
 use Rattle.image.specs.declared.Tables.{Tables}
 use Rattle.pattern_images.specs.Imaging.{derefsWithin, withinImageLimits}
@@ -10,7 +9,7 @@ use Rattle.draft_tables.specs.declared.DraftCounts.{DraftCounts}
 use Rattle.draft_tables.specs.declared.DraftStep.{DraftStep}
 use Rattle.draft_tables.specs.declared.DraftStep.the-variants.{On, PastALimit}
 use Rattle.draft_tables.specs.Layout.{draftIn, stackedIn}
-use Rattle.draft_tables.specs.Steps.{DerefsHeld, DraftHeld, DraftStepped}
+use Rattle.draft_tables.specs.Steps.{DraftHeld, DraftStepped}
 use Rattle.draft_binds.specs.Named.{HeldFor, SteppedFor}
 
 -- the patterns of a table do not go by the names

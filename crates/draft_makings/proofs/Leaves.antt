@@ -1,7 +1,7 @@
 -- Nodes that take their parts' words and put none, or put a row's number. Assumes nothing.
 use Prim.Native.Nat.{ℕ, _-_, _≤_}
-use mathlib.Core.Path.{_≡_, refl, sym, ap, subst, _∙_}
-use mathlib.Core.List.{List, [], _++_, append-nil}
+use mathlib.Core.Path.{_≡_, refl, sym, ap, _∙_}
+use mathlib.Core.List.{List, append-nil}
 use lib.ListN.{length, take}
 use Rattle.image.specs.declared.Tables.{Tables}
 use Rattle.image.specs.declared.rows.PatRow.{PatRow}

@@ -1,7 +1,7 @@
 -- The ways through the code that adds a row of makings. Assumes nothing.
-use Prim.Native.Nat.{ℕ, zero, suc, _+_, _*_, _≤_, _<_}
-use mathlib.Core.Path.{_≡_, refl, sym, ap, subst, _∙_}
-use mathlib.Core.Bool.{Bool, true, cond}
+use Prim.Native.Nat.{ℕ, zero, suc, _*_, _≤_, _<_}
+use mathlib.Core.Path.{_≡_, refl, sym, ap, subst}
+use mathlib.Core.Bool.{true, cond}
 use mathlib.Core.List.{List}
 use native.Mathlib.Omega.{arith}
 use borrow.Author.Tests.{eqb-true}
@@ -9,13 +9,12 @@ use lib.Dec.{eqb}
 use Rattle.image.specs.declared.Tables.{Tables}
 use Rattle.image.specs.declared.rows.PatRow.{PatRow}
 use Rattle.image.specs.Tables.{Whole}
-use Rattle.pattern_syntax.specs.Written.{LiteralValue}
-use Rattle.pattern_typing.specs.Making.{Making, literalMade, operandMade, listMade, fieldMade}
-use Rattle.pattern_typing.specs.Closed.{ClosedMaking, closedMaking}
+use Rattle.pattern_typing.specs.Making.{Making, listMade, fieldMade}
+use Rattle.pattern_typing.specs.Closed.{closedMaking}
 use Rattle.node_rows.specs.declared.MakingRow.{MakingRow}
 use Rattle.node_rows.specs.Nodes.{literalIn}
 use Rattle.node_rows.specs.Makings.{makingOf, closedMakingOf}
-use Rattle.draft_stack.specs.Stack.{Stacked, wordsEach, wordsTaken, emitOne, mayHaveParts}
+use Rattle.draft_stack.specs.Stack.{wordsEach, wordsTaken, emitOne, mayHaveParts}
 use Rattle.draft_tables.specs.declared.DraftCounts.{DraftCounts}
 use Rattle.draft_tables.specs.declared.DraftStep.{DraftStep}
 use Rattle.draft_tables.specs.Layout.{stackedIn}
