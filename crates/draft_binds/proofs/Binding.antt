@@ -80,11 +80,14 @@ module _ (names table : List ℕ) (c : DraftCounts) (name : List ℕ) where
       unfolding withBinding
       is-new = ap (λ (o : Option ℕ). withBinding sheet o mode name at (draftIn names table c)) (none-yet ∙ sym binding-found)
 
-      pub bound-past : withinImageLimits sheet (newBinding sheet mode name at (stackedIn names table c .draft)) ≡ false → withinImageLimits sheet (boundDraft sheet mode name at (draftIn names table c)) ≡ false
+      pub bound-past : withinImageLimits sheet (newBinding sheet mode name at (stackedIn names table c .draft)) ≡ false →
+          withinImageLimits sheet (boundDraft sheet mode name at (draftIn names table c)) ≡ false
       unfolding stackedIn
       bound-past past = sym (ap (withinImageLimits sheet) is-new) ∙ past
 
-      pub bound-anew : (counts : DraftCounts) (after : List ℕ) → counts .height ≡ c .height → HeldFor names tables table c (λ s. drafted (newBinding sheet mode name at) s) counts after → BindingHeld names sheet tables table c mode name at (tables .bindings .count + c .bindings) counts after
+      pub bound-anew : (counts : DraftCounts) (after : List ℕ) → counts .height ≡ c .height →
+          HeldFor names tables table c (λ s. drafted (newBinding sheet mode name at) s) counts after →
+          BindingHeld names sheet tables table c mode name at (tables .bindings .count + c .bindings) counts after
       unfolding stackedIn withBinding bindingNumber
       bound-anew counts after high h =
           record {
@@ -129,7 +132,8 @@ module _ (names sheet : List ℕ) (tables : Tables) (table : List ℕ) (size : l
             let room′ = one .held .room in
             subst (DraftRoom tables) (sym e) (record { types = room′ .types; patterns = room′ .patterns; bindings = room′ .bindings; words = room′ .words; bytes = room′ .bytes; height = omega (arith, room .height) })
 
-    bind-same : word ≡ cond (eqb parts 0) 65535 (getD table (24320 + base) 0) → rowStep (patternRow 11 t 0 number word mode annotation) sheet names (cutTo base (drafted (boundDraft sheet mode name at) (stackedIn names table c))) ≡ step (stackedIn names table c)
+    bind-same : word ≡ cond (eqb parts 0) 65535 (getD table (24320 + base) 0) →
+        rowStep (patternRow 11 t 0 number word mode annotation) sheet names (cutTo base (drafted (boundDraft sheet mode name at) (stackedIn names table c))) ≡ step (stackedIn names table c)
     unfolding emitOne emitNode
     bind-same w =
         let s = stackedIn names table c in
@@ -138,7 +142,8 @@ module _ (names sheet : List ℕ) (tables : Tables) (table : List ℕ) (size : l
         let own : number ≡ boundNumber sheet name (s .draft) = unfold stackedIn in one .numbered in
         λ i. stackedOn (take (cuts i) (s .stack)) (withPattern sheet (patternRow 11 t 0 (own i) (sub i) mode annotation) (boundDraft sheet mode name at (s .draft)))
 
-    pub bind-stepped : (r : DraftStep) (after : List ℕ) → word ≡ cond (eqb parts 0) 65535 (getD table (24320 + base) 0) → DraftStepped sheet tables mid low (rowStep (patternRow 11 t 0 number word mode annotation) sheet) r after → SteppedFor names sheet tables table c step r after
+    pub bind-stepped : (r : DraftStep) (after : List ℕ) → word ≡ cond (eqb parts 0) 65535 (getD table (24320 + base) 0) →
+        DraftStepped sheet tables mid low (rowStep (patternRow 11 t 0 number word mode annotation) sheet) r after → SteppedFor names sheet tables table c step r after
     bind-stepped r after w put =
         for-same names sheet tables table c (λ s. rowStep (patternRow 11 t 0 number word mode annotation) sheet names (cutTo base (drafted (boundDraft sheet mode name at) s))) step r after (bind-same w)
         (for-then names sheet tables table c (λ s. cutTo base (drafted (boundDraft sheet mode name at) s)) (rowStep (patternRow 11 t 0 number word mode annotation) sheet names) low mid r after cut

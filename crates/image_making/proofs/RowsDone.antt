@@ -107,7 +107,8 @@ module _ (text names makings : List ℕ) where
           }
 
       -- what it adds is past a limit: so is the whole
-      pub next-past : withinImageLimits sheet (makingStep sheet text names (makingRowAt makings i) (stackedIn names table counts) .draft) ≡ false → withinImageLimits sheet (draftUp sheet (rows n)) ≡ false
+      pub next-past : withinImageLimits sheet (makingStep sheet text names (makingRowAt makings i) (stackedIn names table counts) .draft) ≡ false →
+          withinImageLimits sheet (draftUp sheet (rows n)) ≡ false
       unfolding emitUp
       next-past past =
           let b = behind n i more in
@@ -119,7 +120,8 @@ module _ (text names makings : List ℕ) where
           ∙ past-grows sheet (grows-up sheet (b .rest) (one .stack) (one .draft)) here
 
       -- it is added
-      pub next-done : (counts′ : DraftCounts) (after : List ℕ) → length after ≡ 40704 → HeldFor names tables table counts (makingStep sheet text names (makingRowAt makings i)) counts′ after → Done (i + 1) counts′ after
+      pub next-done : (counts′ : DraftCounts) (after : List ℕ) → length after ≡ 40704 →
+          HeldFor names tables table counts (makingStep sheet text names (makingRowAt makings i)) counts′ after → Done (i + 1) counts′ after
       unfolding emitUp makingsIn
       next-done counts′ after size held =
           let adds : emitOne sheet (row i) (up .stack) (up .draft) ≡ emitUp sheet (rows (suc i)) [] emptyDraft = sym (emit-append sheet (rows i) (row i ∷ []) [] emptyDraft) in
