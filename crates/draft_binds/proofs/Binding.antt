@@ -13,7 +13,6 @@ use Rattle.image.specs.Rules.{absent}
 use Rattle.row_tables.specs.Rows.{rowAt}
 use Rattle.pattern_words.specs.Words.{sameWord}
 use Rattle.name_tables.specs.Names.{firstFrom}
-use Rattle.pattern_syntax.specs.Reduced.{bytesFrom}
 use Rattle.pattern_typing.specs.Making.{BoundAt, bindMade, patternRow}
 use Rattle.pattern_images.specs.Drafts.{Draft, bindingFor}
 use Rattle.pattern_images.specs.Emitting.{withPattern, newBinding, withBinding, bindingNumber, emitNode}
@@ -24,9 +23,8 @@ use Rattle.draft_tables.specs.declared.DraftCounts.{DraftCounts}
 use Rattle.draft_tables.specs.declared.DraftStep.{DraftStep}
 use Rattle.draft_tables.specs.Layout.{nameOfWords, draftIn, stackedIn, heightIs, drafted}
 use Rattle.draft_tables.specs.Room.{DraftRoom}
-use Rattle.draft_tables.specs.Steps.{DraftHeld, DraftStepped}
-use Rattle.draft_tables.proofs.Counted.{room-within, binding-length, called-length, called-at-row}
-use Rattle.draft_tables.proofs.Chaining.{same-height}
+use Rattle.draft_tables.specs.Steps.{DraftStepped}
+use Rattle.draft_tables.proofs.Counted.{binding-length, called-length, called-at-row}
 use Rattle.draft_names.specs.declared.FoundBinding.{FoundBinding}
 use Rattle.draft_names.specs.declared.FoundBinding.the-variants.{At, NotYet}
 use Rattle.draft_names.specs.Names.{foundBinding}
@@ -36,7 +34,7 @@ use Rattle.draft_rows.proofs.Lowering.{cutTo, lowered}
 use Rattle.draft_nodes.proofs.Words.{cut-at, first-is}
 use Rattle.draft_binds.specs.Named.{HeldFor, SteppedFor}
 use Rattle.draft_binds.specs.Binds.{boundDraft, boundNumber, BindingHeld}
-use Rattle.draft_binds.proofs.Naming.{held-for, stepped-for, for-same, for-then}
+use Rattle.draft_binds.proofs.Naming.{stepped-for, for-same, for-then}
 
 module _ (names table : List ℕ) (c : DraftCounts) (name : List ℕ) where
   -- the search among the table's names
@@ -82,11 +80,14 @@ module _ (names table : List ℕ) (c : DraftCounts) (name : List ℕ) where
       unfolding withBinding
       is-new = ap (λ (o : Option ℕ). withBinding sheet o mode name at (draftIn names table c)) (none-yet ∙ sym binding-found)
 
-      pub bound-past : withinImageLimits sheet (newBinding sheet mode name at (stackedIn names table c .draft)) ≡ false → withinImageLimits sheet (boundDraft sheet mode name at (draftIn names table c)) ≡ false
+      pub bound-past : withinImageLimits sheet (newBinding sheet mode name at (stackedIn names table c .draft)) ≡ false →
+          withinImageLimits sheet (boundDraft sheet mode name at (draftIn names table c)) ≡ false
       unfolding stackedIn
       bound-past past = sym (ap (withinImageLimits sheet) is-new) ∙ past
 
-      pub bound-anew : (counts : DraftCounts) (after : List ℕ) → counts .height ≡ c .height → HeldFor names tables table c (λ s. drafted (newBinding sheet mode name at) s) counts after → BindingHeld names sheet tables table c mode name at (tables .bindings .count + c .bindings) counts after
+      pub bound-anew : (counts : DraftCounts) (after : List ℕ) → counts .height ≡ c .height →
+          HeldFor names tables table c (λ s. drafted (newBinding sheet mode name at) s) counts after →
+          BindingHeld names sheet tables table c mode name at (tables .bindings .count + c .bindings) counts after
       unfolding stackedIn withBinding bindingNumber
       bound-anew counts after high h =
           record {
@@ -131,7 +132,8 @@ module _ (names sheet : List ℕ) (tables : Tables) (table : List ℕ) (size : l
             let room′ = one .held .room in
             subst (DraftRoom tables) (sym e) (record { types = room′ .types; patterns = room′ .patterns; bindings = room′ .bindings; words = room′ .words; bytes = room′ .bytes; height = omega (arith, room .height) })
 
-    bind-same : word ≡ cond (eqb parts 0) 65535 (getD table (24320 + base) 0) → rowStep (patternRow 11 t 0 number word mode annotation) sheet names (cutTo base (drafted (boundDraft sheet mode name at) (stackedIn names table c))) ≡ step (stackedIn names table c)
+    bind-same : word ≡ cond (eqb parts 0) 65535 (getD table (24320 + base) 0) →
+        rowStep (patternRow 11 t 0 number word mode annotation) sheet names (cutTo base (drafted (boundDraft sheet mode name at) (stackedIn names table c))) ≡ step (stackedIn names table c)
     unfolding emitOne emitNode
     bind-same w =
         let s = stackedIn names table c in
@@ -140,7 +142,8 @@ module _ (names sheet : List ℕ) (tables : Tables) (table : List ℕ) (size : l
         let own : number ≡ boundNumber sheet name (s .draft) = unfold stackedIn in one .numbered in
         λ i. stackedOn (take (cuts i) (s .stack)) (withPattern sheet (patternRow 11 t 0 (own i) (sub i) mode annotation) (boundDraft sheet mode name at (s .draft)))
 
-    pub bind-stepped : (r : DraftStep) (after : List ℕ) → word ≡ cond (eqb parts 0) 65535 (getD table (24320 + base) 0) → DraftStepped sheet tables mid low (rowStep (patternRow 11 t 0 number word mode annotation) sheet) r after → SteppedFor names sheet tables table c step r after
+    pub bind-stepped : (r : DraftStep) (after : List ℕ) → word ≡ cond (eqb parts 0) 65535 (getD table (24320 + base) 0) →
+        DraftStepped sheet tables mid low (rowStep (patternRow 11 t 0 number word mode annotation) sheet) r after → SteppedFor names sheet tables table c step r after
     bind-stepped r after w put =
         for-same names sheet tables table c (λ s. rowStep (patternRow 11 t 0 number word mode annotation) sheet names (cutTo base (drafted (boundDraft sheet mode name at) s))) step r after (bind-same w)
         (for-then names sheet tables table c (λ s. cutTo base (drafted (boundDraft sheet mode name at) s)) (rowStep (patternRow 11 t 0 number word mode annotation) sheet names) low mid r after cut

@@ -1,7 +1,7 @@
 -- Nodes that take their parts' words and put none, or put a row's number. Assumes nothing.
 use Prim.Native.Nat.{ℕ, _-_, _≤_}
-use mathlib.Core.Path.{_≡_, refl, sym, ap, subst, _∙_}
-use mathlib.Core.List.{List, [], _++_, append-nil}
+use mathlib.Core.Path.{_≡_, refl, sym, ap, _∙_}
+use mathlib.Core.List.{List, append-nil}
 use lib.ListN.{length, take}
 use Rattle.image.specs.declared.Tables.{Tables}
 use Rattle.image.specs.declared.rows.PatRow.{PatRow}
@@ -47,7 +47,8 @@ module _ (tables : Tables) (table : List ℕ) (size : length table ≡ 40704) (c
         let cuts = cut-at tables table size c room parts enough (rowMade row) (unfold wordsEach in refl) names in
         λ i. stackedOn (take (cuts i) (s .stack)) (withPattern sheet row (s .draft))
 
-    pub row-put : (r : DraftStep) (after : List ℕ) → DraftStepped sheet tables table low (rowStep row sheet) r after → DraftStepped sheet tables table c (nodeStep (rowMade row) parts sheet) r after
+    pub row-put : (r : DraftStep) (after : List ℕ) → DraftStepped sheet tables table low (rowStep row sheet) r after →
+        DraftStepped sheet tables table c (nodeStep (rowMade row) parts sheet) r after
     row-put r after put =
         step-same sheet tables table c (λ names s. rowStep row sheet names (cutTo base s)) (nodeStep (rowMade row) parts sheet) r after row-same
         (step-then sheet tables table c (λ names s. cutTo base s) (rowStep row sheet) low table r after (cut-only tables table size c room parts enough low e) put)

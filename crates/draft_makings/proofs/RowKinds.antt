@@ -7,7 +7,7 @@ use native.Mathlib.Omega.{arith}
 use borrow.Author.Tests.{ne-eqb}
 use lib.Dec.{eqb}
 use Rattle.pattern_syntax.specs.Reduced.{bytesFrom}
-use Rattle.pattern_typing.specs.Making.{Making, notMade, rowMade, literalMade, operandMade, operandNamed, rangeMade, bindMade, referenceMade, listMade, sliceMade, fieldMade, patternRow}
+use Rattle.pattern_typing.specs.Making.{notMade, rowMade, literalMade, operandMade, operandNamed, rangeMade, bindMade, referenceMade, listMade, sliceMade, fieldMade, patternRow}
 use Rattle.node_rows.specs.declared.MakingRow.{MakingRow}
 use Rattle.node_rows.specs.Nodes.{literalIn, numberIn}
 use Rattle.node_rows.specs.Makings.{makingOf, boundAtIn}

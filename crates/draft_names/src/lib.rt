@@ -1,7 +1,8 @@
 // The binding of a name, among those that were added to the draft: names are compared by their bytes.
 use draft_tables::added_name;
+use name_tables::lookup::is_same_word;
 ghost use mathlib.Core.Path.{_≡_};
-ghost use Prim.Native.Nat.{_+_, _≤_, min};
+ghost use Prim.Native.Nat.{_≤_, min};
 ghost use lib.ListN.{length, drop};
 ghost use Rattle.row_tables.specs.Rows.{rowAt};
 ghost use Rattle.pattern_words.specs.Words.{sameWord};
@@ -34,22 +35,6 @@ fn name_bytes(names: &[u8], from: u16, to: u16) -> &[u8]
     &names[start..end]
 }
 
-fn same_bytes(a: &[u8], b: &[u8]) -> bool
-    ensures { λ r. ⌜ r ≡ sameWord (now (a .entry)) (now (b .entry)) ⌝ }
-{
-    if a.len() != b.len() {
-        return false;
-    }
-    let mut i = 0;
-    while i < a.len() {
-        if a[i] != b[i] {
-            return false;
-        }
-        i += 1;
-    }
-    true
-}
-
 // The first of so many added bindings whose name is this.
 pub fn binding_of(names: &[u8], draft: &[u16], many: u16, from: u16, to: u16) -> FoundBinding
     requires { ⌜ (length (now draft) ≡ 40704) × (many ≤ 256) ⌝ }
@@ -59,7 +44,7 @@ pub fn binding_of(names: &[u8], draft: &[u16], many: u16, from: u16, to: u16) ->
     let mut b = 0;
     while b < many {
         let range = added_name(draft, b);
-        if same_bytes(name_bytes(names, range.from, range.to), name) {
+        if is_same_word(name_bytes(names, range.from, range.to), name) {
             return FoundBinding::At(b);
         }
         b += 1;

@@ -1,26 +1,25 @@
 -- Limits that a sheet and a draft in a table keep, before the first row and behind the last. Assumes nothing.
-use Prim.Native.Nat.{ℕ, _+_, _≤_}
+use Prim.Native.Nat.{ℕ, _≤_}
 use mathlib.Core.Path.{_≡_, refl, sym, ap, _∙_}
-use mathlib.Core.Bool.{Bool, true, _&&_}
-use mathlib.Core.List.{List, []}
+use mathlib.Core.Bool.{true, _&&_}
+use mathlib.Core.List.{List}
 use native.Mathlib.Omega.{arith}
 use borrow.Author.Tests.{leb-true}
 use lib.Dec.{leb}
 use lib.ListN.{length}
 use Rattle.image.specs.declared.Tables.{Tables}
-use Rattle.image.specs.Tables.{typeCount, variantCount, patternCount, bindingCount, listCount, dataCount, Whole}
+use Rattle.image.specs.Tables.{typeCount, variantCount, patternCount, bindingCount, listCount, dataCount}
 use Rattle.image.proofs.Bools.{and-left, and-right, all-true-at}
 use Rattle.row_tables.specs.Rows.{rowsOf, stored}
 use Rattle.type_sheets.specs.Sheets.{withinSheetLimits, sheetRules, sheetHolds}
 use Rattle.pattern_typing.specs.Closed.{ClosedMaking}
 use Rattle.node_rows.specs.Makings.{makingsIn}
-use Rattle.pattern_images.specs.Drafts.{Draft, emptyDraft}
+use Rattle.pattern_images.specs.Drafts.{Draft}
 use Rattle.pattern_images.specs.Imaging.{imageWith, derefsWithin, withinImageLimits}
 use Rattle.draft_stack.specs.Stack.{Stacked, emitUp}
 use Rattle.draft_stack.proofs.Growing.{each-within}
 use Rattle.draft_tables.specs.declared.DraftCounts.{DraftCounts}
 use Rattle.draft_tables.specs.Layout.{draftIn, stackedIn}
-use Rattle.draft_tables.specs.Room.{DraftRoom}
 use Rattle.draft_tables.proofs.Counted.{room-within, type-length, pattern-length, binding-length, word-length, byte-length}
 use Rattle.image_writing.specs.Writing.{WithinLimits, ImageWritten}
 use Rattle.image_writing.proofs.Assembled.{limits-of-room}

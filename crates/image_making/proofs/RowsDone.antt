@@ -1,19 +1,17 @@
 -- Makings that are added one after another: the next one is ready, and what it adds. Assumes nothing.
-use Prim.Native.Nat.{ℕ, zero, suc, _+_, _-_, _≤_, _<_}
-use mathlib.Core.Path.{_≡_, refl, sym, ap, subst, _∙_}
-use mathlib.Core.Bool.{Bool, true, false, _&&_}
-use mathlib.Core.Logic.{_⊎_, inl, inr, ⊎-elim}
+use Prim.Native.Nat.{ℕ, zero, suc, _+_, _≤_, _<_}
+use mathlib.Core.Path.{_≡_, sym, ap, subst, _∙_}
+use mathlib.Core.Bool.{true, false}
+use mathlib.Core.Logic.{⊎-elim}
 use mathlib.Core.List.{List, [], _∷_, _++_, append-assoc}
+use native.Mathlib.Nat.{eq-or-lt-of-le}
 use native.Mathlib.Numerals.{add-one}
 use native.Mathlib.Omega.{arith}
-use borrow.Author.Tests.{leb-true, leb-false}
-use lib.Dec.{leb}
 use lib.ListN.{length}
 use Rattle.image.specs.declared.Tables.{Tables}
 use Rattle.image.proofs.Bools.{and-left, and-right}
 use Rattle.pattern_typing.specs.Making.{Making, notMade, rowMade, literalMade, operandMade, operandNamed, rangeMade, bindMade, referenceMade, listMade, sliceMade, fieldMade}
 use Rattle.pattern_typing.specs.Closed.{ClosedMaking}
-use Rattle.node_rows.specs.declared.MakingRow.{MakingRow}
 use Rattle.node_rows.specs.Makings.{makingRowAt, closedMakingOf, makingsIn}
 use Rattle.pattern_images.specs.Drafts.{emptyDraft}
 use Rattle.pattern_images.specs.Imaging.{withinImageLimits}
@@ -31,13 +29,6 @@ use Rattle.image_making.specs.Images.{ImageReady, draftUp, EmittedUp}
 record Behind (all done : List ClosedMaking) (next : ClosedMaking) : Type 0 where
   rest : List ClosedMaking
   split : all ≡ done ++ (next ∷ rest)
-
-le-or-lt : (a b : ℕ) → (a ≤ b) ⊎ (b < a)
-le-or-lt a b = by (leb a b) refl
-  where
-    by : (t : Bool) → leb a b ≡ t → (a ≤ b) ⊎ (b < a)
-    by true e = inl (leb-true a b e)
-    by false e = inr (leb-false a b e)
 
 -- literals of makings behind others
 fit-behind : (xs ys : List ClosedMaking) → literalsFit (xs ++ ys) ≡ true → literalsFit ys ≡ true
@@ -70,10 +61,13 @@ module _ (text names makings : List ℕ) where
   behind : (n i : ℕ) → i < n → Behind (rows n) (rows i) (row i)
   unfolding makingsIn
   behind zero i h = absurd (omega arith)
-  behind (suc n) i h = ⊎-elim last (λ (g : i < n). before (behind n i g)) (le-or-lt n i)
+  behind (suc n) i h = ⊎-elim last (λ (g : i < n). before (behind n i g)) (eq-or-lt-of-le (within h))
     where
-      last : n ≤ i → Behind (rows (suc n)) (rows i) (row i)
-      last g = let same : n ≡ i = omega arith in record { rest = []; split = ap (λ (k : ℕ). rows k ++ (row k ∷ [])) same }
+      within : i < suc n → i ≤ n
+      within g = omega arith
+
+      last : i ≡ n → Behind (rows (suc n)) (rows i) (row i)
+      last same = record { rest = []; split = ap (λ (k : ℕ). rows k ++ (row k ∷ [])) (sym same) }
 
       before : Behind (rows n) (rows i) (row i) → Behind (rows (suc n)) (rows i) (row i)
       before b =
@@ -113,7 +107,8 @@ module _ (text names makings : List ℕ) where
           }
 
       -- what it adds is past a limit: so is the whole
-      pub next-past : withinImageLimits sheet (makingStep sheet text names (makingRowAt makings i) (stackedIn names table counts) .draft) ≡ false → withinImageLimits sheet (draftUp sheet (rows n)) ≡ false
+      pub next-past : withinImageLimits sheet (makingStep sheet text names (makingRowAt makings i) (stackedIn names table counts) .draft) ≡ false →
+          withinImageLimits sheet (draftUp sheet (rows n)) ≡ false
       unfolding emitUp
       next-past past =
           let b = behind n i more in
@@ -125,7 +120,8 @@ module _ (text names makings : List ℕ) where
           ∙ past-grows sheet (grows-up sheet (b .rest) (one .stack) (one .draft)) here
 
       -- it is added
-      pub next-done : (counts′ : DraftCounts) (after : List ℕ) → length after ≡ 40704 → HeldFor names tables table counts (makingStep sheet text names (makingRowAt makings i)) counts′ after → Done (i + 1) counts′ after
+      pub next-done : (counts′ : DraftCounts) (after : List ℕ) → length after ≡ 40704 →
+          HeldFor names tables table counts (makingStep sheet text names (makingRowAt makings i)) counts′ after → Done (i + 1) counts′ after
       unfolding emitUp makingsIn
       next-done counts′ after size held =
           let adds : emitOne sheet (row i) (up .stack) (up .draft) ≡ emitUp sheet (rows (suc i)) [] emptyDraft = sym (emit-append sheet (rows i) (row i ∷ []) [] emptyDraft) in

@@ -14,7 +14,7 @@ use Rattle.decimal_values.specs.Values.{inHalves, integerValue}
 use Rattle.pattern_grammar.specs.Lexemes.{Spot, Source, over, strictly, wide}
 use Rattle.pattern_grammar.specs.Trees.{LiteralPattern, trueAt, falseAt, character, whole, negative, Ampersand, single, double, ListHead, tupleAt, structAt, sliceAt, Pattern, alone, or, NoTopAlt, plain, between, upward, upTo, WithoutRange, literal, ident, identAt, wild, rest, reference, path, list, listTo, recordOf, recordTo, recordDots, ListItems, noItem, item, RecordFields, noField, field, RecordField, keyed, short, RangeBound, constant, place}
 use Rattle.pattern_grammar.specs.Admitted.{openItemAt, RestRoom, noRest, behindName, behindBar, itemRoom, mutIsOwn, boundFits, keyFits, isNone, patternOk, altOk, plainOk, itemsOk, fieldsOk, fieldOk, admitted}
-use Rattle.pattern_syntax.specs.Written.{LiteralValue, Written, written, Parts, noParts, more, begunAt}
+use Rattle.pattern_syntax.specs.Written.{Written, written, Parts, noParts, more, begunAt}
 use Rattle.pattern_syntax.specs.Reduced.{bytesFrom, literalValue, boundIn, writtenBound, writtenIdent, writtenReference, headAt, listNode, beforeRest, isPart, isGroup, oneOf, alternatives, writtenAlt, writtenPlain, writtenItems, writtenFields, writtenFieldOf, reduced}
 use Rattle.draft_operands.specs.Literals.{literalFits}
 use Rattle.literal_bounds.specs.Bounds.{nodeFits, treeFits, partsFit}

@@ -11,7 +11,7 @@ ghost use Rattle.name_tables.specs.Names.{rowCount, serves, isNamed, row
 ghost use Rattle.name_tables.specs.Tested.{NameBytesWithin, useOf, foundIn};
 
 // Two words are the same: as long, and byte by byte.
-fn is_same_word(a: &[u8], b: &[u8]) -> bool
+pub fn is_same_word(a: &[u8], b: &[u8]) -> bool
     ensures { λ r. ⌜ r ≡ sameWord (now (a .entry)) (now (b .entry)) ⌝ }
 {
     if a.len() != b.len() {

@@ -7,7 +7,6 @@ use Rattle.draft_binds.proofs.with_binding.Reads as with-binding-reads
 use Rattle.draft_lists.proofs.at_height.Reads as at-height-reads
 use Rattle.draft_nodes.proofs.first_word.Reads as first-word-reads
 use Rattle.draft_rows.proofs.put_pattern.Reads as put-pattern-reads
-use mathlib.Core.Path.{_≡_}
 use native.Mathlib.Omega.{arith}
 use Rattle.pattern_syntax.specs.Reduced.{bytesFrom}
 use Rattle.node_rows.specs.Makings.{boundAtIn}

@@ -5,7 +5,6 @@ use Rattle.draft_binds.proofs.with_binding.Reads as reads
 use Rattle.draft_binds.proofs.with_binding.Lts as lts
 use Rattle.draft_bindings.proofs.new_binding.Reads as new-binding-reads
 use Rattle.draft_names.proofs.binding_of.Reads as binding-of-reads
-use mathlib.Core.Path.{_≡_}
 use native.Mathlib.Omega.{arith}
 use Rattle.pattern_syntax.specs.Reduced.{bytesFrom}
 use Rattle.pattern_images.specs.Emitting.{newBinding}

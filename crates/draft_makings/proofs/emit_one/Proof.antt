@@ -8,7 +8,6 @@ use Rattle.draft_makings.proofs.put_joined.Reads as put-joined-reads
 use Rattle.draft_makings.proofs.put_leaf.Reads as put-leaf-reads
 use Rattle.draft_makings.proofs.put_node.Reads as put-node-reads
 use Prim.Native.Nat.{_≤_}
-use mathlib.Core.Path.{_≡_}
 use mathlib.Core.List.{[]}
 use native.Mathlib.Omega.{arith}
 use Rattle.node_rows.specs.Makings.{makingRowAt}

@@ -2,10 +2,9 @@ use Rattle.draft_makings.proofs.list_words.Statement.{statement}
 use Rattle.draft_makings.proofs.list_words.Tie as tie
 use Rattle.draft_makings.proofs.list_words.Reads as reads
 use Rattle.draft_makings.proofs.list_words.Lts as lts
-use Prim.Native.Nat.{ℕ, _*_}
-use mathlib.Core.Path.{_≡_, ap, sym, _∙_}
+use Prim.Native.Nat.{_*_}
+use mathlib.Core.Path.{ap}
 use mathlib.Core.Bool.{Bool, cond}
-use native.Mathlib.Nat.{one-mul}
 use native.Mathlib.Omega.{arith}
 use borrow.Author.Tests.{eq-eqb, ne-eqb}
 

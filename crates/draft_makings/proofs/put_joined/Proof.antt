@@ -8,7 +8,7 @@ use Rattle.draft_lists.proofs.put_slice.Reads as put-slice-reads
 use Rattle.draft_makings.proofs.list_words.Reads as list-words-reads
 use Rattle.draft_nodes.proofs.put_field.Reads as put-field-reads
 use Prim.Native.Nat.{_<_}
-use mathlib.Core.Path.{_≡_, refl}
+use mathlib.Core.Path.{refl}
 use mathlib.Core.List.{[]}
 use native.Mathlib.Omega.{arith}
 use Rattle.pattern_typing.specs.Making.{listMade, sliceMade, fieldMade, patternRow}

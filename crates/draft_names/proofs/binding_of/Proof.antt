@@ -4,8 +4,8 @@ use Rattle.draft_names.proofs.binding_of.Tie as tie
 use Rattle.draft_names.proofs.binding_of.Reads as reads
 use Rattle.draft_names.proofs.binding_of.Lts as lts
 use Rattle.draft_names.proofs.name_bytes.Reads as name-bytes-reads
-use Rattle.draft_names.proofs.same_bytes.Reads as same-bytes-reads
 use Rattle.draft_tables.proofs.added_name.Reads as added-name-reads
+use Rattle.name_tables.proofs.lookup.is_same_word.Reads as is-same-word-reads
 use Prim.Native.Nat.{ℕ, _-_, _≤_}
 use mathlib.Core.Path.{_≡_, sym, _∙_}
 use mathlib.Core.Bool.{Bool}
@@ -37,14 +37,14 @@ unfolding foundBinding
 returns c =
     let s = c .before .before .before .before .before .before .before .before .before .args in
     let test : ℕ → Bool = λ k. sameWord (nameOfWords (s .names .now) (rowAt 2 (drop 5376 (s .draft .now)) k)) (bytesFrom (s .names .now) (s .from) (s .to)) in
-    let is = named-test (s .names .now) (rowAt 2 (drop 5376 (s .draft .now)) (c .before .before .before .before .before .loop .b)) (c .before .before .before .added-name .result) (s .from) (s .to) _ _ (c .before .same-bytes .result) (c .before .before .before .added-name .ensures) (c .before .before .name-bytes2 .ensures) (c .before .before .before .before .before .before .name-bytes .ensures) (c .before .same-bytes .ensures) in
+    let is = named-test (s .names .now) (rowAt 2 (drop 5376 (s .draft .now)) (c .before .before .before .before .before .loop .b)) (c .before .before .before .added-name .result) (s .from) (s .to) _ _ (c .before .is-same-word .result) (c .before .before .before .added-name .ensures) (c .before .before .name-bytes2 .ensures) (c .before .before .before .before .before .before .name-bytes .ensures) (c .before .is-same-word .ensures) in
     sym (first-here test (c .before .before .before .before .before .loop .b) (s .many) (c .before .before .before .before .loop-test .taken) (is ∙ c .if1 .taken)) ∙ c .before .before .before .before .before .loop .inv .1
 
 loop-again : tie.Need-loop-again Inv-loop μ-loop
 loop-again c =
     let s = c .before .before .before .before .before .before .before .before .before .args in
     let test : ℕ → Bool = λ k. sameWord (nameOfWords (s .names .now) (rowAt 2 (drop 5376 (s .draft .now)) k)) (bytesFrom (s .names .now) (s .from) (s .to)) in
-    let is = named-test (s .names .now) (rowAt 2 (drop 5376 (s .draft .now)) (c .before .before .before .before .before .loop .b)) (c .before .before .before .added-name .result) (s .from) (s .to) _ _ (c .before .same-bytes .result) (c .before .before .before .added-name .ensures) (c .before .before .name-bytes2 .ensures) (c .before .before .before .before .before .before .name-bytes .ensures) (c .before .same-bytes .ensures) in
+    let is = named-test (s .names .now) (rowAt 2 (drop 5376 (s .draft .now)) (c .before .before .before .before .before .loop .b)) (c .before .before .before .added-name .result) (s .from) (s .to) _ _ (c .before .is-same-word .result) (c .before .before .before .added-name .ensures) (c .before .before .name-bytes2 .ensures) (c .before .before .before .before .before .before .name-bytes .ensures) (c .before .is-same-word .ensures) in
     (omega (arith, c .before .before .before .before .loop-test .taken), sym (first-later test (c .before .before .before .before .before .loop .b) (s .many) (c .before .before .before .before .loop-test .taken) (is ∙ c .if1 .left)) ∙ c .before .before .before .before .before .loop .inv .1)
 
 returns-2 : tie.Need-returns-2 Inv-loop μ-loop

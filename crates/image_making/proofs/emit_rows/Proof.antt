@@ -5,10 +5,8 @@ use Rattle.image_making.proofs.emit_rows.Lts as lts
 use Rattle.draft_makings.proofs.emit_one.Reads as emit-one-reads
 use borrow.Author.Needs.{needs}
 use Prim.Native.Nat.{_-_}
-use mathlib.Core.Path.{_≡_, subst}
+use mathlib.Core.Path.{_≡_}
 use native.Mathlib.Omega.{arith}
-use Rattle.node_rows.specs.Makings.{makingsIn}
-use Rattle.image_making.specs.Images.{EmittedUp}
 use Rattle.image_making.proofs.RowsDone.{Done, next-ready, next-past, next-done}
 use Rattle.image_making.proofs.Limits.{none-done}
 
