@@ -43,11 +43,12 @@ use Rattle.draft_makings.specs.Makings.{literalsFit}
 use Rattle.literal_bounds.proofs.Texts.{text-literals-fit}
 use Rattle.image_making.specs.Images.{ImageReady, draftUp, ImageOf, NoImageOf}
 use Rattle.parsing_machine.specs.Answers.{NodesOrFailure, nodesAre, failsThere, nodesFrom, parsedNodes}
+use Rattle.pattern_parsing.specs.Parsing.{NodesParsed}
 use Rattle.reading_passes.specs.Passes.{emittedFrom, readNodes, afterNodes, readInPasses}
 use Rattle.reading_passes.proofs.Passes.{read-in-passes}
 use Rattle.reading_call.specs.declared.PatternRead.{PatternRead}
 use Rattle.reading_call.specs.declared.PatternRead.the-variants.{Image, RefusedAt}
-use Rattle.reading_call.specs.Calls.{NodesRead, TablesRead, ReadsAs}
+use Rattle.reading_call.specs.Calls.{TablesRead, ReadsAs}
 
 -- an image within the limits is at most 34,321 bytes long
 image-few : (sheet : List ℕ) (d : Draft) → sheetHolds sheet ≡ true → withinImageLimits sheet d ≡ true → length (imageWith sheet d) ≤ 34321
@@ -80,7 +81,7 @@ tree-of text nodes e = by (outcome (parsed text)) refl e
     by (failsAt at) r s = absurd (let z : _≡_ {A = ℕ} 1 0 = ap areNodes s in omega arith)
 
 -- behind the pass down
-module _ {sheet names spelled nodes : List ℕ} {n expected : ℕ} {made : List ℕ} {r : Refused} (T : PatternTyped sheet names spelled nodes n expected made r) (text : List ℕ) (N : NodesRead text spelled nodes n) where
+module _ {sheet names spelled nodes : List ℕ} {n expected : ℕ} {made : List ℕ} {r : Refused} (T : PatternTyped sheet names spelled nodes n expected made r) (text : List ℕ) (N : NodesParsed text spelled nodes n) where
   -- number 20
   pub refused-typed : (at : ℕ) (before : List ℕ) → r ≡ Refused.At at →
       ReadsAs (emittedFrom sheet (typeNodes sheet names (nodesIn text spelled nodes n) (typingOf expected))) before (RefusedAt 20 at) before

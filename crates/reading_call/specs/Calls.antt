@@ -9,16 +9,9 @@ use Rattle.image.specs.Tables.{Whole, typeCount}
 use Rattle.row_tables.specs.Rows.{stored}
 use Rattle.type_sheets.specs.Sheets.{sheetHolds}
 use Rattle.name_tables.specs.Names.{namesHold}
-use Rattle.node_rows.specs.Nodes.{nodesIn}
-use Rattle.parsing_machine.specs.Answers.{nodesAre, parsedNodes}
 use Rattle.pattern_reading.specs.Reads.{Answer, imageOf, refusedWith}
 use Rattle.reading_call.specs.declared.PatternRead.{PatternRead}
 use Rattle.reading_call.specs.declared.PatternRead.the-variants.{Image, RefusedAt}
-
--- so many rows are the nodes of a text, with the names that they spell
-pub record NodesRead (text spelled nodes : List ℕ) (n : ℕ) : Type 0 where
-  pub few : n ≤ 16384
-  pub same : nodesAre (nodesIn text spelled nodes n) ≡ parsedNodes text
 
 -- sheet, expected type and name table keep their rules
 pub record TablesRead (sheet : List ℕ) (tables : Tables) (names : List ℕ) (expected : ℕ) : Type 0 where

@@ -15,8 +15,9 @@ use type_sheets::Sheet;
 use type_sheets::read_sheet;
 ghost use Rattle.pattern_typing.specs.Downward.{typeNodes, typingOf};
 ghost use Rattle.node_rows.specs.Nodes.{nodesIn};
+ghost use Rattle.pattern_parsing.specs.Parsing.{NodesParsed};
 ghost use Rattle.reading_passes.specs.Passes.{emittedFrom, readNodes};
-ghost use Rattle.reading_call.specs.Calls.{NodesRead, TablesRead, ReadsAs};
+ghost use Rattle.reading_call.specs.Calls.{TablesRead, ReadsAs};
 
 // Number 20 by the pass down over the nodes, or the image by the pass up, or number 1 for a limit.
 fn read_typed(
@@ -33,7 +34,7 @@ fn read_typed(
     draft: &mut [u16; DRAFT_WORDS],
     image: &mut [u8; IMAGE_BYTES],
 ) -> PatternRead
-    requires { ⌜ TablesRead (now sheet) tables (now names) expected × NodesRead (now text) (now spelled) (now nodes) n ⌝ }
+    requires { ⌜ TablesRead (now sheet) tables (now names) expected × NodesParsed (now text) (now spelled) (now nodes) n ⌝ }
     ensures { λ r. ⌜ ReadsAs (emittedFrom (now (sheet .entry)) (typeNodes (now (sheet .entry)) (now (names .entry)) (nodesIn (now (text .entry)) (now (spelled .entry)) (now (nodes .entry)) n) (typingOf expected))) (now (image .entry)) r (now (image .exit)) ⌝ }
 {
     if let Refused::At(at) = type_nodes(
@@ -61,7 +62,7 @@ pub fn read_nodes(
     draft: &mut [u16; DRAFT_WORDS],
     image: &mut [u8; IMAGE_BYTES],
 ) -> PatternRead
-    requires { ⌜ NodesRead (now text) (now spelled) (now nodes) n ⌝ }
+    requires { ⌜ NodesParsed (now text) (now spelled) (now nodes) n ⌝ }
     ensures { λ r. ⌜ ReadsAs (readNodes (now (sheet .entry)) (now (names .entry)) expected (nodesIn (now (text .entry)) (now (spelled .entry)) (now (nodes .entry)) n)) (now (image .entry)) r (now (image .exit)) ⌝ }
 {
     let Sheet::Tables(tables) = read_sheet(sheet) else {
