@@ -9,7 +9,7 @@ use Rattle.image.specs.Tables.{Whole, typeCount}
 use Rattle.row_tables.specs.Rows.{stored}
 use Rattle.type_sheets.specs.Sheets.{sheetHolds}
 use Rattle.name_tables.specs.Names.{namesHold}
-use Rattle.pattern_reading.specs.Reads.{Answer, imageOf, refusedWith}
+use Rattle.pattern_reading.specs.Reads.{Answer, imageOf, refusedWith, readPattern}
 use Rattle.reading_call.specs.declared.PatternRead.{PatternRead}
 use Rattle.reading_call.specs.declared.PatternRead.the-variants.{Image, RefusedAt}
 
@@ -25,3 +25,7 @@ pub record TablesRead (sheet : List ℕ) (tables : Tables) (names : List ℕ) (e
 abbrev pub ReadsAs : Answer → List ℕ → PatternRead → List ℕ → Type 0
 ReadsAs (imageOf bytes) before r after = (r ≡ Image (length bytes)) × (length bytes ≤ 34321) × (after ≡ stored before 0 bytes)
 ReadsAs (refusedWith number at) before r after = (r ≡ RefusedAt number at) × (after ≡ before)
+
+-- the call on a text, a sheet, a name table and an expected type
+pub record PatternReads (text sheet names : List ℕ) (expected : ℕ) (before : List ℕ) (r : PatternRead) (after : List ℕ) : Type 0 where
+  pub shows : ReadsAs (readPattern text sheet names expected) before r after

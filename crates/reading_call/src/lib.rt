@@ -11,8 +11,7 @@ use node_typing::WAITING_WORDS;
 use pattern_parsing::Parsed;
 use pattern_parsing::parse_pattern;
 use spelled_names::NAME_BYTES;
-ghost use Rattle.pattern_reading.specs.Reads.{readPattern};
-ghost use Rattle.reading_call.specs.Calls.{ReadsAs};
+ghost use Rattle.reading_call.specs.Calls.{PatternReads};
 
 // The image's length, or a refusal's number and position.
 pub enum PatternRead {
@@ -34,7 +33,7 @@ pub fn read_pattern(
     draft: &mut [u16; DRAFT_WORDS],
     image: &mut [u8; IMAGE_BYTES],
 ) -> PatternRead
-    ensures { λ r. ⌜ ReadsAs (readPattern (now (text .entry)) (now (sheet .entry)) (now (names .entry)) expected) (now (image .entry)) r (now (image .exit)) ⌝ }
+    ensures { λ r. ⌜ PatternReads (now (text .entry)) (now (sheet .entry)) (now (names .entry)) expected (now (image .entry)) r (now (image .exit)) ⌝ }
 {
     match parse_pattern(text, nodes, stack, spelled) {
         Parsed::FailsAt(at) => PatternRead::RefusedAt(19, at),

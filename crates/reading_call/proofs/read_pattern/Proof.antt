@@ -20,10 +20,10 @@ read-nodes-requires : tie.Need-read-nodes-requires
 read-nodes-requires c κs = rw (c .before .before .before .before .before .before .before .before .n .given .1) at (c .before .before .before .before .before .before .before .before .before .before .parse-pattern .ensures)
 
 returns : tie.Need-returns
-returns c = text-fails _ _ _ _ _ _ (rw (c .before .at .given .1) at (c .before .before .before .parse-pattern .ensures))
+returns c = record { shows = text-fails _ _ _ _ _ _ (rw (c .before .at .given .1) at (c .before .before .before .parse-pattern .ensures)) }
 
 returns-2 : tie.Need-returns-2
-returns-2 c = text-read _ _ _ _ _ _ _ _ ((rw (c .before .before .before .before .before .before .before .before .before .n .given .1) at (c .before .before .before .before .before .before .before .before .before .before .before .parse-pattern .ensures)) .same) (c .read-nodes .ensures)
+returns-2 c = record { shows = text-read _ _ _ _ _ _ _ _ ((rw (c .before .before .before .before .before .before .before .before .before .n .given .1) at (c .before .before .before .before .before .before .before .before .before .before .before .parse-pattern .ensures)) .same) (c .read-nodes .ensures) }
 
 pub read-pattern-spec : {M : Type 1} → statement M
 read-pattern-spec =
