@@ -15,17 +15,17 @@ use spelled_names::NAME_BYTES;
 use stored_records::Entry;
 use stored_records::next_bytes;
 use stored_records::next_number;
-ghost use Prim.Native.Nat.{_*_, _≤_, _<_};
+ghost use mathlib.Core.Path.{_≡_};
+ghost use Prim.Native.Nat.{_*_, _≤_};
 ghost use lib.ListN.{length};
 
-// A digit of four bits.
-fn hex_digit(value: u8) -> u8
-    requires { ⌜ value < 16 ⌝ }
-{
-    if value < 10 {
-        return b'0' + value;
+// The digit of the lower four bits.
+fn hex_digit(value: u8) -> u8 {
+    let low = value % 16;
+    if low < 10 {
+        return b'0' + low;
     }
-    b'a' + (value - 10)
+    b'a' + (low - 10)
 }
 
 // The first bytes in hexadecimal, two digits each.
@@ -35,13 +35,13 @@ fn put_hex(bytes: &[u8], count: usize, out: &mut [u8])
     let mut i = 0;
     while i < count {
         out[2 * i] = hex_digit(bytes[i] / 16);
-        out[2 * i + 1] = hex_digit(bytes[i] % 16);
+        out[2 * i + 1] = hex_digit(bytes[i]);
         i += 1;
     }
 }
 
 fn print_image(image: &[u8], count: usize)
-    requires { ⌜ (count ≤ length (now image)) × (count ≤ 34321) ⌝ }
+    requires { ⌜ (count ≤ 34321) × (length (now image) ≡ 34321) ⌝ }
 {
     let mut digits = [0u8; 68642];
     put_hex(image, count, &mut digits);
