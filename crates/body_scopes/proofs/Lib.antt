@@ -1,0 +1,4 @@
+pub mod Making
+pub mod Departing
+pub mod Emptying
+pub mod Closing
