@@ -1,0 +1,3 @@
+pub mod RowWords
+pub mod Emptying
+pub mod Replying
