@@ -1,3 +1,5 @@
 pub mod RowWords
 pub mod Emptying
+pub mod Naming
 pub mod Replying
+pub mod Dropping

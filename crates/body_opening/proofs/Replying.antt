@@ -5,27 +5,30 @@ use mathlib.Core.Bool.{Bool, true, false}
 use mathlib.Core.Option.{none, some}
 use mathlib.Core.List.{List, [], _∷_, _++_}
 use native.Mathlib.Omega.{arith}
+use borrow.Author.Tests.{le-leb}
 use Rattle.refusals.specs.declared.MirLowerError.{MirLowerError}
 use Rattle.refusals.specs.Refusals.{noPattern, breaksARule, namesNothing, refusalAt, Result, ok, refused}
 use Rattle.image.specs.declared.Tables.{Tables}
-use Rattle.image.proofs.Bools.{and-false-right, all-true-at}
+use Rattle.image.specs.Lists.{allTrue}
+use Rattle.image.proofs.Bools.{and-false-right}
 use Rattle.row_tables.specs.Rows.{rowAt, rowsOf}
 use Rattle.mir.specs.declared.Counts.{Counts}
 use Rattle.state.specs.State.{Body, decode, encode, countsOf}
 use Rattle.state.specs.Contracts.{Ready, Kept}
-use Rattle.check_body.specs.Bodies.{countsWithin, bodyHolds}
+use Rattle.check_body.specs.Bodies.{countsWithin}
 use Rattle.lower_calls.specs.declared.opening.Opened.{Opened}
 use Rattle.lower_calls.specs.Calls.{badImage, badCall, stepped, bodyTaken, call, openedOf}
-use Rattle.lower_calls.specs.Sizes.{Sized, Taken}
+use Rattle.lower_calls.specs.Sizes.{Sized}
 use Rattle.lower_calls.proofs.Clearing.{clears, held, counted}
 use Rattle.lower_calls.proofs.Prologue.{not-valid, not-taken, taken}
 use Rattle.lower_calls.proofs.Restoring.{kept-below}
 use Rattle.body_opening.specs.Promises.{Way, Gives}
 
--- the counts of a body that is taken are within the limits
-pub taken-counts : {image : List ℕ} {tables : Tables} (b : Body) (c : Counts) → Taken image tables b c → countsWithin c ≡ true
-unfolding bodyHolds
-taken-counts b c T = all-true-at _ 1 (T .body)
+-- counts that fit the tables are within the limits
+pub few-counts : (b : Body) (c : Counts) → Sized b c → countsWithin c ≡ true
+unfolding countsWithin allTrue
+few-counts b c S =
+    rw (le-leb _ _ (S .block-count), le-leb _ _ (S .statement-count), le-leb _ _ (S .local-count), le-leb _ _ (S .scope-count), le-leb _ _ (S .entry-count)) refl
 
 -- a call whose own numbers are `names`, and whose step gives `step`
 module _ {A R : Type 0} {way : Way A R} {b : Body} {c : Counts} (image : List ℕ) (names : Bool) (step : Result A) where

@@ -20,16 +20,14 @@ ghost use Prim.Native.Nat.{_<_, _≤_};
 ghost use lib.Dec.{ltb};
 ghost use lib.ListN.{length, getD};
 ghost use Rattle.image.specs.Tables.{Whole};
-ghost use Rattle.state.specs.Steps.{tryScope};
 ghost use Rattle.drop_scopes.specs.Dropping.{dropUntilScope, popAndDrop};
 ghost use Rattle.drop_scopes.specs.Promises.{Pops, EntriesNamed, ScopesNamed};
 ghost use Rattle.body_tables.specs.Layout.{bodyWords, bodyOf};
-ghost use Rattle.body_tables.specs.Promises.{Adds};
-ghost use Rattle.body_scopes.specs.Promises.{Leaves, Closes, Closed};
+ghost use Rattle.body_scopes.specs.Promises.{Leaves, Opens, Closes, Closed};
 
 // A new scope, with no entry.
 pub fn push_drop_scope(body: &mut [u16; BODY_WORDS], counts: Counts) -> Stepped
-    ensures { λ r. ⌜ Adds (λ st. tryScope st) counts (bodyOf (now (body .entry))) r (bodyOf (now (body .exit))) ⌝ }
+    ensures { λ r. ⌜ Opens counts (bodyOf (now (body .entry))) r (bodyOf (now (body .exit))) ⌝ }
 {
     match push_scope(body, counts) {
         Counted::Full => Stepped::Refused(MirLowerError::Limit),
