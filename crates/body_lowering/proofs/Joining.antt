@@ -20,7 +20,7 @@ use Rattle.state.proofs.Calls.{block-number}
 use Rattle.lower.specs.declared.merging.Merged.{Merged}
 use Rattle.lower.specs.declared.merging.OptBlock.{OptBlock}
 use Rattle.lower.specs.Merging.{setGoto, mergeBlocks, mergedAt}
-use Rattle.body_tables.specs.Layout.{withBlocks}
+use Rattle.body_tables.specs.Layout.{blockWidth, withBlocks}
 use Rattle.body_lowering.specs.Promises.{Merges}
 use Rattle.body_tables.proofs.Building.{block-made, terminator-set}
 
@@ -48,7 +48,7 @@ module _ (c : Counts) (b₀ : Body) where
     }
 
     module _ {c₁ : Counts} {m : BasicBlockId} {b₁ b₂ : Body} (a-there : a .0 < c .blocks) (b-there : b .0 < c .blocks) (is : NewBlock.Block c₁ m ≡ newBlock c)
-        (first : b₁ ≡ withBlocks b₀ (stored (b₀ .blocks) (12 * a .0) (termRow (Terminator.Goto m)))) (second : b₂ ≡ withBlocks b₁ (stored (b₁ .blocks) (12 * b .0) (termRow (Terminator.Goto m)))) where
+        (first : b₁ ≡ withBlocks b₀ (stored (b₀ .blocks) (blockWidth * a .0) (termRow (Terminator.Goto m)))) (second : b₂ ≡ withBlocks b₁ (stored (b₁ .blocks) (blockWidth * b .0) (termRow (Terminator.Goto m)))) where
       module _ (R : Ready b₀ c) where
         -- the new block
         made : Answers b₀ c 0 b₀ (some c₁) (ok (decode b₀ c₁)) (tryBlock (decode b₀ c))

@@ -17,7 +17,7 @@ use Rattle.lower_calls.specs.Calls.{stepped}
 use Rattle.lower_calls.specs.Sizes.{Sized}
 use Rattle.lower_calls.proofs.Clearing.{Cleared, counted}
 use Rattle.lower_calls.proofs.Restoring.{put-back}
-use Rattle.body_tables.specs.Layout.{withBlocks}
+use Rattle.body_tables.specs.Layout.{blockWidth, blockWords, withBlocks}
 use Rattle.body_opening.specs.Promises.{Gives}
 use Rattle.body_opening.specs.Ways.{dropWay}
 use Rattle.body_opening.proofs.Replying.{accepted, not-accepted}
@@ -32,10 +32,10 @@ module _ (defined : State → Result At) {b b₁ : Body} {c : Counts} {block : B
 
   -- a refusal: b₂ is the body behind the step, and the row of the block is put back
   pub not-dropped : {err : MirLowerError} {row : List ℕ} {b₂ b₃ b₄ : Body} → Sized b c → Pops defined c block b₁ (AtBlock.Refused err) b₂ → block .0 < c .blocks →
-      row ≡ rowAt 12 (b₁ .blocks) (block .0) → b₃ ≡ withBlocks b₂ (stored (b₂ .blocks) (12 * block .0) row) → b₄ ≡ encode (decode b₃ c) → length (b₂ .blocks) ≡ 6144 →
+      row ≡ rowAt blockWidth (b₁ .blocks) (block .0) → b₃ ≡ withBlocks b₂ (stored (b₂ .blocks) (blockWidth * block .0) row) → b₄ ≡ encode (decode b₃ c) → length (b₂ .blocks) ≡ blockWords →
       Gives dropWay b c (stepped (defined (decode b c))) (DropCall.Refused err) b₄
   not-dropped {err = err} {b₂ = b₂} S P h row back is long =
       let R = C .ready in
       let rest = put-back c (block .0) b₁ b₂ h (R .block-count) (R .blocks) long (P .kept R refl) in
-      let at = back ∙ ap (λ r. withBlocks b₂ (stored (b₂ .blocks) (12 * block .0) r)) row in
+      let at = back ∙ ap (λ r. withBlocks b₂ (stored (b₂ .blocks) (blockWidth * block .0) r)) row in
       not-accepted err S (P .says R ∙ ap defined (C .same)) (is ∙ ap (λ x. encode (decode x c)) at ∙ ap encode (rest ∙ C .same)) refl refl

@@ -23,6 +23,7 @@ use Rattle.lower_calls.proofs.Clearing.{clears, held, counted}
 use Rattle.lower_calls.proofs.Prologue.{not-valid, not-taken, taken}
 use Rattle.lower_calls.proofs.Restoring.{kept-below}
 use Rattle.body_opening.specs.Promises.{Way, Gives}
+use Rattle.body_tables.specs.Layout.{blockWidth}
 
 -- counts that fit the tables are within the limits
 pub few-counts : (b : Body) (c : Counts) → Sized b c → countsWithin c ≡ true
@@ -88,4 +89,4 @@ rows-each w t s (suc n) e = ap₂ (λ (rows : List (List ℕ)) (row : List ℕ).
 
 -- where no block's terminator was set, all that lies below the counts is as found
 pub all-below : (c : Counts) (b b₂ : Body) → Kept c (c .blocks) b b₂ → decode b₂ c ≡ decode b c
-all-below c b b₂ K = kept-below c (c .blocks) b b₂ (b₂ .blocks) K (rows-each 12 (b₂ .blocks) (b .blocks) (c .blocks) (λ i h. K .blocks i h (λ e. omega arith)))
+all-below c b b₂ K = kept-below c (c .blocks) b b₂ (b₂ .blocks) K (rows-each blockWidth (b₂ .blocks) (b .blocks) (c .blocks) (λ i h. K .blocks i h (λ e. omega arith)))

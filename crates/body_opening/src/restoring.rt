@@ -7,11 +7,11 @@ ghost use mathlib.Core.Path.{_≡_};
 ghost use Prim.Native.Nat.{_*_, _<_};
 ghost use lib.ListN.{length};
 ghost use Rattle.row_tables.specs.Rows.{rowAt, stored};
-ghost use Rattle.body_tables.specs.Layout.{bodyWords, blockWidth, bodyOf, withBlocks};
+ghost use Rattle.body_tables.specs.Layout.{bodyWords, blockWords, blockWidth, bodyOf, withBlocks};
 
 // The row of a block, in the table of the blocks.
 fn row_of(blocks: &[u16], b: BasicBlockId) -> [u16; 12]
-    requires { ⌜ (length (now blocks) ≡ 6144) × (b .0 < 512) ⌝ }
+    requires { ⌜ (length (now blocks) ≡ blockWords) × (b .0 < 512) ⌝ }
     ensures { λ r. ⌜ r ≡ rowAt blockWidth (now (blocks .entry)) (b .0) ⌝ }
 {
     let at = BLOCK_WIDTH * (b.0 as usize);
@@ -41,7 +41,7 @@ pub fn block_row(body: &[u16], b: BasicBlockId) -> [u16; 12]
 
 // The row of a block as it was, in the table of the blocks.
 fn store_at(blocks: &mut [u16], b: BasicBlockId, row: [u16; 12])
-    requires { ⌜ (length (now blocks) ≡ 6144) × (b .0 < 512) ⌝ }
+    requires { ⌜ (length (now blocks) ≡ blockWords) × (b .0 < 512) ⌝ }
     ensures { λ _. ⌜ now (blocks .exit) ≡ stored (now (blocks .entry)) (blockWidth * b .0) row ⌝ }
 {
     store_row(blocks, BLOCK_WIDTH * (b.0 as usize), &row);

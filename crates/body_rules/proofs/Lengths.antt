@@ -12,13 +12,13 @@ use Rattle.image.proofs.Bools.{one-false}
 use Rattle.mir.specs.declared.Counts.{Counts}
 use Rattle.state.specs.State.{Body}
 use Rattle.check_body.specs.Bodies.{tablesSized, countsWithin, bodyHolds}
-use Rattle.body_tables.specs.Layout.{bodyWords, bodyOf}
+use Rattle.body_tables.specs.Layout.{bodyWords, blockWords, statementWords, statementsAt, localsAt, scopesAt, entriesAt, bodyOf}
 use Rattle.body_rules.specs.Rules.{holds}
 
 -- the lengths of the five tables
 pub record Lengths (b : Body) : Type 0 where
-  pub blocks : length (b .blocks) ≡ 6144
-  pub statements : length (b .statements) ≡ 50176
+  pub blocks : length (b .blocks) ≡ blockWords
+  pub statements : length (b .statements) ≡ statementWords
   pub locals : length (b .locals) ≡ 512
   pub scopes : length (b .scopes) ≡ 32
   pub entries : length (b .entries) ≡ 1024
@@ -27,11 +27,11 @@ pub lengths-of : (w : List ℕ) → length w ≡ bodyWords → Lengths (bodyOf w
 unfolding bodyOf
 lengths-of w size =
     record {
-      blocks = mid-len 0 6144 w (omega arith);
-      statements = mid-len 6144 56320 w (omega arith);
-      locals = mid-len 56320 56832 w (omega arith);
-      scopes = mid-len 56832 56864 w (omega arith);
-      entries = mid-len 56864 57888 w (omega arith);
+      blocks = mid-len 0 statementsAt w (omega arith);
+      statements = mid-len statementsAt localsAt w (omega arith);
+      locals = mid-len localsAt scopesAt w (omega arith);
+      scopes = mid-len scopesAt entriesAt w (omega arith);
+      entries = mid-len entriesAt bodyWords w (omega arith);
     }
 
 -- so that the test of their sizes holds

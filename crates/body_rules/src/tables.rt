@@ -10,9 +10,10 @@ ghost use Prim.Native.Nat.{_≤_};
 ghost use lib.ListN.{length};
 ghost use Rattle.image.specs.Lists.{allBelow};
 ghost use Rattle.check_body.specs.Bodies.{blockHolds, statementHolds, localHolds, scopeHolds, entryHolds};
+ghost use Rattle.body_tables.specs.Layout.{blockWords, statementWords};
 
 pub fn blocks_hold(blocks: &[u16], counts: Counts) -> bool
-    requires { ⌜ (length (now blocks) ≡ 6144) × (counts .blocks ≤ 512) ⌝ }
+    requires { ⌜ (length (now blocks) ≡ blockWords) × (counts .blocks ≤ 512) ⌝ }
     ensures { λ r. ⌜ r ≡ allBelow (blockHolds (now (blocks .entry)) counts) (counts .blocks) ⌝ }
 {
     let mut i = 0u16;
@@ -26,7 +27,7 @@ pub fn blocks_hold(blocks: &[u16], counts: Counts) -> bool
 }
 
 pub fn statements_hold(types: u16, variants: u16, statements: &[u16], counts: Counts) -> bool
-    requires { ⌜ (length (now statements) ≡ 50176) × (counts .statements ≤ 1024) ⌝ }
+    requires { ⌜ (length (now statements) ≡ statementWords) × (counts .statements ≤ 1024) ⌝ }
     ensures { λ r. ⌜ r ≡ allBelow (statementHolds types variants (now (statements .entry)) counts) (counts .statements) ⌝ }
 {
     let mut i = 0u16;

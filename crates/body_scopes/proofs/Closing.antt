@@ -27,7 +27,7 @@ use Rattle.state.proofs.Stepping.{ready-scopes, ready-entries}
 use Rattle.drop_scopes.specs.declared.leaving.AtBlock.{AtBlock}
 use Rattle.drop_scopes.specs.Dropping.{At, leaveAll, lastFirst, entriesFrom, dropUntilScope, popAndDrop, popAssumeDropped}
 use Rattle.drop_scopes.specs.Promises.{ScopesNamed, Pops}
-use Rattle.body_tables.specs.Layout.{withScopes, withEntries}
+use Rattle.body_tables.specs.Layout.{blockWidth, statementWidth, withScopes, withEntries}
 use Rattle.body_scopes.specs.Promises.{Beside, Leaves, Closed, Closes}
 use Rattle.body_scopes.proofs.Emptying.{blank-last, blank-emptied}
 use Rattle.body_scopes.proofs.Departing.{beside-refl}
@@ -166,7 +166,7 @@ module _ (b : Body) (c : Counts) where
         let entries-left : take start (stored (b .entries) start row) ≡ take (scopeStart (decode b c) (length (take n (b .scopes)) - 1)) (take m (b .entries)) =
         before-stored (b .entries) start row start (le-refl start) (omega (arith, R .entries, R .entry-count))
         ∙ sym (ap (λ (k : ℕ). take k (take m (b .entries))) (ap (λ (k : ℕ). scopeStart (decode b c) (k - 1)) (scope-count b c R) ∙ sym last ∙ sym is) ∙ take-take start m (b .entries) le) in
-        λ i. record { blocks = rowsOf 12 (b .blocks) (c .blocks); statements = rowsOf 49 (b .statements) (c .statements); locals = take (c .locals) (b .locals); scopes = scopes-left i; entries = entries-left i }
+        λ i. record { blocks = rowsOf blockWidth (b .blocks) (c .blocks); statements = rowsOf statementWidth (b .statements) (c .statements); locals = take (c .locals) (b .locals); scopes = scopes-left i; entries = entries-left i }
 
     -- it is ready for the next step
     closed-goes : Ready b c → Ready (without start) (fewer start)

@@ -29,7 +29,7 @@ use Rattle.state.proofs.Answering.{grown-refl, grown-trans, kept-refl, kept-tra
 use Rattle.drop_scopes.specs.declared.leaving.AtBlock.{AtBlock}
 use Rattle.drop_scopes.specs.Dropping.{At, isCopy, markDead, emitDropAndStorageDead, leaveAll, lastFirst}
 use Rattle.drop_scopes.specs.Promises.{LeftAt}
-use Rattle.body_tables.specs.Layout.{withBlocks, withStatements}
+use Rattle.body_tables.specs.Layout.{blockWidth, withBlocks, withStatements}
 use Rattle.body_tables.proofs.Building.{block-made, statement-made, terminator-set}
 use Rattle.body_scopes.specs.Promises.{Beside, Leaves}
 use Rattle.body_scopes.proofs.Making.{made-block, no-block, made-statement}
@@ -120,7 +120,7 @@ module _ (image : List ℕ) (c : Counts) (block : BasicBlockId) (l : LocalId) (b
 
   -- one that is not, and is dropped
   pub drop-leaves : {c₁ : Counts} {next : BasicBlockId} {r : AtBlock} {b₁ b : Body} → isCopy image (getD (b₀ .locals) (l .0) 0) ≡ false → block .0 < c .blocks → NewBlock.Block c₁ next ≡ newBlock c →
-      b₁ ≡ withBlocks b₀ (stored (b₀ .blocks) (12 * block .0) (termRow (Terminator.Drop l next))) → Leaves (λ st. markDead st next l) c₁ next b₁ r b →
+      b₁ ≡ withBlocks b₀ (stored (b₀ .blocks) (blockWidth * block .0) (termRow (Terminator.Drop l next))) → Leaves (λ st. markDead st next l) c₁ next b₁ r b →
       Leaves (λ st. emitDropAndStorageDead image st block l) c block b₀ r b
   unfolding emitDropAndStorageDead
   drop-leaves {c₁ = c₁} {next = next} {r = r} {b₁ = b₁} {b = b} moves h made is D =

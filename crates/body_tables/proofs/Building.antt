@@ -21,7 +21,7 @@ use Rattle.state.specs.State.{Body, decode}
 use Rattle.state.specs.Steps.{setTerminator, tryBlock, tryStatement, tryLocal, tryScope, tryEntry}
 use Rattle.state.specs.Contracts.{Ready, Answers}
 use Rattle.state.proofs.Calls.{countedCounts, countedResult, blockCounts, blockResult, localCounts, localResult, new-block-answers, push-statement-answers, new-local-answers, push-scope-answers, push-entry-answers, set-answers}
-use Rattle.body_tables.specs.Layout.{withBlocks, withStatements, withLocals, withScopes, withEntries}
+use Rattle.body_tables.specs.Layout.{blockWidth, statementWidth, withBlocks, withStatements, withLocals, withScopes, withEntries}
 
 -- the body b, and its counts c
 module _ (b : Body) (c : Counts) where
@@ -51,14 +51,14 @@ module _ (b : Body) (c : Counts) where
       (push-entry-answers (b .blocks) (b .statements) (b .locals) (b .scopes) (b .entries) c current l is refl R)
 
   -- each leaf that pushes a statement
-  pub statement-made : (current : ℕ) (row : List ℕ) {r : Counted} {b₁ : Body} → length row ≡ 49 → r ≡ newStatement c → b₁ ≡ withStatements b (statementsAfter c (b .statements) row) → Ready b c →
+  pub statement-made : (current : ℕ) (row : List ℕ) {r : Counted} {b₁ : Body} → length row ≡ statementWidth → r ≡ newStatement c → b₁ ≡ withStatements b (statementsAfter c (b .statements) row) → Ready b c →
       Answers b c current b₁ (countedCounts r) (countedResult r b₁) (tryStatement (decode b c) row)
   statement-made current row {r = r} long is after R =
       subst (λ x. Answers b c current x (countedCounts r) (countedResult r x) (tryStatement (decode b c) row)) (sym after)
       (push-statement-answers (b .blocks) (b .statements) (b .locals) (b .scopes) (b .entries) c current row long is refl R)
 
   -- `set_terminator`, and `set_goto`
-  pub terminator-set : (k : BasicBlockId) (t : Terminator) {b₁ : Body} → b₁ ≡ withBlocks b (stored (b .blocks) (12 * k .0) (termRow t)) → k .0 < c .blocks → Ready b c →
+  pub terminator-set : (k : BasicBlockId) (t : Terminator) {b₁ : Body} → b₁ ≡ withBlocks b (stored (b .blocks) (blockWidth * k .0) (termRow t)) → k .0 < c .blocks → Ready b c →
       Answers b c (k .0) b₁ (some c) (ok (decode b₁ c)) (ok (setTerminator (decode b c) k t))
   terminator-set k t after h R =
       subst (λ x. Answers b c (k .0) x (some c) (ok (decode x c)) (ok (setTerminator (decode b c) k t))) (sym after)

@@ -9,7 +9,7 @@ use lib.Seq.{length-take-le, take-nil, take-at, drop-at, drop-drop, getD-take}
 use borrow.Rule.Slice.PartMut.{midOf, postOf, putMid, take-put, drop-put, mid-len}
 use Rattle.row_tables.proofs.Tables.{take-less}
 use Rattle.state.specs.State.{body}
-use Rattle.body_tables.specs.Layout.{bodyWords, bodyOf, withBlocks, withStatements, withLocals, withScopes, withEntries}
+use Rattle.body_tables.specs.Layout.{bodyWords, blockWords, statementWords, statementsAt, localsAt, scopesAt, entriesAt, bodyOf, withBlocks, withStatements, withLocals, withScopes, withEntries}
 
 take-drop : (n m : ℕ) (l : List ℕ) → take m (drop n l) ≡ drop n (take (n + m) l)
 take-drop zero m l = ap (λ (k : ℕ). take k l) (sym (zero-add m))
@@ -49,35 +49,35 @@ module _ (w t : List ℕ) (a e : ℕ) (h : a ≤ e) (fits : e ≤ length w) (lon
 
 -- another table in the place of each: what a call gives that was lent its part
 module _ (w : List ℕ) (size : length w ≡ bodyWords) {t u : List ℕ} (is : t ≡ u) where
-  pub put-blocks : length t ≡ 6144 → bodyOf (putMid 0 6144 w t) ≡ withBlocks (bodyOf w) u
+  pub put-blocks : length t ≡ blockWords → bodyOf (putMid 0 blockWords w t) ≡ withBlocks (bodyOf w) u
   unfolding bodyOf
   put-blocks long =
-      let behind = part-behind w t 0 6144 (omega arith) (omega arith) long in
-      λ i. body ((part-in w t 0 6144 (omega arith) (omega arith) long ∙ is) i) (behind 6144 50176 (omega arith) i) (behind 56320 512 (omega arith) i) (behind 56832 32 (omega arith) i) (behind 56864 1024 (omega arith) i)
+      let behind = part-behind w t 0 statementsAt (omega arith) (omega arith) long in
+      λ i. body ((part-in w t 0 statementsAt (omega arith) (omega arith) long ∙ is) i) (behind statementsAt statementWords (omega arith) i) (behind localsAt 512 (omega arith) i) (behind scopesAt 32 (omega arith) i) (behind entriesAt 1024 (omega arith) i)
 
-  pub put-statements : length t ≡ 50176 → bodyOf (putMid 6144 50176 w t) ≡ withStatements (bodyOf w) u
+  pub put-statements : length t ≡ statementWords → bodyOf (putMid statementsAt statementWords w t) ≡ withStatements (bodyOf w) u
   unfolding bodyOf
   put-statements long =
-      let before = part-before w t 6144 56320 (omega arith) (omega arith) long in
-      let behind = part-behind w t 6144 56320 (omega arith) (omega arith) long in
-      λ i. body (before 0 6144 (omega arith) i) ((part-in w t 6144 56320 (omega arith) (omega arith) long ∙ is) i) (behind 56320 512 (omega arith) i) (behind 56832 32 (omega arith) i) (behind 56864 1024 (omega arith) i)
+      let before = part-before w t statementsAt localsAt (omega arith) (omega arith) long in
+      let behind = part-behind w t statementsAt localsAt (omega arith) (omega arith) long in
+      λ i. body (before 0 blockWords (omega arith) i) ((part-in w t statementsAt localsAt (omega arith) (omega arith) long ∙ is) i) (behind localsAt 512 (omega arith) i) (behind scopesAt 32 (omega arith) i) (behind entriesAt 1024 (omega arith) i)
 
-  pub put-locals : length t ≡ 512 → bodyOf (putMid 56320 512 w t) ≡ withLocals (bodyOf w) u
+  pub put-locals : length t ≡ 512 → bodyOf (putMid localsAt 512 w t) ≡ withLocals (bodyOf w) u
   unfolding bodyOf
   put-locals long =
-      let before = part-before w t 56320 56832 (omega arith) (omega arith) long in
-      let behind = part-behind w t 56320 56832 (omega arith) (omega arith) long in
-      λ i. body (before 0 6144 (omega arith) i) (before 6144 50176 (omega arith) i) ((part-in w t 56320 56832 (omega arith) (omega arith) long ∙ is) i) (behind 56832 32 (omega arith) i) (behind 56864 1024 (omega arith) i)
+      let before = part-before w t localsAt scopesAt (omega arith) (omega arith) long in
+      let behind = part-behind w t localsAt scopesAt (omega arith) (omega arith) long in
+      λ i. body (before 0 blockWords (omega arith) i) (before statementsAt statementWords (omega arith) i) ((part-in w t localsAt scopesAt (omega arith) (omega arith) long ∙ is) i) (behind scopesAt 32 (omega arith) i) (behind entriesAt 1024 (omega arith) i)
 
-  pub put-scopes : length t ≡ 32 → bodyOf (putMid 56832 32 w t) ≡ withScopes (bodyOf w) u
+  pub put-scopes : length t ≡ 32 → bodyOf (putMid scopesAt 32 w t) ≡ withScopes (bodyOf w) u
   unfolding bodyOf
   put-scopes long =
-      let before = part-before w t 56832 56864 (omega arith) (omega arith) long in
-      let behind = part-behind w t 56832 56864 (omega arith) (omega arith) long in
-      λ i. body (before 0 6144 (omega arith) i) (before 6144 50176 (omega arith) i) (before 56320 512 (omega arith) i) ((part-in w t 56832 56864 (omega arith) (omega arith) long ∙ is) i) (behind 56864 1024 (omega arith) i)
+      let before = part-before w t scopesAt entriesAt (omega arith) (omega arith) long in
+      let behind = part-behind w t scopesAt entriesAt (omega arith) (omega arith) long in
+      λ i. body (before 0 blockWords (omega arith) i) (before statementsAt statementWords (omega arith) i) (before localsAt 512 (omega arith) i) ((part-in w t scopesAt entriesAt (omega arith) (omega arith) long ∙ is) i) (behind entriesAt 1024 (omega arith) i)
 
-  pub put-entries : length t ≡ 1024 → bodyOf (putMid 56864 1024 w t) ≡ withEntries (bodyOf w) u
+  pub put-entries : length t ≡ 1024 → bodyOf (putMid entriesAt 1024 w t) ≡ withEntries (bodyOf w) u
   unfolding bodyOf
   put-entries long =
-      let before = part-before w t 56864 bodyWords (omega arith) (omega arith) long in
-      λ i. body (before 0 6144 (omega arith) i) (before 6144 50176 (omega arith) i) (before 56320 512 (omega arith) i) (before 56832 32 (omega arith) i) ((part-in w t 56864 bodyWords (omega arith) (omega arith) long ∙ is) i)
+      let before = part-before w t entriesAt bodyWords (omega arith) (omega arith) long in
+      λ i. body (before 0 blockWords (omega arith) i) (before statementsAt statementWords (omega arith) i) (before localsAt 512 (omega arith) i) (before scopesAt 32 (omega arith) i) ((part-in w t entriesAt bodyWords (omega arith) (omega arith) long ∙ is) i)

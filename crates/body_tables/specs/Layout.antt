@@ -16,12 +16,19 @@ blockWidth = 12
 abbrev pub statementWidth : ℕ
 statementWidth = 49
 
+-- the words of the tables of blocks and of statements; a local, a scope and an entry have one each
+abbrev pub blockWords : ℕ
+blockWords = blockWidth * blockLimit
+
+abbrev pub statementWords : ℕ
+statementWords = statementWidth * statementLimit
+
 -- where each table begins, that of the blocks at 0, and how many words there are
 abbrev pub statementsAt : ℕ
-statementsAt = blockWidth * blockLimit
+statementsAt = blockWords
 
 abbrev pub localsAt : ℕ
-localsAt = statementsAt + statementWidth * statementLimit
+localsAt = statementsAt + statementWords
 
 abbrev pub scopesAt : ℕ
 scopesAt = localsAt + localLimit
@@ -36,8 +43,8 @@ bodyWords = entriesAt + entryLimit
 unfoldable pub bodyOf : List ℕ → Body
 bodyOf words =
     body
-    (take (blockWidth * blockLimit) (drop 0 words))
-    (take (statementWidth * statementLimit) (drop statementsAt words))
+    (take blockWords (drop 0 words))
+    (take statementWords (drop statementsAt words))
     (take localLimit (drop localsAt words))
     (take scopeLimit (drop scopesAt words))
     (take entryLimit (drop entriesAt words))

@@ -6,7 +6,7 @@ use Rattle.body_tables.proofs.blocks.set_goto.Lts as lts
 use Rattle.mir.proofs.blocks.set_goto.Reads as set-goto-reads
 use native.Mathlib.Omega.{arith}
 use borrow.Rule.Slice.PartMut.{mid-len}
-use Rattle.body_tables.specs.Layout.{bodyOf}
+use Rattle.body_tables.specs.Layout.{statementsAt, bodyOf}
 use Rattle.body_tables.proofs.Regions.{put-blocks}
 
 returns : tie.Need-returns
@@ -15,7 +15,7 @@ returns c =
     let start = c .before .before .before .before .before in
     let call = c .before .before .set-goto in
     let w = start .args .body .now in
-    put-blocks w (start .pre .0) (call .ensures) (omega (arith, call .kept, mid-len 0 6144 w (omega (arith, start .pre .0))))
+    put-blocks w (start .pre .0) (call .ensures) (omega (arith, call .kept, mid-len 0 statementsAt w (omega (arith, start .pre .0))))
 
 pub set-goto-spec : {M : Type 1} → statement M
 set-goto-spec =

@@ -6,7 +6,7 @@ use Rattle.body_tables.proofs.scopes.push_entry.Lts as lts
 use Rattle.mir.proofs.scopes.push_entry.Reads as push-entry-reads
 use native.Mathlib.Omega.{arith}
 use borrow.Rule.Slice.PartMut.{mid-len}
-use Rattle.body_tables.specs.Layout.{bodyOf}
+use Rattle.body_tables.specs.Layout.{bodyWords, entriesAt, bodyOf}
 use Rattle.body_tables.proofs.Regions.{put-entries}
 
 returns : tie.Need-returns
@@ -15,7 +15,7 @@ returns c =
     let start = c .before .before .before .before .before in
     let call = c .before .before .push-entry in
     let w = start .args .body .now in
-    (call .ensures .0, put-entries w (start .pre) (call .ensures .1) (omega (arith, call .kept, mid-len 56864 57888 w (omega (arith, start .pre)))))
+    (call .ensures .0, put-entries w (start .pre) (call .ensures .1) (omega (arith, call .kept, mid-len entriesAt bodyWords w (omega (arith, start .pre)))))
 
 pub push-entry-spec : {M : Type 1} → statement M
 push-entry-spec =
