@@ -3,3 +3,4 @@ pub mod Emptying
 pub mod Naming
 pub mod Replying
 pub mod Dropping
+mod FiveTables
