@@ -24,14 +24,12 @@ fn merge_two(
     requires { ⌜ (counts .blocks ≤ 512) × (a .0 < counts .blocks) × (b .0 < counts .blocks) ⌝ }
     ensures { λ r. ⌜ Merges counts (OptBlock.Some a) (OptBlock.Some b) (bodyOf (now (body .entry))) r (bodyOf (now (body .exit))) ⌝ }
 {
-    match new_basic_block(counts) {
-        NewBlock::Full => Merged::Refused(MirLowerError::Limit),
-        NewBlock::Block(c1, m) => {
-            set_goto(body, a, m);
-            set_goto(body, b, m);
-            Merged::At(c1, OptBlock::Some(m))
-        }
-    }
+    let NewBlock::Block(c1, m) = new_basic_block(counts) else {
+        return Merged::Refused(MirLowerError::Limit);
+    };
+    set_goto(body, a, m);
+    set_goto(body, b, m);
+    Merged::At(c1, OptBlock::Some(m))
 }
 
 // Both go on at a new block; where there is but one, or none, nothing is made.

@@ -89,13 +89,13 @@ fn mark_live(
     if counts.scopes == 0 {
         return Stepped::Refused(MirLowerError::NoScope);
     }
-    match record_unless(body, counts, l, held) {
-        Counted::Full => Stepped::Refused(MirLowerError::Limit),
-        Counted::Now(c1) => match push_live(body, c1, block, l) {
-            Counted::Full => Stepped::Refused(MirLowerError::Limit),
-            Counted::Now(c2) => Stepped::Now(c2),
-        },
-    }
+    let Counted::Now(c1) = record_unless(body, counts, l, held) else {
+        return Stepped::Refused(MirLowerError::Limit);
+    };
+    let Counted::Now(c2) = push_live(body, c1, block, l) else {
+        return Stepped::Refused(MirLowerError::Limit);
+    };
+    Stepped::Now(c2)
 }
 
 // A local, live from the end of a block on: as the last entry of the last scope, unless an open scope holds it.
@@ -126,12 +126,12 @@ pub fn temp(
     if is_slice(image, tables, word) {
         return NewTemp::Refused(MirLowerError::UnsizedTemporary);
     }
-    match new_local(body, counts, word) {
-        NewLocal::Full => NewTemp::Refused(MirLowerError::Limit),
-        NewLocal::Local(c1, l) => match mark_live(body, c1, l, block, false) {
-            Stepped::Refused(e) => NewTemp::Refused(e),
-            Stepped::Now(c2) => NewTemp::Local(c2, l),
-        },
+    let NewLocal::Local(c1, l) = new_local(body, counts, word) else {
+        return NewTemp::Refused(MirLowerError::Limit);
+    };
+    match mark_live(body, c1, l, block, false) {
+        Stepped::Refused(e) => NewTemp::Refused(e),
+        Stepped::Now(c2) => NewTemp::Local(c2, l),
     }
 }
 

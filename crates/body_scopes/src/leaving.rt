@@ -67,13 +67,11 @@ fn emit_drop_and_storage_dead(
     if is_copy(image, tables, word) {
         return mark_dead(body, counts, block, l);
     }
-    match new_basic_block(counts) {
-        NewBlock::Full => AtBlock::Refused(MirLowerError::Limit),
-        NewBlock::Block(c1, next) => {
-            set_terminator(body, block, Terminator::Drop(l, next));
-            mark_dead(body, c1, next, l)
-        }
-    }
+    let NewBlock::Block(c1, next) = new_basic_block(counts) else {
+        return AtBlock::Refused(MirLowerError::Limit);
+    };
+    set_terminator(body, block, Terminator::Drop(l, next));
+    mark_dead(body, c1, next, l)
 }
 
 // The locals of the entries from `start` on, before `end`, leave, the last first.

@@ -1,10 +1,6 @@
 use borrow.Author.Needs.{needs}
 use Rattle.body_lowering.proofs.merging.merge_two.Statement.{statement}
 use Rattle.body_lowering.proofs.merging.merge_two.Tie as tie
-use Rattle.body_lowering.proofs.merging.merge_two.Reads as reads
-use Rattle.body_lowering.proofs.merging.merge_two.Lts as lts
-use Rattle.body_tables.proofs.blocks.set_goto.Reads as set-goto-reads
-use Rattle.mir.proofs.blocks.new_basic_block.Reads as new-basic-block-reads
 use mathlib.Core.Path.{sym, _∙_}
 use Rattle.body_lowering.proofs.Joining.{merge-full, merge-new}
 
@@ -21,7 +17,7 @@ merge-two-spec =
     (λ c κs. search needs)
     (λ c. search needs)
     (λ c. search needs)
-    (λ c κs. search needs)
-    (λ c κs. search needs)
     returns
+    (λ c κs. search needs)
+    (λ c κs. search needs)
     returns-2)

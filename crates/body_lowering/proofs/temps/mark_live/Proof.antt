@@ -1,10 +1,6 @@
 use borrow.Author.Needs.{needs}
 use Rattle.body_lowering.proofs.temps.mark_live.Statement.{statement}
 use Rattle.body_lowering.proofs.temps.mark_live.Tie as tie
-use Rattle.body_lowering.proofs.temps.mark_live.Reads as reads
-use Rattle.body_lowering.proofs.temps.mark_live.Lts as lts
-use Rattle.body_lowering.proofs.temps.record_unless.Reads as record-unless-reads
-use Rattle.body_tables.proofs.statements.push_live.Reads as push-live-reads
 use mathlib.Core.Path.{sym, _∙_}
 use Rattle.body_lowering.proofs.Marking.{live-no-scope, live-no-entry, live-no-statement, live-marked}
 
@@ -28,9 +24,9 @@ mark-live-spec =
     (λ c κs. search needs)
     (λ c. search needs)
     (λ c. search needs)
+    returns-2
     (λ c κs. search needs)
     (λ c. search needs)
     (λ c. search needs)
-    returns-2
     returns-3
     returns-4)

@@ -1,11 +1,6 @@
 use borrow.Author.Needs.{needs}
 use Rattle.body_lowering.proofs.temps.temp.Statement.{statement}
 use Rattle.body_lowering.proofs.temps.temp.Tie as tie
-use Rattle.body_lowering.proofs.temps.temp.Reads as reads
-use Rattle.body_lowering.proofs.temps.temp.Lts as lts
-use Rattle.body_lowering.proofs.temps.is_slice.Reads as is-slice-reads
-use Rattle.body_lowering.proofs.temps.mark_live.Reads as mark-live-reads
-use Rattle.body_tables.proofs.locals.new_local.Reads as new-local-reads
 use mathlib.Core.Path.{sym, _∙_}
 use Rattle.body_lowering.proofs.Temporaries.{temp-slice, temp-no-local, temp-stopped, temp-made}
 
@@ -30,9 +25,9 @@ temp-spec =
     (λ c κs. search needs)
     (λ c. search needs)
     (λ c. search needs)
+    returns-2
     (λ c κs. search needs)
     (λ c. search needs)
     (λ c. search needs)
-    returns-2
     returns-3
     returns-4)
