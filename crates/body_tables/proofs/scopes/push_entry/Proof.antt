@@ -9,6 +9,9 @@ use borrow.Rule.Slice.PartMut.{mid-len}
 use Rattle.body_tables.specs.Layout.{bodyWords, entriesAt, bodyOf}
 use Rattle.body_tables.proofs.Regions.{put-entries}
 
+push-entry-requires : tie.Need-push-entry-requires
+push-entry-requires c κs = mid-len entriesAt bodyWords (c .before .before .args .body .now) (omega (arith, c .before .before .pre))
+
 returns : tie.Need-returns
 unfolding bodyOf
 returns c =
@@ -19,4 +22,4 @@ returns c =
 
 pub push-entry-spec : {M : Type 1} → statement M
 push-entry-spec =
-    tie.close (tie.spec (λ c. search needs) (λ c. search needs) (λ c. search needs) (λ c κs. search needs) (λ c. search needs) returns)
+    tie.close (tie.spec (λ c. search needs) (λ c. search needs) (λ c. search needs) push-entry-requires (λ c. search needs) returns)
