@@ -1,0 +1,4 @@
+pub mod Holding
+pub mod Marking
+pub mod Temporaries
+pub mod Joining

@@ -1,0 +1,29 @@
+// What comes before a call's own step, and behind a refusal, on a body in one table: image and body are looked at, zeros are written above the counts, and what was
+// there is put back.
+pub mod clearing; // clearing.rt: zeros above the counts
+pub mod restoring; // restoring.rt: the row of a block, and the same put back
+
+use body_rules::body_holds;
+use body_tables::BODY_WORDS;
+use lower_calls::opening::Opened;
+use mir::Counts;
+use read_image::Read;
+use read_image::read_image;
+ghost use mathlib.Core.Path.{_≡_};
+ghost use Rattle.lower_calls.specs.Calls.{openedOf};
+ghost use Rattle.body_tables.specs.Layout.{bodyOf};
+
+// Image and body, with its scopes, are taken.
+pub fn open(image: &[u8], body: &[u16; BODY_WORDS], counts: Counts) -> Opened
+    ensures { λ r. ⌜ r ≡ openedOf (now (image .entry)) (bodyOf (now (body .entry))) counts ⌝ }
+{
+    match read_image(image) {
+        Read::Refused => Opened::BadImage,
+        Read::Image(tables) => {
+            if body_holds(tables.types.count, tables.variants.count, body, counts) {
+                return Opened::Image(tables);
+            }
+            Opened::BadCall
+        }
+    }
+}

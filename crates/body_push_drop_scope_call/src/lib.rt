@@ -1,0 +1,39 @@
+// The public call `push_drop_scope`, on a body in one table: every image, body and number is taken, or refused by document 01's number. Numbers 1 and 2 write nothing; any
+// other refusal leaves what lies below the counts as found, and zeros above.
+use body_opening::clearing::clear_above;
+use body_opening::open;
+use body_tables::BODY_WORDS;
+use lower_calls::ScopeCall;
+use lower_calls::opening::Opened;
+use mir::Counts;
+use state::Stepped;
+ghost use Rattle.state.specs.State.{decode};
+ghost use Rattle.state.specs.Steps.{tryScope};
+ghost use Rattle.lower_calls.specs.Calls.{stepped, pushDropScopeCall};
+ghost use Rattle.lower_calls.specs.Sizes.{Sized};
+ghost use Rattle.body_tables.specs.Layout.{bodyOf};
+ghost use Rattle.body_opening.specs.Promises.{Gives};
+ghost use Rattle.body_opening.specs.Ways.{scopeWay};
+
+// The call's own step, on an image and a body that were looked at: zeros are written above the counts first, so that a new row lies among zeros.
+fn push_step(body: &mut [u16; BODY_WORDS], counts: Counts) -> ScopeCall
+    requires { ⌜ Sized (bodyOf (now body)) counts ⌝ }
+    ensures { λ r. ⌜ Gives scopeWay (bodyOf (now (body .entry))) counts (stepped (tryScope (decode (bodyOf (now (body .entry))) counts))) r (bodyOf (now (body .exit))) ⌝ }
+{
+    clear_above(body, counts);
+    match body_scopes::push_drop_scope(body, counts) {
+        Stepped::Now(c1) => ScopeCall::Now(c1),
+        Stepped::Refused(e) => ScopeCall::Refused(e),
+    }
+}
+
+// A new scope, with no entry.
+pub fn push_drop_scope(image: &[u8], body: &mut [u16; BODY_WORDS], counts: Counts) -> ScopeCall
+    ensures { λ r. ⌜ Gives scopeWay (bodyOf (now (body .entry))) counts (pushDropScopeCall (now (image .entry)) (bodyOf (now (body .entry))) counts) r (bodyOf (now (body .exit))) ⌝ }
+{
+    match open(image, body, counts) {
+        Opened::BadImage => ScopeCall::BadImage,
+        Opened::BadCall => ScopeCall::BadCall,
+        Opened::Image(_) => push_step(body, counts),
+    }
+}
