@@ -189,7 +189,6 @@ scalar-calm AtIndex v q = record { calm = refl }
 scalar-calm AtField v q = record { calm = refl }
 scalar-calm AtEtc v q = record { calm = refl }
 
-
 -- every token's is
 token-calm : (text : List ℕ) (s : ReadState) (h : Held) (top : ℕ) (t : Lexeme) → opensCalmly (moveAt text s h top t) ≡ true
 unfolding moveAt

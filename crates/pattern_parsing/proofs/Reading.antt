@@ -223,15 +223,17 @@ module _ {text names : List ℕ} {named : ℕ} {stack nodes : List ℕ} {at : �
       let w = step-within text (parserOf text after stack nodes p) (lexemeOf r) (parts-within text after stack at (p .depth) (P .parts)) .waits in
       let parts = rw (sym (by-token few P r e T M W after (record { same = refl }))) at w in
       let held = held-behind (p .depth) (p .rows) M (W .holds) (calm-behind q W) in
-      let to = ap (λ (s : Spot). s .to) (row-spot r) in
-      (record {
-        so-far = rw same (goes-on (P .so-far) (P .inside) k (M .grows) q S);
-        inside = omega (arith, same, inside .1);
-        weighs = omega (arith, bound, d, n);
-        parts = parts-up (omega (arith, same, inside .0)) (parts-most text after stack′ (suc at) (q .depth) parts);
-        path = held .path;
-        spelled = omega (arith, held .spelled, to);
-      }, omega (arith, same, inside .0))
+      let to = ap (λ (s : Spot). s .to) (row-spot r) in (
+        record {
+          so-far = rw same (goes-on (P .so-far) (P .inside) k (M .grows) q S);
+          inside = omega (arith, same, inside .1);
+          weighs = omega (arith, bound, d, n);
+          parts = parts-up (omega (arith, same, inside .0)) (parts-most text after stack′ (suc at) (q .depth) parts);
+          path = held .path;
+          spelled = omega (arith, held .spelled, to);
+        },
+        omega (arith, same, inside .0),
+      )
     where
       calm-behind : (z : ParseState) → Performed stack nodes (p .depth) (p .rows) made (r .mark) (r .from) stack′ nodes′ (Going z)
           → isHolding (moveOf text after made) ≡ false → not (holdsPath (z .state)) ≡ true

@@ -38,7 +38,17 @@ pub fn read_pattern(
     match parse_pattern(text, nodes, stack, spelled) {
         Parsed::FailsAt(at) => PatternRead::RefusedAt(19, at),
         Parsed::Nodes(n) => read_nodes(
-            text, sheet, names, expected, spelled, nodes, n, waiting, makings, draft, image,
+            text,
+            sheet,
+            names,
+            expected,
+            spelled,
+            nodes,
+            n,
+            waiting,
+            makings,
+            draft,
+            image,
         ),
     }
 }

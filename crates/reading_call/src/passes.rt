@@ -38,7 +38,15 @@ fn read_typed(
     ensures { λ r. ⌜ ReadsAs (emittedFrom (now (sheet .entry)) (typeNodes (now (sheet .entry)) (now (names .entry)) (nodesIn (now (text .entry)) (now (spelled .entry)) (now (nodes .entry)) n) (typingOf expected))) (now (image .entry)) r (now (image .exit)) ⌝ }
 {
     if let Refused::At(at) = type_nodes(
-        sheet, tables, names, spelled, nodes, n, expected, makings, waiting,
+        sheet,
+        tables,
+        names,
+        spelled,
+        nodes,
+        n,
+        expected,
+        makings,
+        waiting,
     ) {
         return PatternRead::RefusedAt(20, at);
     }
@@ -75,6 +83,17 @@ pub fn read_nodes(
         return PatternRead::RefusedAt(2, 65535);
     }
     read_typed(
-        text, sheet, tables, names, expected, spelled, nodes, n, waiting, makings, draft, image,
+        text,
+        sheet,
+        tables,
+        names,
+        expected,
+        spelled,
+        nodes,
+        n,
+        waiting,
+        makings,
+        draft,
+        image,
     )
 }

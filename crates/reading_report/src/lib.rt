@@ -52,8 +52,7 @@ pub fn print_refusal(number: u16, position: u16) {
     if !(io::write_all(STDOUT_FILENO, b"refused")
         && print_number(number)
         && print_number(position)
-        && io::write_all(STDOUT_FILENO, b" 0\n"))
-    {
+        && io::write_all(STDOUT_FILENO, b" 0\n")) {
         tell_write();
     }
 }

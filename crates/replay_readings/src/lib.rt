@@ -65,7 +65,17 @@ fn print_reading(
     image: &mut [u8; IMAGE_BYTES],
 ) {
     match read_pattern(
-        text, sheet, names, expected, spelled, nodes, stack, waiting, makings, draft, image,
+        text,
+        sheet,
+        names,
+        expected,
+        spelled,
+        nodes,
+        stack,
+        waiting,
+        makings,
+        draft,
+        image,
     ) {
         PatternRead::Image(count) => print_image(image, count),
         PatternRead::RefusedAt(number, position) => print_refusal(number, position),
