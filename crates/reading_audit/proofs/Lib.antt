@@ -1,3 +1,4 @@
 pub mod First
 pub mod Told
+pub mod Called
 pub mod Texts

@@ -1,5 +1,5 @@
--- The auditor's page on patterns as text, request S-14: each theorem is a sentence of the request, proved by one citation. What is read is the definition
--- `readPattern`. Assumes nothing.
+-- The auditor's page on patterns as text, request S-14: each theorem is a sentence of the request, proved by one citation. The first speak of the definition
+-- `readPattern`, the last of the call `read_pattern`, by its contract. Assumes nothing.
 use Prim.Native.Nat.{ℕ, _<_}
 use mathlib.Core.Path.{_≡_}
 use mathlib.Core.Bool.{true}
@@ -12,8 +12,13 @@ use Rattle.pattern_grammar.specs.Parsed.{lexemes, parsed}
 use Rattle.pattern_grammar.proofs.Verdicts.{Refused}
 use Rattle.pattern_reading.specs.Reads.{imageOf, refusedWith, readPattern}
 use Rattle.image_growth.specs.Growing.{IsBytes}
+use Rattle.reading_call.specs.declared.PatternRead.{PatternRead}
+use Rattle.reading_call.specs.declared.PatternRead.the-variants.{Image, RefusedAt}
+use Rattle.reading_call.specs.Calls.{PatternReads}
 use Rattle.reading_audit.specs.Texts.{IsRead, FirstPlace}
+use Rattle.reading_audit.specs.Calls.{ImageStands, NothingWritten}
 use Rattle.reading_audit.proofs.Told as told
+use Rattle.reading_audit.proofs.Called.{image-stands, nothing-written}
 
 -- A text, a sheet, a name table and an expected type.
 module _ (text sheet names : List ℕ) (expected : ℕ) where
@@ -38,3 +43,13 @@ module _ (text sheet names : List ℕ) (expected : ℕ) where
   -- "20, the first path or record field .., variant or constant .., or subpattern .., with its position"
   pub a-refusal-by-20-is-at-the-first-place-that-is-refused : (at : ℕ) → readPattern text sheet names expected ≡ refusedWith 20 at → FirstPlace text sheet names expected at
   a-refusal-by-20-is-at-the-first-place-that-is-refused = told.refused-20 text sheet names expected
+
+-- A call on them: the image's bytes before it, its answer, and the bytes behind it.
+module _ (text sheet names : List ℕ) (expected : ℕ) (before : List ℕ) (answer : PatternRead) (after : List ℕ) (called : PatternReads text sheet names expected before answer after) where
+  -- an answer with an image's length: the image that the definition reads stands there
+  pub the-image-read-is-written : (count : ℕ) → answer ≡ Image count → ImageStands text sheet names expected before count after
+  the-image-read-is-written = image-stands text sheet names expected before answer after called
+
+  -- "Refused, writing nothing"
+  pub what-is-refused-writes-nothing : (number at : ℕ) → answer ≡ RefusedAt number at → NothingWritten text sheet names expected before number at after
+  what-is-refused-writes-nothing = nothing-written text sheet names expected before answer after called
