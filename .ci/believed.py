@@ -15,8 +15,9 @@ from functools import cache
 from pathlib import Path
 
 ROOT = Path(__file__).resolve().parent.parent
-# The page by demands: 2 and 3 with parameters, and demand 1 and acceptance beside them.
-PAGE = (("demands 2 and 3, with parameters", ("Audit", "Parameters")), ("all of the page", ("Audit", "Parameters", "Accepting", "Refusing", "Scopes", "Pinned")))
+# The page by demands: 2 and 3 with parameters, and demand 1 and acceptance beside them; and the page on texts, which is another.
+AUDIT = [f"audit/proofs/{name}" for name in ("Audit", "Parameters", "Accepting", "Refusing", "Scopes", "Pinned")]
+PAGE = (("demands 2 and 3, with parameters", AUDIT[:2]), ("all of the page", AUDIT), ("patterns as text", ["reading_audit/proofs/Texts"]))
 # The lowering's definition and the steps that it is made of; of `lower` and `state` the rest is read as tables are.
 LOWERING = re.compile(r"crates/(pattern_matching|literals|drop_scopes)/specs/|crates/(lowered_params/specs/Params|lower/specs/(Temps|Merging)|state/specs/Steps|mir/specs/Rvalues)")
 # `placeTy` and the shape of a place stand among the lowering's files, but are read by the counts and the fit.
@@ -51,7 +52,8 @@ def imports(text, crate):
     named = {}
     for other, module, names in USE.findall(text):
         parts = [part for part in module.split(".") if part and part not in ("specs", "proofs")]
-        path = ROOT / "crates" / other / "specs" / ("/".join(parts) + ".antt")
+        inside = ROOT / "crates" / other
+        path = next((file for folder in ("specs", "proofs") if (file := inside / folder / ("/".join(parts) + ".antt")).is_file()), inside)
         for name in names.split(","):
             own, _, alias = name.strip().partition(" as ")
             if "declared" not in parts:
@@ -99,8 +101,8 @@ def reached(names, through_contracts=True):
     """The definitions that the page's files lead to, the lowering's apart: (file, definition)."""
     believed, lowering, todo = set(), set(), []
     for name in names:
-        path = ROOT / f"crates/audit/proofs/{name}.antt"
-        named = imports(path.read_text(encoding="utf-8"), "audit")
+        path = ROOT / f"crates/{name}.antt"
+        named = imports(path.read_text(encoding="utf-8"), name.split("/")[0])
         todo += [named[word] for word in statements(path) if word in named]
     while todo:
         path, word = todo.pop()

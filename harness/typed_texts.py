@@ -3,8 +3,9 @@ import re
 from collections import Counter
 from pathlib import Path
 
+from fits import Fit
 from images import (
-    ADT, ARRAY, BOOL, CHAR, ENUM, INTEGER, NAMES_CONSTANT, NAMES_VARIANT, PATH, RANGE, REFERENCE, SLICE_TYPE, STR, TUPLE_TYPE, UNION, decode,
+    ADT, ARRAY, BOOL, CHAR, ENUM, INTEGER, NAMES_CONSTANT, NAMES_VARIANT, OR, PATH, RANGE, REFERENCE, SLICE_TYPE, STR, TUPLE_TYPE, UNION, decode,
 )
 from name_tables import CONSTANT_ROW, FIELD_ROW, VARIANT_ROW, name_of, rows
 from reading import reader_of
@@ -110,6 +111,11 @@ class Case:
         """a variant with fields stands as a path"""
         return any(row[0] == PATH and row[3] == NAMES_VARIANT and self.m.variants[row[4]][1] for row in self.m.patterns)
 
+    def has_unreached(self):
+        """an alternative stands behind one that cannot fail: nothing that is refused is reached there"""
+        fit = Fit(self.m, ())
+        return any(not fit.can_fail(q) for row in self.m.patterns if row[0] == OR for q in self.m.list[row[3]:row[3] + row[4] - 1])
+
     def has_union(self):
         return any(self.m.types[row[1]][0] == ADT and self.m.types[row[1]][3] == UNION for row in self.m.patterns)
 
@@ -124,6 +130,7 @@ PARTED = (
     ('a binding by value at a type without a size', lambda c: c.code == 'E0277' and 'size' in c.said),
     ('a constant on a reference, or of another type of its size', lambda c: c.code in ('E0308', 'E0029') and c.has_odd_constant()),
     ('a variant in another form than it is declared in', lambda c: c.code in ('E0532', 'E0164')),
+    ('what stands behind an alternative that always matches, which is not reached', lambda c: c.has_unreached()),
 )
 
 
