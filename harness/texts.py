@@ -41,7 +41,7 @@ LEFT_OUT = {
     'a macro': rb'!',
     'generic arguments or a qualified path': rb'<|>|::',
     '`self`, `Self`, `super`, `crate`': rb'(?:self|Self|super|crate)\b',
-    'a name that is not ASCII': rb'[\x80-\xff]',
+    'a name that is not ASCII': rb'[A-Za-z0-9_]*[\x80-\xff]',
     'an attribute, as a doc comment is one': rb'#|//[/!]|/\*[*!]',
 }
 
