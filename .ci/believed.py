@@ -18,8 +18,8 @@ ROOT = Path(__file__).resolve().parent.parent
 # The page by demands: 2 and 3 with parameters, and demand 1 and acceptance beside them; and the page on texts, which is another.
 AUDIT = [f"audit/proofs/{name}" for name in ("Audit", "Parameters", "Accepting", "Refusing", "Scopes", "Pinned")]
 PAGE = (("demands 2 and 3, with parameters", AUDIT[:2]), ("all of the page", AUDIT), ("patterns as text", ["reading_audit/proofs/Texts"]))
-# The lowering's definition and the steps that it is made of; of `lower` and `state` the rest is read as tables are.
-LOWERING = re.compile(r"crates/(pattern_matching|literals|drop_scopes)/specs/|crates/(lowered_params/specs/Params|lower/specs/(Temps|Merging)|state/specs/Steps|mir/specs/Rvalues)")
+# The lowering's definition and the steps that it is made of; of `lower_spec` and `state` the rest is read as tables are.
+LOWERING = re.compile(r"crates/(pattern_matching|literals|drop_scopes_spec)/specs/|crates/(params_spec/specs/Params|lower_spec/specs/(Temps|Merging)|state/specs/Steps|mir/specs/Rvalues)")
 # `placeTy` and the shape of a place stand among the lowering's files, but are read by the counts and the fit.
 READ_BY_OTHERS = {"placeTy", "shapeOf", "Ctx", "Out", "Walk", "localPlace", "fieldsUpTo", "suffixItems", "Param", "ParamsOut", "Declared", "selfCount"}
 # What a call's contract promises of its answer.

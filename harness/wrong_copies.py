@@ -5,7 +5,8 @@
 compiles replay without a proof and makes the quick run's comparison of listings, of
 parameters or of calls on patterns with it, or has it replay the stored lists. A line for each
 change says how many images, calls or lines differ; it fails if a change is not found. The
-harness must be built. NAMEs choose changes.
+harness must be built. NAMEs choose changes. Before anything is compiled each text that a change
+is of is looked for: it must stand exactly once in its file. With `--check` nothing else is done.
 """
 
 import shutil
@@ -46,9 +47,9 @@ REFUSED = (
     "listing_start/type_zero_not_tried",
     "literals/integer_of_any_size",
     "literals/lower_half_twice",
-    "lower/str_for_slice",
-    "lower/an_earlier_local_used_again",
-    "lower/live_in_the_next_block",
+    "body_lowering/str_for_slice",
+    "body_lowering/an_earlier_local_used_again",
+    "body_lowering/live_in_the_next_block",
     "mir/next_block_terminated",
     "read_image/one_pattern_more",
     "marks/second_use",
@@ -74,37 +75,35 @@ REFUSED_OF_MATCHES = (
     "handed/seventeen_elements",
     "handed/else_equal_to_the_start",
     "self_param_call/self_by_reference",
-    "handed/assignment_refuses_always",
     "pattern_entering/a_visit_not_counted",
     "place/variant_behind_the_last",
 )
 
 # Where it is looked whether a scope holds a local: a file and its text.
-HELD = "lower/src/temps.rt", "    let held = is_held(entries, counts, l);\n"
-LOOKED_AT = "lower/src/temps.rt", "        if entries[i] == l.0 {\n"
+HELD = "body_lowering/src/temps.rt", "    let held = is_held(body, counts, l);\n"
+LOOKED_AT = "body_lowering/src/temps.rt", "        if entries[i] == l.0 {\n"
 
+# What a call on a pattern answers where the walk is done.
 MATCHED = "        Lowered::Done(c, then, other) => MatchCall::Matched(c, then, other),\n"
-BACK = ("            put_back(blocks, current, row);\n            clear_above(blocks, statements, locals, scopes, entries, counts);\n"
-        "            clear_from(visits, 0);\n            MatchCall::Refused(e, q)\n        }\n    }\n}\n\n// `pattern_match_assignment`")
 # Further changes that only these show: a name, the file below crates/, the text, and what it becomes.
 OF_MATCHES = (
     ("the else that is supplied is not taken", "pattern_passes/src/lib.rt",
      "        MatchingMode::Check,\n        p,\n        current,\n        els,\n",
      "        MatchingMode::Check,\n        p,\n        current,\n        OptBlock::None,\n"),
-    ("the projection that is handed in is dropped", "pattern_calls/src/lib.rt",
+    ("the projection that is handed in is dropped", "pattern_match_call/src/lib.rt",
      "                els,\n                place,\n            )\n        }\n",
      "                els,\n                Place { local: place.local, len: 0, elems: [0u32; 16] },\n            )\n        }\n"),
-    ("what is live enters the scope before the last", "pattern_calls/src/steps.rt",
-     "        els,\n        place,\n    ) {\n" + MATCHED,
-     "        els,\n        place,\n    ) {\n        Lowered::Done(c, then, other) => {\n"
-     "            if 1 < counts.scopes {\n                scopes[(counts.scopes - 1) as usize] = c.entries;\n            }\n"
+    ("what is live enters the scope before the last", "pattern_match_call/src/lib.rt", MATCHED,
+     "        Lowered::Done(c, then, other) => {\n"
+     "            if 1 < counts.scopes {\n                body[body_tables::SCOPES + ((counts.scopes - 1) as usize)] = c.entries;\n            }\n"
      "            MatchCall::Matched(c, then, other)\n        }\n"),
-    ("the visits of an assignment are not counted", "pattern_calls/src/steps.rt",
-     "        OptBlock::None,\n        place,\n    ) {\n" + MATCHED,
-     "        OptBlock::None,\n        place,\n    ) {\n        Lowered::Done(c, then, other) => {\n"
+    ("the visits of an assignment are not counted", "pattern_assignment_call/src/lib.rt", MATCHED,
+     "        Lowered::Done(c, then, other) => {\n"
      "            clear_from(visits, 0);\n            MatchCall::Matched(c, then, other)\n        }\n"),
-    ("the start stays ended after a refusal", "pattern_calls/src/steps.rt", BACK,
-     BACK.replace("            put_back(blocks, current, row);\n", "")),
+    ("an assignment is always refused", "pattern_assignment_call/src/lib.rt",
+     "                OptBlock::None,\n", "                OptBlock::Some(current),\n"),
+    ("the start stays ended after a refusal", "pattern_match_call/src/lib.rt",
+     "            put_back(body, current, row);\n", ""),
     ("a part of an array has no last element", "place/src/place_ty.rt",
      "ProjectionElem::IndexFromEnd(_) => PlaceTy::Ty(t),",
      "ProjectionElem::IndexFromEnd(_) => PlaceTy::Inapplicable,"),
@@ -113,34 +112,26 @@ OF_MATCHES = (
     ("the last entry alone is looked at", *LOOKED_AT, "        if entries[i] == l.0 && i + 1 == count {\n"),
     ("the first entry alone is looked at", *LOOKED_AT, "        if entries[i] == l.0 && i == 0 {\n"),
     ("the last entry is not looked at", *LOOKED_AT, "        if entries[i] == l.0 && i + 1 != count {\n"),
-    ("entries above the count are looked at", "lower/src/temps.rt",
+    ("entries above the count are looked at", "body_lowering/src/temps.rt",
      "    while i < count && i < entries.len() {\n", "    while i <= count && i < entries.len() {\n"),
-    ("no live mark of a held local", "lower/src/temps.rt",
-     "        Counted::Now(c1) => match push_live(statements, c1, block, l) {\n",
-     "        Counted::Now(c1) => match if held { Counted::Now(c1) } else { push_live(statements, c1, block, l) } {\n"),
-    ("a full table of entries refuses a held local", "lower/src/temps.rt", "    if held {\n", "    if held && counts.entries < 1024 {\n"),
-    ("a temporary is not recorded", "lower/src/temps.rt",
-     "mark_live(statements, entries, c1, l, block, false)", "mark_live(statements, entries, c1, l, block, true)"),
+    ("no live mark of a held local", "body_lowering/src/temps.rt",
+     "    let Counted::Now(c2) = push_live(body, c1, block, l) else {\n",
+     "    let live = if held { Counted::Now(c1) } else { push_live(body, c1, block, l) };\n"
+     "    let Counted::Now(c2) = live else {\n"),
+    ("a full table of entries refuses a held local", "body_lowering/src/temps.rt",
+     "    if held {\n", "    if held && counts.entries < 1024 {\n"),
+    ("a temporary is not recorded", "body_lowering/src/temps.rt",
+     "mark_live(body, c1, l, block, false)", "mark_live(body, c1, l, block, true)"),
 )
 
 # Where the local of a test of an enum is made: a file and its text.
-TEST_LOCAL = "lower/src/temps.rt", (
-    "    temp(\n"
-    "        image,\n"
-    "        tables,\n"
-    "        statements,\n"
-    "        locals,\n"
-    "        entries,\n"
-    "        counts,\n"
-    "        I128,\n"
-    "        block,\n"
-    "    )\n")
+TEST_LOCAL = "body_lowering/src/temps.rt", "    temp(image, tables, body, counts, I128, block)\n"
 
 # Further changes: a name, the file below crates/, the text, and what it becomes.
 CHANGES = (
     ("a match left open", "pattern_walk/src/sub.rt",
-     "set_goto(blocks, then, join);",
-     "set_goto(blocks, here, join);"),
+     "set_goto(body, then, join);",
+     "set_goto(body, here, join);"),
     ("a binding passed beyond Check", "pattern_walk/src/entering.rt",
      "    if !is_check(mode) {",
      "    if is_check(mode) {"),
@@ -148,17 +139,11 @@ CHANGES = (
      "Terminator::Switch(l, 1, 0, then, other)",
      "Terminator::Switch(l, 1, 0, other, then)"),
     ("no live mark of a binding's local", "pattern_parts/src/bindings.rt",
-     "        BoundLocal::Local(l) => match push_storage_live_for_local(\n"
-     "            statements,\n"
-     "            entries,\n"
-     "            counts,\n"
-     "            l,\n"
-     "            current,\n"
-     "        ) {\n",
+     "        BoundLocal::Local(l) => match push_storage_live_for_local(body, counts, l, current) {\n",
      "        BoundLocal::Local(l) => match Stepped::Now(counts) {\n"),
-    ("no live mark of a temporary", "lower/src/temps.rt",
-     "        NewLocal::Local(c1, l) => match mark_live(statements, entries, c1, l, block, false) {\n",
-     "        NewLocal::Local(c1, l) => match Stepped::Now(c1) {\n"),
+    ("no live mark of a temporary", "body_lowering/src/temps.rt",
+     "    match mark_live(body, c1, l, block, false) {\n",
+     "    match Stepped::Now(c1) {\n"),
     ("fields in another order", "pattern_rows/src/lib.rt",
      "ArgumentRow::Fields => ProjectionElem::Field(i),",
      "ArgumentRow::Fields => ProjectionElem::Field(fields - 1 - i),"),
@@ -189,7 +174,7 @@ CHANGES = (
     ("all tests of enums share one local", *TEST_LOCAL,
      "    let mut i = 0;\n"
      "    while i < counts.locals {\n"
-     "        if locals[i as usize] == I128 {\n"
+     "        if body_tables::locals::local_word(body, LocalId(i)) == I128 {\n"
      "            return NewTemp::Local(counts, LocalId(i));\n"
      "        }\n"
      "        i += 1;\n"
@@ -197,20 +182,20 @@ CHANGES = (
      f"{TEST_LOCAL[1]}"),
     ("a test of an enum uses an earlier one's local again", *TEST_LOCAL,
      "    let mut i = 0;\n"
-     "    while i < counts.locals && locals[i as usize] != I128 {\n"
+     "    while i < counts.locals && body_tables::locals::local_word(body, LocalId(i)) != I128 {\n"
      "        i += 1;\n"
      "    }\n"
-     "    match temp(image, tables, statements, locals, entries, counts, I128, block) {\n"
+     "    match temp(image, tables, body, counts, I128, block) {\n"
      "        NewTemp::Refused(e) => NewTemp::Refused(e),\n"
      "        NewTemp::Local(c, _) => NewTemp::Local(c, LocalId(i)),\n"
      "    }\n"),
     ("the local of a test of an enum is live in the next block", "pattern_tests/src/discriminants.rt",
-     "discr_temp_place(image, tables, statements, locals, entries, counts, current)",
-     "discr_temp_place(image, tables, statements, locals, entries, counts, BasicBlockId(counts.blocks))"),
+     "discr_temp_place(image, tables, body, counts, current)",
+     "discr_temp_place(image, tables, body, counts, BasicBlockId(counts.blocks))"),
     ("the local of a test of an enum is not marked live", *TEST_LOCAL,
-     "    match new_local(locals, counts, I128) {\n"
+     "    match new_local(body, counts, I128) {\n"
      "        NewLocal::Full => NewTemp::Refused(MirLowerError::Limit),\n"
-     "        NewLocal::Local(c, l) => match push_entry(entries, c, l) {\n"
+     "        NewLocal::Local(c, l) => match push_entry(body, c, l) {\n"
      "            Counted::Full => NewTemp::Refused(MirLowerError::Limit),\n"
      "            Counted::Now(c1) => NewTemp::Local(c1, l),\n"
      "        },\n"
@@ -242,10 +227,10 @@ CHANGES = (
 
 # Changes of what a handed-in body may have in it, which document 01 alone judges.
 OF_BODIES = (
-    ("a row of kind 12 is refused", "check_body/src/statement.rt",
+    ("a row of kind 12 is refused", "body_row_rules/src/statement.rt",
      "    if 12 < kind {",
      "    if 11 < kind {"),
-    ("a row of kind 13 is taken", "check_body/src/statement.rt",
+    ("a row of kind 13 is taken", "body_row_rules/src/statement.rt",
      "    if 12 < kind {",
      "    if 13 < kind {"),
 )
@@ -275,15 +260,24 @@ def all_changes():
     yield from ((SCRIPTS, label, must_fail(label)) for label in REFUSED_OF_MATCHES)
 
 
+def made(changes):
+    """What the files of changes become, and a line for each text that does not stand exactly once in its file."""
+    files, misplaced = {}, []
+    for file, old, new in changes:
+        path = REPOSITORY / "crates" / file
+        text = files[file] if file in files else path.read_text(encoding="utf-8") if path.is_file() else ""
+        if text.count(old) != 1:
+            misplaced.append(f"{file} has it {text.count(old)} times: {old!r}")
+        files[file] = text.replace(old, new)
+    return files, misplaced
+
+
 def changed_copy(folder, changes):
     """A copy of the crates in which texts are others."""
     shutil.copytree(REPOSITORY / "crates", folder / "crates", ignore=shutil.ignore_patterns("proofs", "must-fail"))
     shutil.copy(REPOSITORY / "crates.txt", folder)
-    for file, old, new in changes:
-        path = folder / "crates" / file
-        text = path.read_text(encoding="utf-8")
-        assert text.count(old) == 1, (file, old)
-        path.write_text(text.replace(old, new), encoding="utf-8")
+    for file, text in made(changes)[0].items():
+        (folder / "crates" / file).write_text(text, encoding="utf-8")
 
 
 def against_stored(program):
@@ -326,9 +320,16 @@ def found(how, changes):
 
 
 def main():
-    """Tries all changes, or those that are named."""
+    """Looks for the texts of all changes, and tries these, or those that are named."""
+    every = list(all_changes())
+    misplaced = [f"{name}: {line}" for _, name, changes in every for line in made(changes)[1]]
+    if misplaced:
+        sys.exit("\n".join(misplaced))
+    if sys.argv[1:] == ["--check"]:
+        print(f"{len(every)} changes, each text once in its file")
+        return 0
     tried = missed = 0
-    for how, name, changes in all_changes():
+    for how, name, changes in every:
         if sys.argv[1:] and name not in sys.argv[1:]:
             continue
         told, differs = found(how, changes)

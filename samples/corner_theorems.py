@@ -49,7 +49,7 @@ MODULES = [
     ("state", "Steps", "newBlock setTerminator pushStatement newLocal pushScope pushEntry tryBlock tryStatement tryLocal tryScope tryEntry"),
     ("literals", "Literals", "constantOf stringConstant integerConstant literalBy lowerLiteralToOperand lowerConstToOperand literalOrConstBy "
      "lowerLiteralOrConstToOperand"),
-    ("lower", "Temps", "isSlice isHeld markLive temp bindingLocal"),
+    ("lower_spec", "Temps", "isSlice isHeld markLive temp bindingLocal"),
     ("views", "Views", "terminatorOf elemsAt pathOf constantAt leftOf lineOf mirOf"),
     ("refusals", "Refusals", "numberOf reasonOf refusalAt"),
     ("pattern_matching", "Walking", "visited project localPlace elseState elseBlock derefed entered"),
@@ -62,9 +62,9 @@ MODULES = [
 ]
 
 PARAM_MODULES = [
-    ("lowered_params", "Params", "paramLocal byValue plainBind plainBinding boundTo declareSelf declareParam declareParams declareBinding declareBindings declare "
+    ("params_spec", "Params", "paramLocal byValue plainBind plainBinding boundTo declareSelf declareParam declareParams declareBinding declareBindings declare "
      "shutElse shut unlessBound unlessOwn lowerParam lowerParams selfCount lowerAll lowerParamsAndBindings"),
-    ("lowered_params", "Calls", "bindsReceiver noneBindsReceiver receiverApart"),
+    ("params_spec", "Calls", "bindsReceiver noneBindsReceiver receiverApart"),
 ]
 
 FIT_MODULES = [
@@ -331,7 +331,7 @@ def print_file(kind):
     names = PROVED if proved else [name for name, image in CORNERS if small(name, image)]
     present = [name.replace("_", "-") + "-row" for name, _ in CORNERS if name in names]
     what = "The corners of pattern_matching.rs that document 01 marks [P]" if proved else "Further corners"
-    first = "use Rattle.lower.specs.declared.merging.OptBlock.{OptBlock}"
+    first = "use Rattle.lower_spec.specs.declared.merging.OptBlock.{OptBlock}"
     print(HEAD.format(what=what, has="an image, the type of local 0", first=first, uses=uses(MODULES), own=AUDIT))
     rows(names)
     print_end(MODULES, present, "startState start answerBy", "answerBy lowering (row .image) (row .ty)")
@@ -341,7 +341,7 @@ def print_params():
     """Prints the file on parameters."""
     first = """use mathlib.Core.Bool.{true, false}
 use lib.IntN.{pos}
-use Rattle.lowered_params.specs.declared.SelfParam.{SelfParam}
+use Rattle.params_spec.specs.declared.SelfParam.{SelfParam}
 use Rattle.meaning.specs.Values.{Value, Int, Tuple, Adt, noMore, more}"""
     own = """use Rattle.param_runs.specs.Returned.{ownLocal}
 use Rattle.param_runs.specs.Through.{plain, patternFits, paramFits, paramsFit, allFit, paramsBound}

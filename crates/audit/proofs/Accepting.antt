@@ -9,7 +9,7 @@ use Rattle.image.specs.declared.PatId.{PatId}
 use Rattle.state.specs.State.{Body}
 use Rattle.pattern_matching.specs.Walking.{Out, ok}
 use Rattle.room.specs.Room.{ScopeOpen, Made}
-use Rattle.match_calls.specs.declared.MatchCall.{MatchCall}
+use Rattle.pattern_calls_spec.specs.declared.MatchCall.{MatchCall}
 use Rattle.called.specs.Call.{Call, HandedOut, Promised, Accepted, Refused, before, patternOf, startOf, resultOf}
 use Rattle.called.specs.Runs.{FittingPattern}
 use Rattle.called.specs.Acceptance.{Taken, HasRoom, LimitPassed, IsAcceptance}

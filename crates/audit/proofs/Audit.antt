@@ -12,7 +12,7 @@ use Rattle.image.specs.declared.PatId.{PatId}
 use Rattle.place.specs.declared.Place.{Place}
 use Rattle.mir.specs.declared.BasicBlockId.{BasicBlockId}
 use Rattle.mir.specs.declared.blocks.Terminator.{Terminator}
-use Rattle.lower.specs.declared.merging.OptBlock.{OptBlock}
+use Rattle.lower_spec.specs.declared.merging.OptBlock.{OptBlock}
 use Rattle.pattern_matching.specs.Walking.{Ctx, Out, ok}
 use Rattle.pattern_matching.specs.Variants.{discriminantTest}
 use Rattle.views.specs.Views.{Mir, mirOf}

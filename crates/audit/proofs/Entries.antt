@@ -20,7 +20,7 @@ use Rattle.mir.specs.Locals.{localTy}
 use Rattle.mir.specs.Rvalues.{constantWords, leftWords, placeRvalueKind, binaryKind, liveRow, deadRow, placeRvalueRow, constantRow, binaryRow}
 use Rattle.state.specs.Steps.{newBlock, setTerminator, pushStatement, newLocal, pushScope, pushEntry, tryBlock, tryStatement, tryLocal, tryScope, tryEntry}
 use Rattle.literals.specs.Literals.{constantOf, stringConstant, integerConstant, literalBy, lowerLiteralToOperand, lowerConstToOperand, literalOrConstBy, lowerLiteralOrConstToOperand}
-use Rattle.lower.specs.Temps.{isSlice, isHeld, markLive, temp, bindingLocal}
+use Rattle.lower_spec.specs.Temps.{isSlice, isHeld, markLive, temp, bindingLocal}
 use Rattle.views.specs.Views.{terminatorOf, elemsAt, pathOf, constantAt, leftOf, lineOf, mirOf}
 use Rattle.refusals.specs.Refusals.{numberOf, reasonOf, refusalAt}
 use Rattle.pattern_matching.specs.Walking.{visited, project, localPlace, elseState, elseBlock, derefed, entered}

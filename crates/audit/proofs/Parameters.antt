@@ -11,7 +11,7 @@ use Rattle.views.specs.Views.{Mir, mirOf}
 use Rattle.views.specs.Growing.{terminatorAt, GoesOn}
 use Rattle.meaning.specs.Values.{Value}
 use Rattle.meaning.specs.Running.{Env}
-use Rattle.lowered_params.specs.Params.{Declared}
+use Rattle.params_spec.specs.Params.{Declared}
 use Rattle.param_runs.proofs.Receivers.{callWithSelf, SelfHas}
 use Rattle.called.specs.Params.{ParamsHanded, ListTaken, NumbersTaken, definedOf, ParamsHandedOut, AcceptedParams, startOfParams, declaredOf, loweredOf, afterParams, resultOfParams, CountedParams, FittingParams, ComesThroughParams}
 use Rattle.called.proofs.Params as calls

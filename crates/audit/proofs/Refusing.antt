@@ -8,16 +8,16 @@ use mathlib.Core.List.{List}
 use Rattle.refusals.specs.Refusals.{Refusal}
 use Rattle.mir.specs.declared.BasicBlockId.{BasicBlockId}
 use Rattle.state.specs.State.{Body}
-use Rattle.lower.specs.declared.merging.OptBlock.{OptBlock}
-use Rattle.lower_calls.specs.declared.TempCall.{TempCall}
-use Rattle.lower_calls.specs.declared.MergeCall.{MergeCall}
-use Rattle.lower_calls.specs.declared.ScopeCall.{ScopeCall}
-use Rattle.lower_calls.specs.declared.DropCall.{DropCall}
-use Rattle.lower_calls.specs.Answers.{tempRefusal, mergeRefusal, scopeRefusal, dropRefusal}
-use Rattle.match_calls.specs.declared.MatchCall.{MatchCall}
-use Rattle.match_calls.specs.Calls.{numbers}
-use Rattle.lowered_params.specs.declared.ParamsCall.{ParamsCall}
-use Rattle.lowered_params.specs.Calls.{numbers as paramsNumbers}
+use Rattle.lower_spec.specs.declared.merging.OptBlock.{OptBlock}
+use Rattle.body_calls_spec.specs.declared.TempCall.{TempCall}
+use Rattle.body_calls_spec.specs.declared.MergeCall.{MergeCall}
+use Rattle.body_calls_spec.specs.declared.ScopeCall.{ScopeCall}
+use Rattle.body_calls_spec.specs.declared.DropCall.{DropCall}
+use Rattle.body_calls_spec.specs.Answers.{tempRefusal, mergeRefusal, scopeRefusal, dropRefusal}
+use Rattle.pattern_calls_spec.specs.declared.MatchCall.{MatchCall}
+use Rattle.pattern_calls_spec.specs.Calls.{numbers}
+use Rattle.params_spec.specs.declared.ParamsCall.{ParamsCall}
+use Rattle.params_spec.specs.Calls.{numbers as paramsNumbers}
 use Rattle.called.specs.Call.{Call, Promised}
 use Rattle.called.specs.AsFound.{AsFound, NoneVisited}
 use Rattle.called.specs.Params.{ParamsHanded, ParamsTables, PromisedParams}

@@ -10,15 +10,15 @@ use Rattle.image.specs.Lists.{member}
 use Rattle.mir.specs.declared.BasicBlockId.{BasicBlockId}
 use Rattle.state.specs.State.{Body, State}
 use Rattle.state.specs.Steps.{nextLocal, tryLocal}
-use Rattle.lower.specs.declared.merging.OptBlock.{OptBlock}
-use Rattle.lower.specs.Recorded.{recorded, occurs}
-use Rattle.lower.specs.Temps.{isSlice, pushStorageLiveForLocal, temp}
-use Rattle.lower_calls.specs.declared.TempCall.{TempCall}
-use Rattle.lower_calls.specs.declared.MergeCall.{MergeCall}
-use Rattle.lower_calls.specs.declared.ScopeCall.{ScopeCall}
-use Rattle.lower_calls.specs.declared.DropCall.{DropCall}
-use Rattle.match_calls.specs.declared.MatchCall.{MatchCall}
-use Rattle.lowered_params.specs.declared.ParamsCall.{ParamsCall}
+use Rattle.lower_spec.specs.declared.merging.OptBlock.{OptBlock}
+use Rattle.lower_spec.specs.Recorded.{recorded, occurs}
+use Rattle.lower_spec.specs.Temps.{isSlice, pushStorageLiveForLocal, temp}
+use Rattle.body_calls_spec.specs.declared.TempCall.{TempCall}
+use Rattle.body_calls_spec.specs.declared.MergeCall.{MergeCall}
+use Rattle.body_calls_spec.specs.declared.ScopeCall.{ScopeCall}
+use Rattle.body_calls_spec.specs.declared.DropCall.{DropCall}
+use Rattle.pattern_calls_spec.specs.declared.MatchCall.{MatchCall}
+use Rattle.params_spec.specs.declared.ParamsCall.{ParamsCall}
 use Rattle.named.specs.Named.{NamedBelow}
 use Rattle.named.specs.Marked.{MarksRecorded}
 use Rattle.named.proofs.Recording as recording

@@ -5,7 +5,7 @@ use mathlib.Core.List.{List}
 use Rattle.image.specs.Tables.{patternCount, bindingCount}
 use Rattle.image.specs.Lists.{upFrom}
 use Rattle.image.specs.Tree.{tree}
-use Rattle.lower.specs.declared.merging.OptBlock.{OptBlock}
+use Rattle.lower_spec.specs.declared.merging.OptBlock.{OptBlock}
 use Rattle.pattern_matching.specs.Walking.{Ctx, Out, Walk, ok, refused, localPlace}
 use Rattle.audit.specs.Started.{Lowers, startState, start}
 

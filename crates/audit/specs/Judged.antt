@@ -6,7 +6,7 @@ use Rattle.image.specs.Lists.{upFrom}
 use Rattle.image.specs.Tables.{patternCount, bindingCount}
 use Rattle.image.specs.Tree.{Pat, tree}
 use Rattle.image.specs.Valid.{valid}
-use Rattle.lower.specs.declared.merging.OptBlock.{OptBlock}
+use Rattle.lower_spec.specs.declared.merging.OptBlock.{OptBlock}
 use Rattle.views.specs.Views.{Mir, Path, mirOf}
 use Rattle.pattern_matching.specs.Walking.{Out, Walk, ok, refused, localPlace}
 use Rattle.meaning.specs.Values.{Value, unitValue, valueFits}

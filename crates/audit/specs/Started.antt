@@ -13,7 +13,7 @@ use Rattle.image.specs.Valid.{valid}
 use Rattle.place.specs.declared.Place.{Place}
 use Rattle.mir.specs.declared.BasicBlockId.{BasicBlockId}
 use Rattle.state.specs.State.{State}
-use Rattle.lower.specs.declared.merging.OptBlock.{OptBlock}
+use Rattle.lower_spec.specs.declared.merging.OptBlock.{OptBlock}
 use Rattle.views.specs.Views.{Mir, mirOf}
 use Rattle.pattern_matching.specs.Walking.{Ctx, Out, Walk, ok, refused, localPlace}
 

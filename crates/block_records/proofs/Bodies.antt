@@ -21,10 +21,10 @@ use Rattle.views.specs.Growing.{terminatorAt}
 use Rattle.views.proofs.ReadBack.{Halved}
 use Rattle.block_records.specs.declared.Block.{Block}
 use Rattle.block_records.specs.declared.Look.{Look}
-use Rattle.block_records.specs.Records.{blank, recordOf, terminatorIn, recordOfRow, lookAt, putAt, filled, terminatorsOf, lookIn}
+use Rattle.block_records.specs.Records.{blank, recordOf, terminatorIn, recordOfRow, lookAt, putAt, filled, terminatorsOf}
 use Rattle.block_records.proofs.Reading.{record-back, row-record}
 use Rattle.block_records.proofs.Filling.{same-length, filled-past, filled-rows}
-use Rattle.block_records.proofs.Through.{block-in}
+use Rattle.block_records.proofs.Through.{filled-look}
 
 -- the terminators of a table's first blocks are those of the body that tables and counts stand for
 pub body-terminators : (b : Body) (c : Counts) → terminatorsOf (b .blocks) (c .blocks) ≡ mirOf (decode b c) .terminators
@@ -36,10 +36,10 @@ terminator-row : (t : List ℕ) (n i : ℕ) → i < n → getD (terminatorsOf t 
 unfolding terminatorsOf terminatorOf
 terminator-row t n i h = List·getD-map terminatorOf (rowsOf 12 t n) i [] ∙ ap terminatorOf (row-of 12 t n i h)
 
--- what `terminator_in` finds of a block is its terminator in that body
-pub body-block : (b : Body) (c : Counts) (i : ℕ) → length (b .blocks) ≡ 6144 → c .blocks ≤ 512 → i < c .blocks → lookIn (b .blocks) (c .blocks) i ≡ Look.At (terminatorAt (mirOf (decode b c)) i)
-body-block b c i e h k =
-    block-in (b .blocks) (c .blocks) i e h k
+-- what is found of a block in records that are filled is its terminator in that body
+pub body-block : (rs : List Block) (b : Body) (c : Counts) (i : ℕ) → c .blocks ≤ length rs → i < c .blocks → lookAt (filled rs (b .blocks) (c .blocks)) i ≡ Look.At (terminatorAt (mirOf (decode b c)) i)
+body-block rs b c i h k =
+    filled-look rs (b .blocks) (c .blocks) i h k
     ∙ ap Look.At (sym (terminator-row (b .blocks) (c .blocks) i k) ∙ ap (λ (l : List Terminator). getD l i Terminator.Open) (body-terminators b c))
 
 -- the record that is there, with a terminator set

@@ -2,6 +2,7 @@ pub mod Reading
 pub mod Looking
 pub mod Filling
 pub mod Through
+pub mod Numbers
 pub mod Bodies
 pub mod Samples
 pub mod Row

@@ -34,7 +34,7 @@ unfolding recordOf termRow
 row-record Terminator.Open h = refl
 row-record (Terminator.Goto b) h = refl
 row-record (Terminator.Switch l low high then else) h =
-    ap₂ (λ (x y : ℕ). record { kind = 2; local = l .0; then = then .0; other = else .0; low = x; high = y }) (four-words low (h .0)) (four-words high (h .1))
+    ap₂ (λ (x y : ℕ). record { kind = 2; local = l; then = then; other = else; low = x; high = y }) (four-words low (h .0)) (four-words high (h .1))
 row-record Terminator.Unreachable h = refl
 row-record (Terminator.Drop l b) h = refl
 

@@ -2,39 +2,43 @@
 use Prim.Native.Nat.{ℕ, zero, suc}
 use mathlib.Core.Bool.{Bool, true, false, cond, _&&_}
 use mathlib.Core.Path.{_≡_}
+use mathlib.Core.Option.{Option, none, some}
 use mathlib.Core.List.{List, [], _∷_, map}
 use lib.Dec.{eqb, ltb, leb}
 use lib.ListN.{length, getD, set, take}
 use Rattle.row_tables.specs.Rows.{rowAt, rowsOf}
+use Rattle.place.specs.declared.LocalId.{LocalId}
+use Rattle.mir.specs.declared.BasicBlockId.{BasicBlockId}
 use Rattle.mir.specs.declared.blocks.Terminator.{Terminator}
+use Rattle.refusals.specs.Refusals.{Refusal, namesNothing}
 use Rattle.views.specs.Views.{word, fourWordsAt, terminatorOf}
 use Rattle.block_records.specs.declared.Block.{Block}
 use Rattle.block_records.specs.declared.Look.{Look}
 
 -- a record that tests no value
-abbrev pub bare : ℕ → ℕ → ℕ → Block
-bare kind local then = record { kind = kind; local = local; then = then; other = 0; low = 0; high = 0 }
+abbrev pub bare : ℕ → LocalId → BasicBlockId → Block
+bare kind local then = record { kind = kind; local = local; then = then; other = record { 0 = 0 }; low = 0; high = 0 }
 
 -- an open block's record
 abbrev pub blank : Block
-blank = bare 0 0 0
+blank = bare 0 (record { 0 = 0 }) (record { 0 = 0 })
 
 -- the record of a terminator: docs/BODY.md's words, with a switch's value as two numbers. What a kind does not use is 0.
 unfoldable pub recordOf : Terminator → Block
 recordOf Terminator.Open = blank
-recordOf (Terminator.Goto b) = bare 1 0 (b .0)
-recordOf (Terminator.Switch l low high then else) = record { kind = 2; local = l .0; then = then .0; other = else .0; low = low; high = high }
-recordOf Terminator.Unreachable = bare 3 0 0
-recordOf (Terminator.Drop l b) = bare 4 (l .0) (b .0)
+recordOf (Terminator.Goto b) = bare 1 (record { 0 = 0 }) b
+recordOf (Terminator.Switch l low high then else) = record { kind = 2; local = l; then = then; other = else; low = low; high = high }
+recordOf Terminator.Unreachable = bare 3 (record { 0 = 0 }) (record { 0 = 0 })
+recordOf (Terminator.Drop l b) = bare 4 l b
 
 -- the terminators of each kind with a record's numbers, the kinds numbered from 0
 abbrev pub kindsIn : Block → List Terminator
 kindsIn r =
     Terminator.Open
-    ∷ Terminator.Goto (record { 0 = r .then })
-    ∷ Terminator.Switch (record { 0 = r .local }) (r .low) (r .high) (record { 0 = r .then }) (record { 0 = r .other })
+    ∷ Terminator.Goto (r .then)
+    ∷ Terminator.Switch (r .local) (r .low) (r .high) (r .then) (r .other)
     ∷ Terminator.Unreachable
-    ∷ Terminator.Drop (record { 0 = r .local }) (record { 0 = r .then })
+    ∷ Terminator.Drop (r .local) (r .then)
     ∷ []
 
 -- a record read as a terminator: one of no kind is open
@@ -43,7 +47,7 @@ terminatorIn r = getD (kindsIn r) (r .kind) Terminator.Open
 
 -- a row of 12 words as a record
 abbrev pub recordOfRow : List ℕ → Block
-recordOfRow row = record { kind = word row 0; local = word row 1; then = word row 2; other = word row 3; low = fourWordsAt row 4; high = fourWordsAt row 8 }
+recordOfRow row = record { kind = word row 0; local = record { 0 = word row 1 }; then = record { 0 = word row 2 }; other = record { 0 = word row 3 }; low = fourWordsAt row 4; high = fourWordsAt row 8 }
 
 -- the row b of the table of blocks as a record
 unfoldable pub recordAt : List ℕ → ℕ → Block
@@ -83,6 +87,12 @@ abbrev pub Shown : Bool → List Block → List ℕ → ℕ → Type 0
 Shown true records blocks count = map terminatorIn (take count records) ≡ terminatorsOf blocks count
 Shown false records blocks count = Unit
 
--- the terminator of the block b of a table with so many blocks, if the table is one of blocks and has that one
-unfoldable pub lookIn : List ℕ → ℕ → ℕ → Look
-lookIn blocks count b = cond (fits (length blocks) count 512 && ltb b count) (Look.At (terminatorOf (rowAt 12 blocks b))) Look.Missing
+-- document 01's number for what a look answers: number 2, "any other number in the call that names nothing", where there is no such record
+unfoldable pub lookRefusal : Look → Option Refusal
+lookRefusal (Look.At t) = none
+lookRefusal Look.Missing = some namesNothing
+
+-- its number for what is answered where records are to be set or filled: number 2 where there is no such record, or where the table or its blocks are "over a limit"
+unfoldable pub fillRefusal : Bool → Option Refusal
+fillRefusal true = none
+fillRefusal false = some namesNothing

@@ -1,23 +1,24 @@
 // A body's blocks as records: a terminator is set and read in a slice of block structs that the caller lends. The borrow checker covers no function
 // with a local that refers to structs: each function over the slice is thin, and its proof follows its code by hand. What is done with numbers and with
-// records by value is covered, and so is whoever calls `terminator_in`.
+// records by value is covered, and so is whoever calls `records_of`.
 use mir::BasicBlockId;
 use mir::blocks::Terminator;
 use place::LocalId;
 ghost use mathlib.Core.Path.{_≡_};
 ghost use Prim.Native.Nat.{_+_, _≤_, _<_};
 ghost use lib.Dec.{eqb, ltb};
-ghost use lib.ListN.{length, getD, set};
+ghost use mathlib.Core.List.{map};
+ghost use lib.ListN.{length, getD, set, take};
 ghost use Rattle.views.specs.Views.{fourWordsAt};
 ghost use Rattle.block_records.specs.declared.Look.{Look};
-ghost use Rattle.block_records.specs.Records.{bare, blank, recordOf, terminatorIn, recordAt, lookAt, openAt, putAt, filled, fits, filledWhere, Shown, lookIn};
+ghost use Rattle.block_records.specs.Records.{bare, blank, recordOf, terminatorIn, recordAt, lookAt, openAt, putAt, filled, fits, filledWhere, terminatorsOf, Shown};
 
 // A block's terminator: its kind and numbers, as the table of blocks has them, and the low and the high half of the value that a switch tests.
 pub struct Block {
     pub kind: u16,
-    pub local: u16,
-    pub then: u16,
-    pub other: u16,
+    pub local: LocalId,
+    pub then: BasicBlockId,
+    pub other: BasicBlockId,
     pub low: u64,
     pub high: u64,
 }
@@ -48,23 +49,23 @@ pub fn block_at(blocks: &[u16], b: BasicBlockId) -> Block
     let at = 12 * (b.0 as usize);
     Block {
         kind: blocks[at],
-        local: blocks[at + 1],
-        then: blocks[at + 2],
-        other: blocks[at + 3],
+        local: LocalId(blocks[at + 1]),
+        then: BasicBlockId(blocks[at + 2]),
+        other: BasicBlockId(blocks[at + 3]),
         low: four_words(blocks, at + 4),
         high: four_words(blocks, at + 8),
     }
 }
 
 // A record that tests no value.
-fn bare_block(kind: u16, local: u16, then: u16) -> Block
+fn bare_block(kind: u16, local: LocalId, then: BasicBlockId) -> Block
     ensures { λ r. ⌜ r ≡ bare kind local then ⌝ }
 {
     Block {
         kind: kind,
         local: local,
         then: then,
-        other: 0,
+        other: BasicBlockId(0),
         low: 0,
         high: 0,
     }
@@ -75,18 +76,18 @@ pub fn block_of(terminator: Terminator) -> Block
     ensures { λ r. ⌜ r ≡ recordOf terminator ⌝ }
 {
     match terminator {
-        Terminator::Open => bare_block(0, 0, 0),
-        Terminator::Goto(b) => bare_block(1, 0, b.0),
+        Terminator::Open => bare_block(0, LocalId(0), BasicBlockId(0)),
+        Terminator::Goto(b) => bare_block(1, LocalId(0), b),
         Terminator::Switch(local, low, high, then, other) => Block {
             kind: 2,
-            local: local.0,
-            then: then.0,
-            other: other.0,
+            local: local,
+            then: then,
+            other: other,
             low: low,
             high: high,
         },
-        Terminator::Unreachable => bare_block(3, 0, 0),
-        Terminator::Drop(local, b) => bare_block(4, local.0, b.0),
+        Terminator::Unreachable => bare_block(3, LocalId(0), BasicBlockId(0)),
+        Terminator::Drop(local, b) => bare_block(4, local, b),
     }
 }
 
@@ -94,18 +95,13 @@ pub fn block_of(terminator: Terminator) -> Block
 pub fn terminator_of(block: Block) -> Terminator
     ensures { λ r. ⌜ r ≡ terminatorIn block ⌝ }
 {
-    let local = LocalId(block.local);
-    let then = BasicBlockId(block.then);
+    let local = block.local;
+    let then = block.then;
+    let other = block.other;
     let kind = block.kind;
     match kind {
         1 => Terminator::Goto(then),
-        2 => Terminator::Switch(
-            local,
-            block.low,
-            block.high,
-            then,
-            BasicBlockId(block.other),
-        ),
+        2 => Terminator::Switch(local, block.low, block.high, then, other),
         3 => Terminator::Unreachable,
         4 => Terminator::Drop(local, then),
         _ => Terminator::Open,
@@ -143,7 +139,7 @@ fn records_fit(words: usize, count: u16, room: usize) -> bool
 fn blank_records() -> [Block; 512]
     ensures { λ r. ⌜ length r ≡ 512 ⌝ }
 {
-    let none = bare_block(0, 0, 0);
+    let none = bare_block(0, LocalId(0), BasicBlockId(0));
     [none; 512]
 }
 
@@ -224,26 +220,14 @@ pub fn blocks_as_records(blocks: &[u16], count: u16, records: &mut [Block]) -> b
     }
 }
 
-// ---- above it: plain parameters. A local array is lent to be filled, and to be read.
+// ---- above it: plain parameters. A local array is lent to be filled.
 
-fn look_through(blocks: &[u16], count: u16, b: BasicBlockId) -> Look
-    requires { ⌜ (length (now blocks) ≡ 6144) × (count ≤ 512) × (b .0 < count) ⌝ }
-    ensures { λ r. ⌜ r ≡ lookIn (now (blocks .entry)) count (b .0) ⌝ }
+// The blocks of a body, so many, as the first of 512 records.
+pub fn records_of(blocks: &[u16], count: u16) -> [Block; 512]
+    requires { ⌜ (length (now blocks) ≡ 6144) × (count ≤ 512) ⌝ }
+    ensures { λ r. ⌜ (length r ≡ 512) × (map terminatorIn (take count r) ≡ terminatorsOf (now (blocks .entry)) count) ⌝ }
 {
     let mut records = blank_records();
     blocks_as_records(blocks, count, &mut records);
-    terminator(&records, b)
-}
-
-// The terminator of a block of a body with so many blocks, through records.
-pub fn terminator_in(blocks: &[u16], count: u16, b: BasicBlockId) -> Look
-    ensures { λ r. ⌜ r ≡ lookIn (now (blocks .entry)) count (b .0) ⌝ }
-{
-    if !records_fit(blocks.len(), count, 512) {
-        return Look::Missing;
-    }
-    if count <= b.0 {
-        return Look::Missing;
-    }
-    look_through(blocks, count, b)
+    records
 }

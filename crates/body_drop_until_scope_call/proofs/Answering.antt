@@ -3,9 +3,9 @@ use Rattle.refusals.specs.Refusals.{Result}
 use Rattle.mir.specs.declared.BasicBlockId.{BasicBlockId}
 use Rattle.mir.specs.declared.Counts.{Counts}
 use Rattle.state.specs.State.{Body, State}
-use Rattle.drop_scopes.specs.declared.leaving.AtBlock.{AtBlock}
-use Rattle.drop_scopes.specs.Dropping.{At}
-use Rattle.drop_scopes.specs.Promises.{Pops}
+use Rattle.drop_scopes_spec.specs.declared.AtBlock.{AtBlock}
+use Rattle.drop_scopes_spec.specs.Dropping.{At}
+use Rattle.drop_scopes_spec.specs.Promises.{Pops}
 use Rattle.body_scopes.specs.Promises.{Leaves}
 
 pub stays-open : {defined : State → Result At} {c : Counts} {block : BasicBlockId} {b b₂ : Body} (r : AtBlock) → Leaves defined c block b r b₂ → Pops defined c block b r b₂

@@ -3,7 +3,7 @@ use body_tables::STATEMENTS;
 use image::BindingId;
 use image::PatId;
 use image::Tables;
-use lower::merging::OptBlock;
+use lower_spec::merging::OptBlock;
 use mir::BasicBlockId;
 use mir::Counts;
 use place::LocalId;

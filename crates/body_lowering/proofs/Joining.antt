@@ -17,9 +17,9 @@ use Rattle.state.specs.Steps.{tryBlock, nextBlock}
 use Rattle.state.specs.Contracts.{Ready, Answers}
 use Rattle.state.proofs.Answering.{grown-refl, next-block, stops}
 use Rattle.state.proofs.Calls.{block-number}
-use Rattle.lower.specs.declared.merging.Merged.{Merged}
-use Rattle.lower.specs.declared.merging.OptBlock.{OptBlock}
-use Rattle.lower.specs.Merging.{setGoto, mergeBlocks, mergedAt}
+use Rattle.lower_spec.specs.declared.merging.Merged.{Merged}
+use Rattle.lower_spec.specs.declared.merging.OptBlock.{OptBlock}
+use Rattle.lower_spec.specs.Merging.{setGoto, mergeBlocks, mergedAt}
 use Rattle.body_tables.specs.Layout.{blockWidth, withBlocks}
 use Rattle.body_lowering.specs.Promises.{Merges}
 use Rattle.body_tables.proofs.Building.{block-made, terminator-set}

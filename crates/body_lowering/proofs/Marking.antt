@@ -24,7 +24,7 @@ use Rattle.state.specs.declared.Stepped.{Stepped}
 use Rattle.state.proofs.RowLengths.{live-length}
 use Rattle.state.proofs.Answering.{scope-count, then, stops, done, refuses}
 use Rattle.state.proofs.Calls.{countedCounts, countedResult}
-use Rattle.lower.specs.Temps.{isHeld, recordUnless, markLive, pushStorageLiveForLocal, bindingLocal, pushStorageLive}
+use Rattle.lower_spec.specs.Temps.{isHeld, recordUnless, markLive, pushStorageLiveForLocal, bindingLocal, pushStorageLive}
 use Rattle.body_tables.specs.Layout.{withStatements, withEntries}
 use Rattle.body_tables.specs.Promises.{Adds}
 use Rattle.body_tables.proofs.Building.{entry-made, statement-made}

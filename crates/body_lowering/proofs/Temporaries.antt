@@ -22,8 +22,8 @@ use Rattle.state.specs.Contracts.{Ready, Answers, steppedCounts, steppedResult}
 use Rattle.state.specs.declared.Stepped.{Stepped}
 use Rattle.state.proofs.Answering.{next-local, then, stops, refuses}
 use Rattle.state.proofs.Calls.{local-number}
-use Rattle.lower.specs.declared.temps.NewTemp.{NewTemp}
-use Rattle.lower.specs.Temps.{isSlice, temp, markLive}
+use Rattle.lower_spec.specs.declared.temps.NewTemp.{NewTemp}
+use Rattle.lower_spec.specs.Temps.{isSlice, temp, markLive}
 use Rattle.body_tables.specs.Layout.{withLocals}
 use Rattle.body_tables.specs.Promises.{Adds}
 use Rattle.body_lowering.specs.Promises.{Makes}

@@ -6,12 +6,12 @@ use Rattle.refusals.specs.Refusals.{Result}
 use Rattle.mir.specs.declared.Counts.{Counts}
 use Rattle.state.specs.State.{Body, State, decode}
 use Rattle.state.specs.Contracts.{Ready, Goes, Answers}
-use Rattle.lower.specs.declared.temps.NewTemp.{NewTemp}
-use Rattle.lower.specs.declared.merging.Merged.{Merged}
-use Rattle.lower.specs.declared.merging.OptBlock.{OptBlock}
-use Rattle.lower.specs.Merging.{mergeBlocks}
-use Rattle.lower.specs.Promises.{Numbered, MergedAt}
-use Rattle.lower.specs.Replies.{tempResult, tempCounts, mergedResult, mergedCounts}
+use Rattle.lower_spec.specs.declared.temps.NewTemp.{NewTemp}
+use Rattle.lower_spec.specs.declared.merging.Merged.{Merged}
+use Rattle.lower_spec.specs.declared.merging.OptBlock.{OptBlock}
+use Rattle.lower_spec.specs.Merging.{mergeBlocks}
+use Rattle.lower_spec.specs.Promises.{Numbered, MergedAt}
+use Rattle.lower_spec.specs.Replies.{tempResult, tempCounts, mergedResult, mergedCounts}
 
 -- a temporary is made: the body b₀ before, b after; whatever block a later step may terminate, this one terminates none
 pub record Makes (defined : State → Result State) (c : Counts) (b₀ : Body) (r : NewTemp) (b : Body) : Type 0 where

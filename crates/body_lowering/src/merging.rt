@@ -1,8 +1,8 @@
 // Two ways into one block.
 use body_tables::BODY_WORDS;
 use body_tables::blocks::set_goto;
-use lower::merging::Merged;
-use lower::merging::OptBlock;
+use lower_spec::merging::Merged;
+use lower_spec::merging::OptBlock;
 use mir::BasicBlockId;
 use mir::Counts;
 use mir::blocks::NewBlock;
@@ -10,7 +10,7 @@ use mir::blocks::new_basic_block;
 use refusals::MirLowerError;
 ghost use mathlib.Core.Path.{_≡_};
 ghost use Prim.Native.Nat.{_<_, _≤_};
-ghost use Rattle.lower.specs.Promises.{Within};
+ghost use Rattle.lower_spec.specs.Promises.{Within};
 ghost use Rattle.body_tables.specs.Layout.{bodyOf};
 ghost use Rattle.body_lowering.specs.Promises.{Merges};
 

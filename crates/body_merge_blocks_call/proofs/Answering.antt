@@ -5,16 +5,16 @@ use Rattle.mir.specs.declared.Counts.{Counts}
 use Rattle.state.specs.State.{Body, decode}
 use Rattle.state.specs.Steps.{nextBlock}
 use Rattle.state.proofs.Answering.{next-block}
-use Rattle.lower.specs.declared.merging.OptBlock.{OptBlock}
-use Rattle.lower.specs.declared.merging.Merged.{Merged}
-use Rattle.lower.specs.Merging.{mergeBlocks, mergedAt}
-use Rattle.lower_calls.specs.declared.MergeCall.{MergeCall}
-use Rattle.lower_calls.specs.Calls.{stepped}
-use Rattle.lower_calls.specs.Sizes.{Sized}
-use Rattle.lower_calls.proofs.Clearing.{Cleared, counted}
+use Rattle.lower_spec.specs.declared.merging.OptBlock.{OptBlock}
+use Rattle.lower_spec.specs.declared.merging.Merged.{Merged}
+use Rattle.lower_spec.specs.Merging.{mergeBlocks, mergedAt}
+use Rattle.body_calls_spec.specs.declared.MergeCall.{MergeCall}
+use Rattle.body_calls_spec.specs.Calls.{stepped}
+use Rattle.body_calls_spec.specs.Sizes.{Sized}
+use Rattle.body_calls_spec.proofs.Clearing.{Cleared, counted}
 use Rattle.body_lowering.specs.Promises.{Merges}
-use Rattle.body_opening.specs.Promises.{Gives}
-use Rattle.body_opening.specs.Ways.{mergeWay}
+use Rattle.body_calls_spec.specs.Promises.{Gives}
+use Rattle.body_calls_spec.specs.Ways.{mergeWay}
 use Rattle.body_opening.proofs.Replying.{accepted, not-accepted}
 
 -- the body b was found, b₁ is the one after zeros were written above the counts c, and b₂ the one behind the step

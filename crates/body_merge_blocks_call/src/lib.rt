@@ -1,22 +1,22 @@
 // The public call `merge_blocks`, on a body in one table: every image, body and number is taken, or refused by document 01's number. Numbers 1 and 2 write nothing; any
 // other refusal leaves what lies below the counts as found, and zeros above.
+use body_calls_spec::MergeCall;
+use body_calls_spec::Opened;
 use body_opening::clearing::clear_above;
 use body_opening::open;
 use body_tables::BODY_WORDS;
 use handed::merge_holds;
-use lower::merging::Merged;
-use lower::merging::OptBlock;
-use lower_calls::MergeCall;
-use lower_calls::opening::Opened;
+use lower_spec::merging::Merged;
+use lower_spec::merging::OptBlock;
 use mir::Counts;
 ghost use Rattle.state.specs.State.{decode};
-ghost use Rattle.lower.specs.Merging.{mergeBlocks};
-ghost use Rattle.lower.specs.Promises.{Within};
-ghost use Rattle.lower_calls.specs.Calls.{stepped, mergeBlocksCall};
-ghost use Rattle.lower_calls.specs.Sizes.{Sized};
+ghost use Rattle.lower_spec.specs.Merging.{mergeBlocks};
+ghost use Rattle.lower_spec.specs.Promises.{Within};
+ghost use Rattle.body_calls_spec.specs.Calls.{stepped, mergeBlocksCall};
+ghost use Rattle.body_calls_spec.specs.Sizes.{Sized};
 ghost use Rattle.body_tables.specs.Layout.{bodyOf};
-ghost use Rattle.body_opening.specs.Promises.{Gives};
-ghost use Rattle.body_opening.specs.Ways.{mergeWay};
+ghost use Rattle.body_calls_spec.specs.Promises.{Gives};
+ghost use Rattle.body_calls_spec.specs.Ways.{mergeWay};
 
 // The call's own step, on an image and a body that were looked at: zeros are written above the counts first, so that a new row lies among zeros.
 fn merge_step(body: &mut [u16; BODY_WORDS], counts: Counts, x: OptBlock, y: OptBlock) -> MergeCall

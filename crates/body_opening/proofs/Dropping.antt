@@ -9,17 +9,17 @@ use Rattle.row_tables.specs.Rows.{rowAt, stored}
 use Rattle.mir.specs.declared.BasicBlockId.{BasicBlockId}
 use Rattle.mir.specs.declared.Counts.{Counts}
 use Rattle.state.specs.State.{Body, State, decode, encode}
-use Rattle.drop_scopes.specs.declared.leaving.AtBlock.{AtBlock}
-use Rattle.drop_scopes.specs.Dropping.{At}
-use Rattle.drop_scopes.specs.Promises.{Pops}
-use Rattle.lower_calls.specs.declared.DropCall.{DropCall}
-use Rattle.lower_calls.specs.Calls.{stepped}
-use Rattle.lower_calls.specs.Sizes.{Sized}
-use Rattle.lower_calls.proofs.Clearing.{Cleared, counted}
-use Rattle.lower_calls.proofs.Restoring.{put-back}
+use Rattle.drop_scopes_spec.specs.declared.AtBlock.{AtBlock}
+use Rattle.drop_scopes_spec.specs.Dropping.{At}
+use Rattle.drop_scopes_spec.specs.Promises.{Pops}
+use Rattle.body_calls_spec.specs.declared.DropCall.{DropCall}
+use Rattle.body_calls_spec.specs.Calls.{stepped}
+use Rattle.body_calls_spec.specs.Sizes.{Sized}
+use Rattle.body_calls_spec.proofs.Clearing.{Cleared, counted}
+use Rattle.body_calls_spec.proofs.Restoring.{put-back}
 use Rattle.body_tables.specs.Layout.{blockWidth, blockWords, withBlocks}
-use Rattle.body_opening.specs.Promises.{Gives}
-use Rattle.body_opening.specs.Ways.{dropWay}
+use Rattle.body_calls_spec.specs.Promises.{Gives}
+use Rattle.body_calls_spec.specs.Ways.{dropWay}
 use Rattle.body_opening.proofs.Replying.{accepted, not-accepted}
 
 -- a call that gives `defined`: the body b was found, and b₁ is the one after zeros were written above the counts c

@@ -7,11 +7,11 @@ use lib.ListN.{length}
 use Rattle.row_tables.specs.Rows.{cleared}
 use Rattle.mir.specs.declared.Counts.{Counts}
 use Rattle.state.specs.State.{Body, decode, encode}
-use Rattle.check_body.specs.Bodies.{countsWithin}
-use Rattle.check_body.proofs.Checked.{within-of}
+use Rattle.body_row_rules.specs.Bodies.{countsWithin}
+use Rattle.body_row_rules.proofs.Checked.{within-of}
 use Rattle.body_words.specs.Words.{usedWords}
-use Rattle.lower_calls.specs.Sizes.{Sized}
-use Rattle.lower_calls.proofs.Clearing.{all-cleared}
+use Rattle.body_calls_spec.specs.Sizes.{Sized}
+use Rattle.body_calls_spec.proofs.Clearing.{all-cleared}
 use Rattle.body_tables.specs.Layout.{bodyWords, blockWidth, statementWidth, bodyOf, withBlocks, withStatements, withLocals, withScopes, withEntries}
 use Rattle.body_rules.proofs.Lengths.{lengths-of}
 

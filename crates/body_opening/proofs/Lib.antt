@@ -3,4 +3,3 @@ pub mod Emptying
 pub mod Naming
 pub mod Replying
 pub mod Dropping
-mod FiveTables

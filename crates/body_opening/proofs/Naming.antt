@@ -6,11 +6,11 @@ use native.Mathlib.Omega.{arith}
 use Rattle.image.specs.declared.Tables.{Tables}
 use Rattle.mir.specs.declared.Counts.{Counts}
 use Rattle.state.specs.State.{Body, State, decode}
-use Rattle.check_body.proofs.Checked.{entry-local, scope-start}
-use Rattle.drop_scopes.specs.Promises.{EntriesNamed, ScopesNamed}
-use Rattle.lower_calls.specs.Sizes.{Taken}
-use Rattle.lower_calls.proofs.Clearing.{Cleared}
-use Rattle.lower_calls.proofs.Answering.{same-word}
+use Rattle.body_row_rules.proofs.Checked.{entry-local, scope-start}
+use Rattle.drop_scopes_spec.specs.Promises.{EntriesNamed, ScopesNamed}
+use Rattle.body_calls_spec.specs.Sizes.{Taken}
+use Rattle.body_calls_spec.proofs.Clearing.{Cleared}
+use Rattle.body_calls_spec.proofs.Restoring.{same-word}
 
 -- in a body that is taken each entry is a local that there is, and no scope begins past the last entry
 pub taken-entries : {image : List ℕ} {tables : Tables} (b : Body) (c : Counts) → Taken image tables b c → EntriesNamed (b .entries) c

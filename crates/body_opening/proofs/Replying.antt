@@ -15,14 +15,14 @@ use Rattle.row_tables.specs.Rows.{rowAt, rowsOf}
 use Rattle.mir.specs.declared.Counts.{Counts}
 use Rattle.state.specs.State.{Body, decode, encode, countsOf}
 use Rattle.state.specs.Contracts.{Ready, Kept}
-use Rattle.check_body.specs.Bodies.{countsWithin}
-use Rattle.lower_calls.specs.declared.opening.Opened.{Opened}
-use Rattle.lower_calls.specs.Calls.{badImage, badCall, stepped, bodyTaken, call, openedOf}
-use Rattle.lower_calls.specs.Sizes.{Sized}
-use Rattle.lower_calls.proofs.Clearing.{clears, held, counted}
-use Rattle.lower_calls.proofs.Prologue.{not-valid, not-taken, taken}
-use Rattle.lower_calls.proofs.Restoring.{kept-below}
-use Rattle.body_opening.specs.Promises.{Way, Gives}
+use Rattle.body_row_rules.specs.Bodies.{countsWithin}
+use Rattle.body_calls_spec.specs.declared.Opened.{Opened}
+use Rattle.body_calls_spec.specs.Calls.{badImage, badCall, stepped, bodyTaken, call, openedOf}
+use Rattle.body_calls_spec.specs.Sizes.{Sized}
+use Rattle.body_calls_spec.proofs.Clearing.{clears, held, counted}
+use Rattle.body_calls_spec.proofs.Prologue.{not-valid, not-taken, taken}
+use Rattle.body_calls_spec.proofs.Restoring.{kept-below}
+use Rattle.body_calls_spec.specs.Promises.{Way, Gives}
 use Rattle.body_tables.specs.Layout.{blockWidth}
 
 -- counts that fit the tables are within the limits

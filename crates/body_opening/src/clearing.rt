@@ -14,7 +14,7 @@ ghost use Prim.Native.Nat.{_*_, _≤_};
 ghost use lib.ListN.{length};
 ghost use Rattle.row_tables.specs.Rows.{cleared};
 ghost use Rattle.state.specs.State.{decode, encode};
-ghost use Rattle.check_body.specs.Bodies.{countsWithin};
+ghost use Rattle.body_row_rules.specs.Bodies.{countsWithin};
 ghost use Rattle.body_tables.specs.Layout.{bodyWords, blockWidth, statementWidth, bodyOf, withBlocks, withStatements, withLocals, withScopes, withEntries};
 
 fn clear_blocks(body: &mut [u16], counts: Counts)

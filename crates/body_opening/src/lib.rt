@@ -3,14 +3,14 @@
 pub mod clearing; // clearing.rt: zeros above the counts
 pub mod restoring; // restoring.rt: the row of a block, and the same put back
 
+use body_calls_spec::Opened;
 use body_rules::body_holds;
 use body_tables::BODY_WORDS;
-use lower_calls::opening::Opened;
 use mir::Counts;
 use read_image::Read;
 use read_image::read_image;
 ghost use mathlib.Core.Path.{_≡_};
-ghost use Rattle.lower_calls.specs.Calls.{openedOf};
+ghost use Rattle.body_calls_spec.specs.Calls.{openedOf};
 ghost use Rattle.body_tables.specs.Layout.{bodyOf};
 
 // Image and body, with its scopes, are taken.

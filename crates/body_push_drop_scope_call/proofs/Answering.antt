@@ -5,13 +5,13 @@ use Rattle.mir.specs.declared.Counts.{Counts}
 use Rattle.state.specs.declared.Stepped.{Stepped}
 use Rattle.state.specs.State.{Body, decode}
 use Rattle.state.specs.Steps.{tryScope}
-use Rattle.lower_calls.specs.declared.ScopeCall.{ScopeCall}
-use Rattle.lower_calls.specs.Calls.{stepped}
-use Rattle.lower_calls.specs.Sizes.{Sized}
-use Rattle.lower_calls.proofs.Clearing.{Cleared, counted}
+use Rattle.body_calls_spec.specs.declared.ScopeCall.{ScopeCall}
+use Rattle.body_calls_spec.specs.Calls.{stepped}
+use Rattle.body_calls_spec.specs.Sizes.{Sized}
+use Rattle.body_calls_spec.proofs.Clearing.{Cleared, counted}
 use Rattle.body_scopes.specs.Promises.{Opens}
-use Rattle.body_opening.specs.Promises.{Gives}
-use Rattle.body_opening.specs.Ways.{scopeWay}
+use Rattle.body_calls_spec.specs.Promises.{Gives}
+use Rattle.body_calls_spec.specs.Ways.{scopeWay}
 use Rattle.body_opening.proofs.Replying.{accepted, not-accepted}
 
 -- the body b was found, b₁ is the one after zeros were written above the counts c, and b₂ the one behind the step

@@ -11,7 +11,7 @@ use Rattle.image.specs.Lists.{allTrue}
 use Rattle.image.proofs.Bools.{one-false}
 use Rattle.mir.specs.declared.Counts.{Counts}
 use Rattle.state.specs.State.{Body}
-use Rattle.check_body.specs.Bodies.{tablesSized, countsWithin, bodyHolds}
+use Rattle.body_row_rules.specs.Bodies.{tablesSized, countsWithin, bodyHolds}
 use Rattle.body_tables.specs.Layout.{bodyWords, blockWords, statementWords, statementsAt, localsAt, scopesAt, entriesAt, bodyOf}
 use Rattle.body_rules.specs.Rules.{holds}
 

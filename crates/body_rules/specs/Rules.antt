@@ -3,7 +3,7 @@ use Prim.Native.Nat.{ℕ}
 use mathlib.Core.Bool.{Bool}
 use Rattle.mir.specs.declared.Counts.{Counts}
 use Rattle.state.specs.State.{Body}
-use Rattle.check_body.specs.Bodies.{bodyHolds}
+use Rattle.body_row_rules.specs.Bodies.{bodyHolds}
 
 -- a body may be handed in, beside an image with so many types and variants
 abbrev pub holds : ℕ → ℕ → Body → Counts → Bool

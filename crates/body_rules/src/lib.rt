@@ -12,7 +12,7 @@ ghost use mathlib.Core.Path.{_≡_};
 ghost use Prim.Native.Nat.{_≤_};
 ghost use lib.ListN.{length};
 ghost use Rattle.image.specs.Lists.{allBelow};
-ghost use Rattle.check_body.specs.Bodies.{countsWithin, blockHolds, statementHolds, localHolds, scopeHolds, entryHolds, entriesBelong};
+ghost use Rattle.body_row_rules.specs.Bodies.{countsWithin, blockHolds, statementHolds, localHolds, scopeHolds, entryHolds, entriesBelong};
 ghost use Rattle.body_tables.specs.Layout.{bodyWords, bodyOf};
 ghost use Rattle.body_rules.specs.Rules.{holds};
 
@@ -74,7 +74,7 @@ fn entries_belong(body: &[u16], counts: Counts) -> bool
     requires { ⌜ length (now body) ≡ bodyWords ⌝ }
     ensures { λ r. ⌜ r ≡ entriesBelong (bodyOf (now (body .entry)) .scopes) counts ⌝ }
 {
-    check_body::rows::entries_belong(&body[SCOPES..ENTRIES], counts)
+    body_row_rules::rows::entries_belong(&body[SCOPES..ENTRIES], counts)
 }
 
 // A body and its scopes may be handed in, beside an image with so many types and variants.

@@ -1,15 +1,15 @@
 // Number 2's rules on the rows of one table: every row in use is looked at.
-use check_body::rows::block_holds;
-use check_body::rows::entry_holds;
-use check_body::rows::local_holds;
-use check_body::rows::scope_holds;
-use check_body::statement::statement_holds;
+use body_row_rules::rows::block_holds;
+use body_row_rules::rows::entry_holds;
+use body_row_rules::rows::local_holds;
+use body_row_rules::rows::scope_holds;
+use body_row_rules::statement::statement_holds;
 use mir::Counts;
 ghost use mathlib.Core.Path.{_≡_};
 ghost use Prim.Native.Nat.{_≤_};
 ghost use lib.ListN.{length};
 ghost use Rattle.image.specs.Lists.{allBelow};
-ghost use Rattle.check_body.specs.Bodies.{blockHolds, statementHolds, localHolds, scopeHolds, entryHolds};
+ghost use Rattle.body_row_rules.specs.Bodies.{blockHolds, statementHolds, localHolds, scopeHolds, entryHolds};
 ghost use Rattle.body_tables.specs.Layout.{blockWords, statementWords};
 
 pub fn blocks_hold(blocks: &[u16], counts: Counts) -> bool

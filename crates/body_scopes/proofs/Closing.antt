@@ -24,9 +24,9 @@ use Rattle.state.specs.Contracts.{Ready}
 use Rattle.state.proofs.Words.{words-before}
 use Rattle.state.proofs.Answering.{scope-count, entry-count, refuses, kept-refl}
 use Rattle.state.proofs.Stepping.{ready-scopes, ready-entries}
-use Rattle.drop_scopes.specs.declared.leaving.AtBlock.{AtBlock}
-use Rattle.drop_scopes.specs.Dropping.{At, leaveAll, lastFirst, entriesFrom, dropUntilScope, popAndDrop, popAssumeDropped}
-use Rattle.drop_scopes.specs.Promises.{ScopesNamed, Pops}
+use Rattle.drop_scopes_spec.specs.declared.AtBlock.{AtBlock}
+use Rattle.drop_scopes_spec.specs.Dropping.{At, leaveAll, lastFirst, entriesFrom, dropUntilScope, popAndDrop, popAssumeDropped}
+use Rattle.drop_scopes_spec.specs.Promises.{ScopesNamed, Pops}
 use Rattle.body_tables.specs.Layout.{blockWidth, statementWidth, withScopes, withEntries}
 use Rattle.body_scopes.specs.Promises.{Beside, Leaves, Closed, Closes}
 use Rattle.body_scopes.proofs.Emptying.{blank-last, blank-emptied}

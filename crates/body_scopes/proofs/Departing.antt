@@ -26,9 +26,9 @@ use Rattle.state.specs.Steps.{nextBlock, tryBlock, setTerminator}
 use Rattle.state.specs.Contracts.{Ready, Own, Answers}
 use Rattle.state.proofs.RowLengths.{dead-length}
 use Rattle.state.proofs.Answering.{grown-refl, grown-trans, kept-refl, kept-trans, then, stops, done, block-full, next-block}
-use Rattle.drop_scopes.specs.declared.leaving.AtBlock.{AtBlock}
-use Rattle.drop_scopes.specs.Dropping.{At, isCopy, markDead, emitDropAndStorageDead, leaveAll, lastFirst}
-use Rattle.drop_scopes.specs.Promises.{LeftAt}
+use Rattle.drop_scopes_spec.specs.declared.AtBlock.{AtBlock}
+use Rattle.drop_scopes_spec.specs.Dropping.{At, isCopy, markDead, emitDropAndStorageDead, leaveAll, lastFirst}
+use Rattle.drop_scopes_spec.specs.Promises.{LeftAt}
 use Rattle.body_tables.specs.Layout.{blockWidth, withBlocks, withStatements}
 use Rattle.body_tables.proofs.Building.{block-made, statement-made, terminator-set}
 use Rattle.body_scopes.specs.Promises.{Beside, Leaves}

@@ -9,9 +9,9 @@ use Rattle.state.specs.State.{Body, State, decode}
 use Rattle.state.specs.Steps.{tryScope, popScope}
 use Rattle.state.specs.Contracts.{Ready, Answers, steppedResult, steppedCounts}
 use Rattle.body_tables.specs.Promises.{Adds}
-use Rattle.drop_scopes.specs.declared.leaving.AtBlock.{AtBlock}
-use Rattle.drop_scopes.specs.Dropping.{At, popAssumeDropped}
-use Rattle.drop_scopes.specs.Promises.{atResult, atCounts, LeftAt, ReadyAt}
+use Rattle.drop_scopes_spec.specs.declared.AtBlock.{AtBlock}
+use Rattle.drop_scopes_spec.specs.Dropping.{At, popAssumeDropped}
+use Rattle.drop_scopes_spec.specs.Promises.{atResult, atCounts, LeftAt, ReadyAt}
 
 -- locals, scopes and entries are as they were
 pub record Beside (b₀ b : Body) : Type 0 where

@@ -9,15 +9,15 @@ use Rattle.mir.specs.declared.Counts.{Counts}
 use Rattle.state.specs.State.{Body, decode, encode}
 use Rattle.state.specs.Steps.{nextLocal}
 use Rattle.state.proofs.Answering.{next-local}
-use Rattle.lower.specs.declared.temps.NewTemp.{NewTemp}
-use Rattle.lower.specs.Temps.{temp}
-use Rattle.lower_calls.specs.declared.TempCall.{TempCall}
-use Rattle.lower_calls.specs.Calls.{stepped}
-use Rattle.lower_calls.specs.Sizes.{Sized}
-use Rattle.lower_calls.proofs.Clearing.{Cleared, counted}
+use Rattle.lower_spec.specs.declared.temps.NewTemp.{NewTemp}
+use Rattle.lower_spec.specs.Temps.{temp}
+use Rattle.body_calls_spec.specs.declared.TempCall.{TempCall}
+use Rattle.body_calls_spec.specs.Calls.{stepped}
+use Rattle.body_calls_spec.specs.Sizes.{Sized}
+use Rattle.body_calls_spec.proofs.Clearing.{Cleared, counted}
 use Rattle.body_lowering.specs.Promises.{Makes}
-use Rattle.body_opening.specs.Promises.{Gives}
-use Rattle.body_opening.specs.Ways.{tempWay}
+use Rattle.body_calls_spec.specs.Promises.{Gives}
+use Rattle.body_calls_spec.specs.Ways.{tempWay}
 use Rattle.body_opening.proofs.Replying.{accepted, not-accepted, all-below}
 
 -- the body b was found, b₁ is the one after zeros were written above the counts c, and b₂ the one behind the step

@@ -1,23 +1,23 @@
 // The public call `temp`, on a body in one table: every image, body and number is taken, or refused by document 01's number. Numbers 1 and 2 write nothing; any other
 // refusal leaves what lies below the counts as found, and zeros above.
+use body_calls_spec::Opened;
+use body_calls_spec::TempCall;
 use body_opening::clearing::clear_above;
 use body_opening::open;
+use body_row_rules::rows::is_type_word;
 use body_tables::BODY_WORDS;
-use check_body::rows::is_type_word;
 use image::Tables;
-use lower::temps::NewTemp;
-use lower_calls::TempCall;
-use lower_calls::opening::Opened;
+use lower_spec::temps::NewTemp;
 use mir::BasicBlockId;
 use mir::Counts;
 ghost use Rattle.image.specs.Tables.{Whole};
 ghost use Rattle.state.specs.State.{decode};
-ghost use Rattle.lower.specs.Temps.{temp};
-ghost use Rattle.lower_calls.specs.Calls.{stepped, tempCall};
-ghost use Rattle.lower_calls.specs.Sizes.{Sized};
+ghost use Rattle.lower_spec.specs.Temps.{temp};
+ghost use Rattle.body_calls_spec.specs.Calls.{stepped, tempCall};
+ghost use Rattle.body_calls_spec.specs.Sizes.{Sized};
 ghost use Rattle.body_tables.specs.Layout.{bodyOf};
-ghost use Rattle.body_opening.specs.Promises.{Gives};
-ghost use Rattle.body_opening.specs.Ways.{tempWay};
+ghost use Rattle.body_calls_spec.specs.Promises.{Gives};
+ghost use Rattle.body_calls_spec.specs.Ways.{tempWay};
 
 // The call's own step, on an image and a body that were looked at: zeros are written above the counts first, so that a new row lies among zeros.
 fn temp_step(

@@ -12,9 +12,9 @@ use Rattle.pattern_matching.specs.Walking.{Out, Walk, ok}
 use Rattle.counting.specs.Demand3.{Counted}
 use Rattle.room.specs.Room.{ScopeOpen, Made}
 use Rattle.room.proofs.Rooms as rooms
-use Rattle.match_calls.specs.declared.MatchCall.{MatchCall}
-use Rattle.match_calls.specs.Calls.{walked, patternMatchCall, walkAnswer, answer, ReadyWalk}
-use Rattle.match_calls.specs.Calls.{call as calling}
+use Rattle.pattern_calls_spec.specs.declared.MatchCall.{MatchCall}
+use Rattle.pattern_calls_spec.specs.Calls.{walked, patternMatchCall, walkAnswer, answer, ReadyWalk}
+use Rattle.pattern_calls_spec.specs.Calls.{call as calling}
 use Rattle.called.specs.Call.{Call, HandedOut, Promised, Accepted, Refused, before, after, patternOf, startOf, resultOf}
 use Rattle.called.specs.Runs.{FittingPattern}
 use Rattle.called.specs.Acceptance.{Taken, HasRoom, LimitPassed, IsAcceptance}

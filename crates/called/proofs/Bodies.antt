@@ -10,7 +10,7 @@ use Rattle.mir.specs.declared.BasicBlockId.{BasicBlockId}
 use Rattle.mir.specs.declared.blocks.Terminator.{Terminator}
 use Rattle.state.specs.State.{decode}
 use Rattle.state.proofs.Answering.{block-count}
-use Rattle.lower.specs.declared.merging.OptBlock.{OptBlock}
+use Rattle.lower_spec.specs.declared.merging.OptBlock.{OptBlock}
 use Rattle.pattern_matching.specs.declared.MatchingMode.{MatchingMode}
 use Rattle.pattern_matching.specs.Walking.{Out, Walk, ok, refused, next}
 use Rattle.pattern_matching.specs.Patterns.{patternMatch}
@@ -20,7 +20,7 @@ use Rattle.counting.specs.Demand3.{Counted}
 use Rattle.counting.specs.Reaching.{Reached}
 use Rattle.counting.proofs.Tallies.{le-or-lt}
 use Rattle.counting.proofs.Ors.{reached-low}
-use Rattle.match_calls.specs.declared.MatchCall.{MatchCall}
+use Rattle.pattern_calls_spec.specs.declared.MatchCall.{MatchCall}
 use Rattle.called.specs.Call.{Call, HandedOut, Accepted, after, patternOf, startOf, resultOf}
 use Rattle.called.specs.Runs.{placeTyOf, IsReachedIn}
 use Rattle.called.specs.Passes.{pass, TwoPasses}

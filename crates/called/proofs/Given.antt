@@ -23,11 +23,11 @@ use Rattle.mir.specs.Blocks.{isOpen}
 use Rattle.state.specs.State.{Body, decode}
 use Rattle.state.proofs.Answering.{block-count}
 use Rattle.state.proofs.Words.{length-words}
-use Rattle.check_body.specs.Bodies.{isBlock, isLocal, tablesSized, countsWithin, blockHolds, elemHolds, rvalueHolds, statementHolds, localHolds, scopeHolds, entryHolds, entriesBelong, bodyHolds}
-use Rattle.check_body.proofs.Checked.{sizes, within}
-use Rattle.lower.specs.declared.merging.OptBlock.{OptBlock}
+use Rattle.body_row_rules.specs.Bodies.{isBlock, isLocal, tablesSized, countsWithin, blockHolds, elemHolds, rvalueHolds, statementHolds, localHolds, scopeHolds, entryHolds, entriesBelong, bodyHolds}
+use Rattle.body_row_rules.proofs.Checked.{sizes, within}
+use Rattle.lower_spec.specs.declared.merging.OptBlock.{OptBlock}
 use Rattle.views.specs.Views.{terminatorOf, lineOf, mirOf}
-use Rattle.lower_calls.specs.Calls.{bodyTaken}
+use Rattle.body_calls_spec.specs.Calls.{bodyTaken}
 use Rattle.growth.specs.Opened.{terminator, lines, Below, ElseReady, Ready, Starts}
 use Rattle.growth.proofs.Working.{below-append}
 use Rattle.handed.specs.Handed.{startHolds, elseHolds, placeHolds, bindingHolds, bindingsHold, patternHanded, matchHolds}

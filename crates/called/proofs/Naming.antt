@@ -1,6 +1,6 @@
 -- Nothing names a local from the count of locals on, in the body that an accepted call was handed and in the one that it hands out. Assumes nothing.
 use Rattle.image.specs.Tables.{typeCount, variantCount}
-use Rattle.match_calls.specs.declared.MatchCall.{MatchCall}
+use Rattle.pattern_calls_spec.specs.declared.MatchCall.{MatchCall}
 use Rattle.named.specs.Named.{NamedBelow}
 use Rattle.named.proofs.Taken.{handed-named}
 use Rattle.named.proofs.Keeping.{kept-start}

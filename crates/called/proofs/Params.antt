@@ -17,20 +17,20 @@ use Rattle.mir.specs.declared.Counts.{Counts}
 use Rattle.mir.specs.declared.blocks.Terminator.{Terminator}
 use Rattle.state.specs.State.{Body, decode, countsOf}
 use Rattle.state.proofs.Answering.{block-count}
-use Rattle.lower.specs.declared.merging.OptBlock.{OptBlock}
-use Rattle.lower_calls.specs.Calls.{bodyTaken}
-use Rattle.lower_calls.proofs.Clearing.{clears, counted}
+use Rattle.lower_spec.specs.declared.merging.OptBlock.{OptBlock}
+use Rattle.body_calls_spec.specs.Calls.{bodyTaken}
+use Rattle.body_calls_spec.proofs.Clearing.{clears, counted}
 use Rattle.views.specs.Views.{Mir, mirOf}
 use Rattle.views.specs.Growing.{terminatorAt, GoesOn}
 use Rattle.pattern_matching.specs.Walking.{Walk, ok, refused}
 use Rattle.growth.specs.Opened.{Starts}
-use Rattle.walks.specs.Answers.{visitWord}
+use Rattle.pattern_walk_spec.specs.Answers.{visitWord}
 use Rattle.handed.specs.Handed.{bindingsHold, startHolds, elseHolds}
 use Rattle.meaning.specs.Values.{Value}
 use Rattle.meaning.specs.Running.{Env}
-use Rattle.lowered_params.specs.declared.ParamsCall.{ParamsCall}
-use Rattle.lowered_params.specs.Params.{Declared, ParamsOut}
-use Rattle.lowered_params.specs.Calls.{badImage, badCall, walked, paramsFrom, paramCount, paramsNamed, listFormed, receiverApart, listHolds, selfNamed, paramsHold, paramsCall, GivesParams}
+use Rattle.params_spec.specs.declared.ParamsCall.{ParamsCall}
+use Rattle.params_spec.specs.Params.{Declared, ParamsOut}
+use Rattle.params_spec.specs.Calls.{badImage, badCall, walked, paramsFrom, paramCount, paramsNamed, listFormed, receiverApart, listHolds, selfNamed, paramsHold, paramsCall, GivesParams}
 use Rattle.param_runs.specs.Totals.{firstLocal}
 use Rattle.param_runs.specs.Through.{Handed, allFit, HeldFrom}
 use Rattle.param_runs.proofs.OpenBlocks as opens

@@ -4,7 +4,7 @@ use mathlib.Core.Logic.{_⊎_}
 use Rattle.refusals.specs.declared.MirLowerError.{MirLowerError}
 use Rattle.refusals.specs.Refusals.{numberOf}
 use Rattle.image.specs.declared.PatId.{PatId}
-use Rattle.match_calls.specs.declared.MatchCall.{MatchCall}
+use Rattle.pattern_calls_spec.specs.declared.MatchCall.{MatchCall}
 use Rattle.fitted.proofs.Refusing as refusing
 use Rattle.called.specs.Call.{Call, Refused, patternOf, startOf}
 use Rattle.called.specs.Runs.{FittingPattern}

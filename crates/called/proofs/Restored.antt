@@ -13,26 +13,28 @@ use Rattle.image.specs.Valid.{valid}
 use Rattle.mir.specs.declared.BasicBlockId.{BasicBlockId}
 use Rattle.mir.specs.declared.Counts.{Counts}
 use Rattle.state.specs.State.{Body, State, decode, encode}
-use Rattle.check_body.proofs.Checked.{sizes, within}
-use Rattle.lower.specs.declared.merging.OptBlock.{OptBlock}
-use Rattle.lower_calls.specs.declared.TempCall.{TempCall}
-use Rattle.lower_calls.specs.declared.MergeCall.{MergeCall}
-use Rattle.lower_calls.specs.declared.ScopeCall.{ScopeCall}
-use Rattle.lower_calls.specs.declared.DropCall.{DropCall}
-use Rattle.lower_calls.specs.Sizes.{Sized}
-use Rattle.lower_calls.specs.Calls.{bodyTaken, tempCall, mergeBlocksCall, pushDropScopeCall, popAssumeDroppedCall, popAndDropCall, dropUntilScopeCall}
-use Rattle.lower_calls.specs.Calls.{call as stepping, stepped, calledRefusal}
-use Rattle.lower_calls.specs.Calls as steps
-use Rattle.lower_calls.specs.Answers.{Gives, tempRefusal, mergeRefusal, scopeRefusal, dropRefusal}
-use Rattle.lower_calls.proofs.Clearing.{clears}
+use Rattle.body_row_rules.proofs.Checked.{sizes, within}
+use Rattle.lower_spec.specs.declared.merging.OptBlock.{OptBlock}
+use Rattle.body_calls_spec.specs.declared.TempCall.{TempCall}
+use Rattle.body_calls_spec.specs.declared.MergeCall.{MergeCall}
+use Rattle.body_calls_spec.specs.declared.ScopeCall.{ScopeCall}
+use Rattle.body_calls_spec.specs.declared.DropCall.{DropCall}
+use Rattle.body_calls_spec.specs.Sizes.{Sized}
+use Rattle.body_calls_spec.specs.Calls.{bodyTaken, tempCall, mergeBlocksCall, pushDropScopeCall, popAssumeDroppedCall, popAndDropCall, dropUntilScopeCall}
+use Rattle.body_calls_spec.specs.Calls.{call as stepping, stepped, calledRefusal}
+use Rattle.body_calls_spec.specs.Calls as steps
+use Rattle.body_calls_spec.specs.Answers.{tempRefusal, mergeRefusal, scopeRefusal, dropRefusal}
+use Rattle.body_calls_spec.specs.Promises.{Way, Gives}
+use Rattle.body_calls_spec.specs.Ways.{tempWay, mergeWay, scopeWay, dropWay}
+use Rattle.body_calls_spec.proofs.Clearing.{clears}
 use Rattle.pattern_matching.specs.Walking.{Out, Walk, ok, refused}
-use Rattle.match_calls.specs.declared.MatchCall.{MatchCall}
-use Rattle.match_calls.specs.Calls.{badImage, badCall, walked, numbers, refusalOf, bodyAfter, visitsAfter, patternMatchCall, patternMatchAssignmentCall, matchSelfParamCall}
-use Rattle.match_calls.specs.Calls.{call as calling}
-use Rattle.lowered_params.specs.declared.ParamsCall.{ParamsCall}
-use Rattle.lowered_params.specs.Params.{ParamsOut}
-use Rattle.lowered_params.specs.Calls.{listHolds, paramsCall}
-use Rattle.lowered_params.specs.Calls as params
+use Rattle.pattern_calls_spec.specs.declared.MatchCall.{MatchCall}
+use Rattle.pattern_calls_spec.specs.Calls.{badImage, badCall, walked, numbers, refusalOf, bodyAfter, visitsAfter, patternMatchCall, patternMatchAssignmentCall, matchSelfParamCall}
+use Rattle.pattern_calls_spec.specs.Calls.{call as calling}
+use Rattle.params_spec.specs.declared.ParamsCall.{ParamsCall}
+use Rattle.params_spec.specs.Params.{ParamsOut}
+use Rattle.params_spec.specs.Calls.{listHolds, paramsCall}
+use Rattle.params_spec.specs.Calls as params
 use Rattle.called.specs.Call.{Call, Promised}
 use Rattle.called.specs.AsFound.{AsFound, NoneVisited}
 use Rattle.called.specs.Params.{ParamsHanded, ParamsTables, PromisedParams}
@@ -150,10 +152,9 @@ module _ (image : List ℕ) (b : Body) (c : Counts) (refusal : Refusal) (b′ : 
   on-body stateOf true true true (stopped e) T r is = restored image b c refusal b′ T (refusal-number e noPattern refusal r) is
 
   -- a call on a body, by its promise
-  left : {A R : Type 0} {stateOf : A → State} {answer : steps.Called A → R} {refusalIn : R → Option Refusal} (names : Bool) (step : Result A) (r : R) →
-      Gives stateOf answer refusalIn b c (stepping image b c names step) r b′ → refusalIn r ≡ some refusal → AsFound b c refusal b′
+  left : {A R : Type 0} (way : Way A R) (names : Bool) (step : Result A) (r : R) → Gives way b c (stepping image b c names step) r b′ → way .numbers r ≡ some refusal → AsFound b c refusal b′
   unfolding stepping
-  left {stateOf = stateOf} names step r G is = on-body stateOf (valid image) (bodyTaken image b c) names step refl (sym (G .refusal) ∙ is) (G .tables)
+  left way names step r G is = on-body (way .stateOf) (valid image) (bodyTaken image b c) names step refl (sym (G .refusal) ∙ is) (G .tables)
 
 -- `pattern_match`
 pub match-left : (call : Call) (answer : MatchCall) (body : Body) (visits : List ℕ) (refusal : Refusal) → Promised call answer body visits → numbers answer ≡ some refusal →
@@ -194,24 +195,24 @@ module _ (call : OnBody) (body : Body) (refusal : Refusal) where
 
   pub temp-left : (word : ℕ) (block : BasicBlockId) (answer : TempCall) → PromisedTemp call word block answer body → tempRefusal answer ≡ some refusal → Kept
   unfolding tempCall
-  temp-left word block answer = left (call .image) (call .body) (call .counts) refusal body _ _ answer
+  temp-left word block answer = left (call .image) (call .body) (call .counts) refusal body tempWay _ _ answer
 
   pub merge-left : (x y : OptBlock) (answer : MergeCall) → PromisedMerge call x y answer body → mergeRefusal answer ≡ some refusal → Kept
   unfolding mergeBlocksCall
-  merge-left x y answer = left (call .image) (call .body) (call .counts) refusal body _ _ answer
+  merge-left x y answer = left (call .image) (call .body) (call .counts) refusal body (mergeWay x y) _ _ answer
 
   pub push-left : (answer : ScopeCall) → PromisedPush call answer body → scopeRefusal answer ≡ some refusal → Kept
   unfolding pushDropScopeCall
-  push-left answer = left (call .image) (call .body) (call .counts) refusal body _ _ answer
+  push-left answer = left (call .image) (call .body) (call .counts) refusal body scopeWay _ _ answer
 
   pub pop-assume-dropped-left : (answer : ScopeCall) → PromisedPopAssumeDropped call answer body → scopeRefusal answer ≡ some refusal → Kept
   unfolding popAssumeDroppedCall
-  pop-assume-dropped-left answer = left (call .image) (call .body) (call .counts) refusal body _ _ answer
+  pop-assume-dropped-left answer = left (call .image) (call .body) (call .counts) refusal body scopeWay _ _ answer
 
   pub pop-and-drop-left : (block : BasicBlockId) (answer : DropCall) → PromisedPopAndDrop call block answer body → dropRefusal answer ≡ some refusal → Kept
   unfolding popAndDropCall
-  pop-and-drop-left block answer = left (call .image) (call .body) (call .counts) refusal body _ _ answer
+  pop-and-drop-left block answer = left (call .image) (call .body) (call .counts) refusal body dropWay _ _ answer
 
   pub drop-until-left : (i : ℕ) (block : BasicBlockId) (answer : DropCall) → PromisedDropUntil call i block answer body → dropRefusal answer ≡ some refusal → Kept
   unfolding dropUntilScopeCall
-  drop-until-left i block answer = left (call .image) (call .body) (call .counts) refusal body _ _ answer
+  drop-until-left i block answer = left (call .image) (call .body) (call .counts) refusal body dropWay _ _ answer

@@ -18,30 +18,32 @@ use Rattle.mir.specs.declared.BasicBlockId.{BasicBlockId}
 use Rattle.mir.specs.declared.Counts.{Counts}
 use Rattle.state.specs.State.{Body, State, decode, encode, padded, countsOf}
 use Rattle.state.proofs.Words.{length-words}
-use Rattle.check_body.specs.Bodies.{isLocal}
-use Rattle.lower.specs.declared.merging.OptBlock.{OptBlock}
-use Rattle.lower.specs.Recorded.{OncePerLocal}
-use Rattle.lower_calls.specs.declared.TempCall.{TempCall}
-use Rattle.lower_calls.specs.declared.MergeCall.{MergeCall}
-use Rattle.lower_calls.specs.declared.ScopeCall.{ScopeCall}
-use Rattle.lower_calls.specs.declared.DropCall.{DropCall}
-use Rattle.lower_calls.specs.Calls.{bodyTaken, tempCall, mergeBlocksCall, pushDropScopeCall, popAssumeDroppedCall, popAndDropCall, dropUntilScopeCall}
-use Rattle.lower_calls.specs.Calls.{call as stepping, stepped, badImage as noImage, badCall as noCall}
-use Rattle.lower_calls.specs.Calls as steps
-use Rattle.lower_calls.specs.Answers.{Gives, tempAnswer, mergeAnswer, scopeAnswer, dropAnswer}
-use Rattle.lower_calls.proofs.Clearing.{clears}
+use Rattle.body_row_rules.specs.Bodies.{isLocal}
+use Rattle.lower_spec.specs.declared.merging.OptBlock.{OptBlock}
+use Rattle.lower_spec.specs.Recorded.{OncePerLocal}
+use Rattle.body_calls_spec.specs.declared.TempCall.{TempCall}
+use Rattle.body_calls_spec.specs.declared.MergeCall.{MergeCall}
+use Rattle.body_calls_spec.specs.declared.ScopeCall.{ScopeCall}
+use Rattle.body_calls_spec.specs.declared.DropCall.{DropCall}
+use Rattle.body_calls_spec.specs.Calls.{bodyTaken, tempCall, mergeBlocksCall, pushDropScopeCall, popAssumeDroppedCall, popAndDropCall, dropUntilScopeCall}
+use Rattle.body_calls_spec.specs.Calls.{call as stepping, stepped, badImage as noImage, badCall as noCall}
+use Rattle.body_calls_spec.specs.Calls as steps
+use Rattle.body_calls_spec.specs.Answers.{tempAnswer, mergeAnswer, scopeAnswer, dropAnswer}
+use Rattle.body_calls_spec.specs.Promises.{Way, Gives}
+use Rattle.body_calls_spec.specs.Ways.{tempWay, mergeWay, scopeWay, dropWay}
+use Rattle.body_calls_spec.proofs.Clearing.{clears}
 use Rattle.pattern_matching.specs.declared.MatchingMode.{MatchingMode}
 use Rattle.pattern_matching.specs.Walking.{Out, Walk, ok, refused}
 use Rattle.pattern_matching.specs.Patterns.{patternMatchAssignment}
 use Rattle.handed.specs.Handed.{startHolds, bindingHolds, bindingsHold, selfHolds}
-use Rattle.match_calls.specs.declared.MatchCall.{MatchCall}
-use Rattle.match_calls.specs.Calls.{badImage, badCall, walked, namedIn, startCtx, answer, bodyAfter, patternMatchCall, patternMatchAssignmentCall, matchSelfParamCall}
-use Rattle.match_calls.specs.Calls.{call as calling}
-use Rattle.lowered_params.specs.declared.ParamsCall.{ParamsCall}
-use Rattle.lowered_params.specs.Params.{ParamsOut}
-use Rattle.lowered_params.specs.Calls.{listHolds, paramsHold, selfNamed, paramsCall}
-use Rattle.lowered_params.specs.Calls as params
-use Rattle.drop_scopes.specs.Dropping.{At}
+use Rattle.pattern_calls_spec.specs.declared.MatchCall.{MatchCall}
+use Rattle.pattern_calls_spec.specs.Calls.{badImage, badCall, walked, namedIn, startCtx, answer, bodyAfter, patternMatchCall, patternMatchAssignmentCall, matchSelfParamCall}
+use Rattle.pattern_calls_spec.specs.Calls.{call as calling}
+use Rattle.params_spec.specs.declared.ParamsCall.{ParamsCall}
+use Rattle.params_spec.specs.Params.{ParamsOut}
+use Rattle.params_spec.specs.Calls.{listHolds, paramsHold, selfNamed, paramsCall}
+use Rattle.params_spec.specs.Calls as params
+use Rattle.drop_scopes_spec.specs.Dropping.{At}
 use Rattle.named.specs.Named.{NamedBelow, WordsBelow}
 use Rattle.named.specs.Marked.{MarksRecorded}
 use Rattle.named.proofs.Taken.{handed-named}
@@ -147,13 +149,13 @@ module _ (image : List ℕ) (b : Body) (c : Counts) (b′ : Body) (c′ : Counts
   on-params true true true (refused e p) T r once is reply counts = restored T is (counts ∙ ap (countsAfterParams c) reply)
 
 -- a call on a body, by its promise; `countsIn` is what its answer says of the counts
-by-step : {A R : Type 0} {stateOf : A → State} {answer : steps.Called A → R} {refusalIn : R → Option Refusal} (image : List ℕ) (b : Body) (c : Counts) (b′ : Body) (names : Bool) (step : Result A)
-    (countsIn : R → Counts) → ((x : steps.Called A) → countsIn (answer x) ≡ calledCounts stateOf c x) →
-    (bodyTaken image b c ≡ true → (a : A) → step ≡ done a → OncePerLocal (decode b c) (stateOf a)) → (r : R) →
-    Gives stateOf answer refusalIn b c (stepping image b c names step) r b′ → StillOnce b c b′ (countsIn r)
+by-step : {A R : Type 0} (way : Way A R) (image : List ℕ) (b : Body) (c : Counts) (b′ : Body) (names : Bool) (step : Result A) (countsIn : R → Counts) →
+    ((x : steps.Called A) → countsIn (way .answer (decode b c) x) ≡ calledCounts (way .stateOf) c x) →
+    (bodyTaken image b c ≡ true → (a : A) → step ≡ done a → OncePerLocal (decode b c) (way .stateOf a)) → (r : R) →
+    Gives way b c (stepping image b c names step) r b′ → StillOnce b c b′ (countsIn r)
 unfolding stepping
-by-step {stateOf = stateOf} image b c b′ names step countsIn same once r G =
-    on-body image b c b′ (countsIn r) stateOf (valid image) (bodyTaken image b c) names step refl once (G .tables) (ap countsIn (G .reply) ∙ same (stepping image b c names step))
+by-step way image b c b′ names step countsIn same once r G =
+    on-body image b c b′ (countsIn r) (way .stateOf) (valid image) (bodyTaken image b c) names step refl once (G .tables) (ap countsIn (G .reply) ∙ same (stepping image b c names step))
 
 -- what the answers of the calls on a body say of the counts is what the definitions leave
 temp-counts : (st : State) (c : Counts) (x : steps.Called State) → countsAfterTemp c (tempAnswer st x) ≡ calledCounts (λ st. st) c x
@@ -191,27 +193,27 @@ module _ (call : OnBody) (body : Body) where
   pub temp-still-once : (word : ℕ) (block : BasicBlockId) (r : TempCall) → PromisedTemp call word block r body → StillOnce b c body (countsAfterTemp c r)
   unfolding tempCall
   temp-still-once word block r =
-      by-step (call .image) b c body _ _ (countsAfterTemp c) (temp-counts (decode b c) c) (λ T st e. temp-once (call .image) (decode b c) word block (taken-named (call .image) b c T) .at st e) r
+      by-step tempWay (call .image) b c body _ _ (countsAfterTemp c) (temp-counts (decode b c) c) (λ T st e. temp-once (call .image) (decode b c) word block (taken-named (call .image) b c T) .at st e) r
 
   pub merge-still-once : (x y : OptBlock) (r : MergeCall) → PromisedMerge call x y r body → StillOnce b c body (countsAfterMerge c r)
   unfolding mergeBlocksCall
-  merge-still-once x y r = by-step (call .image) b c body _ _ (countsAfterMerge c) (merge-counts (decode b c) x y c) (λ T st e. merge-once (decode b c) x y .at st e) r
+  merge-still-once x y r = by-step (mergeWay x y) (call .image) b c body _ _ (countsAfterMerge c) (merge-counts (decode b c) x y c) (λ T st e. merge-once (decode b c) x y .at st e) r
 
   pub push-still-once : (r : ScopeCall) → PromisedPush call r body → StillOnce b c body (countsAfterScope c r)
   unfolding pushDropScopeCall
-  push-still-once r = by-step (call .image) b c body _ _ (countsAfterScope c) (scope-counts c) (λ T st e. push-once (decode b c) .at st e) r
+  push-still-once r = by-step scopeWay (call .image) b c body _ _ (countsAfterScope c) (scope-counts c) (λ T st e. push-once (decode b c) .at st e) r
 
   pub pop-assume-dropped-still-once : (r : ScopeCall) → PromisedPopAssumeDropped call r body → StillOnce b c body (countsAfterScope c r)
   unfolding popAssumeDroppedCall
-  pop-assume-dropped-still-once r = by-step (call .image) b c body _ _ (countsAfterScope c) (scope-counts c) (λ T st e. pop-assume-dropped-once (decode b c) .at st e) r
+  pop-assume-dropped-still-once r = by-step scopeWay (call .image) b c body _ _ (countsAfterScope c) (scope-counts c) (λ T st e. pop-assume-dropped-once (decode b c) .at st e) r
 
   pub pop-and-drop-still-once : (block : BasicBlockId) (r : DropCall) → PromisedPopAndDrop call block r body → StillOnce b c body (countsAfterDrop c r)
   unfolding popAndDropCall
-  pop-and-drop-still-once block r = by-step (call .image) b c body _ _ (countsAfterDrop c) (drop-counts c) (λ T at e. pop-and-drop-once (call .image) (decode b c) block .at at e) r
+  pop-and-drop-still-once block r = by-step dropWay (call .image) b c body _ _ (countsAfterDrop c) (drop-counts c) (λ T at e. pop-and-drop-once (call .image) (decode b c) block .at at e) r
 
   pub drop-until-still-once : (i : ℕ) (block : BasicBlockId) (r : DropCall) → PromisedDropUntil call i block r body → StillOnce b c body (countsAfterDrop c r)
   unfolding dropUntilScopeCall
-  drop-until-still-once i block r = by-step (call .image) b c body _ _ (countsAfterDrop c) (drop-counts c) (λ T at e. drop-until-once (call .image) (decode b c) i block .at at e) r
+  drop-until-still-once i block r = by-step dropWay (call .image) b c body _ _ (countsAfterDrop c) (drop-counts c) (λ T at e. drop-until-once (call .image) (decode b c) i block .at at e) r
 
 -- `pattern_match`
 pub match-still-once : (call : Call) (r : MatchCall) (body : Body) (visits : List ℕ) → Promised call r body visits → StillOnce (call .body) (call .counts) body (countsAfterMatch (call .counts) r)

@@ -8,7 +8,7 @@ use lib.ListN.{length, getD}
 use Rattle.row_tables.proofs.Zeros.{length-zeros, zero-at}
 use Rattle.pattern_matching.specs.Walking.{Out, ok}
 use Rattle.pattern_matching.specs.Variants.{placeTy}
-use Rattle.walks.specs.Answers.{visitWord}
+use Rattle.pattern_walk_spec.specs.Answers.{visitWord}
 use Rattle.counting.proofs.Whole.{counted, visits-kept}
 use Rattle.counting.proofs.Ors.{visits-few}
 use Rattle.called.specs.Call.{Call, before, patternOf, startOf}

@@ -9,14 +9,14 @@ use Rattle.image.specs.Valid.{valid}
 use Rattle.refusals.specs.declared.MirLowerError.{MirLowerError}
 use Rattle.mir.specs.declared.Counts.{Counts}
 use Rattle.state.specs.State.{Body, decode, countsOf}
-use Rattle.lower_calls.specs.Calls.{bodyTaken}
+use Rattle.body_calls_spec.specs.Calls.{bodyTaken}
 use Rattle.pattern_matching.specs.Walking.{Out, Walk, ok, refused}
 use Rattle.pattern_matching.specs.Patterns.{patternMatch}
-use Rattle.walks.specs.Answers.{visitWord}
-use Rattle.match_calls.specs.declared.MatchCall.{MatchCall}
+use Rattle.pattern_walk_spec.specs.Answers.{visitWord}
+use Rattle.pattern_calls_spec.specs.declared.MatchCall.{MatchCall}
 use Rattle.handed.specs.Handed.{matchHolds}
-use Rattle.match_calls.specs.Calls.{badImage, badCall, walked, namedIn, patternMatchCall, Visits}
-use Rattle.match_calls.specs.Calls.{call as calling}
+use Rattle.pattern_calls_spec.specs.Calls.{badImage, badCall, walked, namedIn, patternMatchCall, Visits}
+use Rattle.pattern_calls_spec.specs.Calls.{call as calling}
 use Rattle.called.specs.Call.{Call, HandedOut, Promised, patternOf, startOf}
 use Rattle.called.specs.Acceptance.{Taken}
 

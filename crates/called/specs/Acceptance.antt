@@ -5,10 +5,10 @@ use mathlib.Core.Bool.{true}
 use mathlib.Core.List.{List}
 use Rattle.image.specs.Valid.{valid}
 use Rattle.state.specs.State.{Body}
-use Rattle.lower_calls.specs.Calls.{bodyTaken}
+use Rattle.body_calls_spec.specs.Calls.{bodyTaken}
 use Rattle.handed.specs.Handed.{matchHolds}
-use Rattle.match_calls.specs.declared.MatchCall.{MatchCall}
-use Rattle.match_calls.specs.Calls.{namedIn}
+use Rattle.pattern_calls_spec.specs.declared.MatchCall.{MatchCall}
+use Rattle.pattern_calls_spec.specs.Calls.{namedIn}
 use Rattle.room.specs.Room.{Room, Passed}
 use Rattle.called.specs.Call.{Call, HandedOut, Accepted, patternOf, startOf}
 

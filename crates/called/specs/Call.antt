@@ -11,12 +11,12 @@ use Rattle.place.specs.declared.Place.{Place}
 use Rattle.mir.specs.declared.BasicBlockId.{BasicBlockId}
 use Rattle.mir.specs.declared.Counts.{Counts}
 use Rattle.state.specs.State.{Body, State, decode}
-use Rattle.lower.specs.declared.merging.OptBlock.{OptBlock}
+use Rattle.lower_spec.specs.declared.merging.OptBlock.{OptBlock}
 use Rattle.pattern_matching.specs.Walking.{Ctx, Out}
-use Rattle.match_calls.specs.declared.MatchCall.{MatchCall}
-use Rattle.match_calls.specs.Calls.{patternMatchCall, Visits}
+use Rattle.pattern_calls_spec.specs.declared.MatchCall.{MatchCall}
+use Rattle.pattern_calls_spec.specs.Calls.{MatchGives}
 
--- what a call is handed: the image, the bindings' locals, the words of the five tables and of the visits', the counts, the pattern's
+-- what a call is handed: the image, the bindings' locals, the body, the words of the visits', the counts, the pattern's
 -- number, the block to start from, an else or none, and a place
 pub record Call : Type 0 where
   pub image : List ℕ
@@ -39,12 +39,9 @@ pub record HandedOut : Type 0 where
   pub body : Body
   pub visits : List ℕ
 
--- The contract of `pattern_match` (crates/pattern_calls/src/lib.rt, its `ensures`), of a call, its answer, and the tables' words when it returns.
+-- The contract of `pattern_match` (crates/pattern_match_call/src/lib.rt, its `ensures`), of a call, its answer, and the body and the visits when it returns.
 abbrev pub Promised : Call → MatchCall → Body → List ℕ → Type 0
-Promised call answer body visits =
-    Visits (call .body) (call .visits) (call .counts)
-    (patternMatchCall (call .image) (call .bindings) (call .body) (call .visits) (call .counts) (call .pattern) (call .start) (call .else) (call .place))
-    answer body visits
+Promised call = MatchGives (call .image) (call .bindings) (call .counts) (call .pattern) (call .start) (call .else) (call .place) (call .body) (call .visits)
 
 -- the call is accepted, and hands this out
 abbrev pub Accepted : Call → HandedOut → Type 0

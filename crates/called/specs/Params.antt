@@ -14,14 +14,14 @@ use Rattle.views.specs.Views.{Mir}
 use Rattle.pattern_matching.specs.Walking.{Ctx, Walk}
 use Rattle.meaning.specs.Values.{Value}
 use Rattle.meaning.specs.Running.{Env}
-use Rattle.lowered_params.specs.declared.SelfParam.{SelfParam}
-use Rattle.lowered_params.specs.declared.ParamsCall.{ParamsCall}
-use Rattle.lowered_params.specs.Params.{Param, Declared, ParamsOut, declare, lowerParamsAndBindings}
-use Rattle.lowered_params.specs.Calls.{ParamsCalled, paramsOf, listHolds, paramsHold, paramsCall, GivesParams}
+use Rattle.params_spec.specs.declared.SelfParam.{SelfParam}
+use Rattle.params_spec.specs.declared.ParamsCall.{ParamsCall}
+use Rattle.params_spec.specs.Params.{Param, Declared, ParamsOut, declare, lowerParamsAndBindings}
+use Rattle.params_spec.specs.Calls.{ParamsCalled, paramsOf, listHolds, paramsHold, paramsCall, ParamsGives}
 use Rattle.param_runs.specs.Totals.{ParamsCounted}
 use Rattle.param_runs.specs.Through.{allFit, bindingsDiffer, HeldFrom, ComesThrough}
 
--- what `lower_params_and_bindings` is handed: the image, the list of the parameters, self or none, the bindings' locals, the words of the five tables and of the visits',
+-- what `lower_params_and_bindings` is handed: the image, the list of the parameters, self or none, the bindings' locals, the body, the words of the visits',
 -- the counts, and the block to start from
 pub record ParamsHanded : Type 0 where
   pub image : List ℕ
@@ -50,9 +50,10 @@ NumbersTaken call = paramsHold (call .image) (call .self) (call .bindings) (call
 abbrev pub definedOf : ParamsHanded → ParamsCalled
 definedOf call = paramsCall (call .image) (call .list) (call .self) (call .bindings) (call .body) (call .visits) (call .counts) (call .start)
 
--- its contract (crates/params/src/lib.rt), of a call, its answer, and what is left
+-- its contract (crates/params_call/src/lib.rt), of a call, its answer, and what is left
 abbrev pub PromisedParams : ParamsHanded → ParamsCall → ParamsTables → Type 0
-PromisedParams call answer tables = GivesParams (call .bindings) (call .body) (call .visits) (call .counts) (definedOf call) answer (tables .bindings) (tables .body) (tables .visits)
+PromisedParams call answer tables =
+    ParamsGives (call .image) (call .list) (call .self) (call .counts) (call .start) (call .bindings) (call .body) (call .visits) answer (tables .bindings) (tables .body) (tables .visits)
 
 -- what it hands out where it is accepted: the counts, the block to go on from, the first parameter's local, and what is left
 pub record ParamsHandedOut : Type 0 where

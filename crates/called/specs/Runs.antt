@@ -7,7 +7,7 @@ use lib.ListN.{drop}
 use Rattle.image.specs.Tables.{typeCount}
 use Rattle.place.specs.declared.place_ty.PlaceTy.{PlaceTy}
 use Rattle.mir.specs.declared.BasicBlockId.{BasicBlockId}
-use Rattle.lower.specs.declared.merging.OptBlock.{OptBlock}
+use Rattle.lower_spec.specs.declared.merging.OptBlock.{OptBlock}
 use Rattle.pattern_matching.specs.Variants.{placeTy}
 use Rattle.views.specs.Views.{Line, Mir, mirOf}
 use Rattle.counting.specs.Reaching.{Reached}

@@ -1,13 +1,13 @@
 -- Request S-4, "One drop per local", of the calls: the entries that a call leaves. Assumes nothing: these are definitions.
 use Rattle.mir.specs.declared.Counts.{Counts}
 use Rattle.state.specs.State.{Body, decode}
-use Rattle.lower.specs.Recorded.{OncePerLocal}
-use Rattle.lower_calls.specs.declared.TempCall.{TempCall}
-use Rattle.lower_calls.specs.declared.MergeCall.{MergeCall}
-use Rattle.lower_calls.specs.declared.ScopeCall.{ScopeCall}
-use Rattle.lower_calls.specs.declared.DropCall.{DropCall}
-use Rattle.match_calls.specs.declared.MatchCall.{MatchCall}
-use Rattle.lowered_params.specs.declared.ParamsCall.{ParamsCall}
+use Rattle.lower_spec.specs.Recorded.{OncePerLocal}
+use Rattle.body_calls_spec.specs.declared.TempCall.{TempCall}
+use Rattle.body_calls_spec.specs.declared.MergeCall.{MergeCall}
+use Rattle.body_calls_spec.specs.declared.ScopeCall.{ScopeCall}
+use Rattle.body_calls_spec.specs.declared.DropCall.{DropCall}
+use Rattle.pattern_calls_spec.specs.declared.MatchCall.{MatchCall}
+use Rattle.params_spec.specs.declared.ParamsCall.{ParamsCall}
 
 -- the counts after a call, by its answer: those that it hands out or, where it is refused, those that it was handed
 abbrev pub countsAfterTemp : Counts → TempCall → Counts

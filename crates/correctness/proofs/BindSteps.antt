@@ -17,8 +17,8 @@ use Rattle.place.specs.declared.place_ty.PlaceTy.{PlaceTy}
 use Rattle.mir.specs.declared.BasicBlockId.{BasicBlockId}
 use Rattle.mir.specs.Rvalues.{placeRvalueRow}
 use Rattle.state.specs.Steps.{tryStatement}
-use Rattle.lower.specs.declared.merging.OptBlock.{OptBlock}
-use Rattle.lower.specs.Temps.{isHeld, bindingLocal, pushStorageLiveForLocal}
+use Rattle.lower_spec.specs.declared.merging.OptBlock.{OptBlock}
+use Rattle.lower_spec.specs.Temps.{isHeld, bindingLocal, pushStorageLiveForLocal}
 use Rattle.views.specs.Views.{ofPlace, set, Mir, mirOf}
 use Rattle.views.specs.Growing.{GoesOn}
 use Rattle.views.proofs.ReadBack.{place-rvalue-back}

@@ -21,8 +21,8 @@ use Rattle.mir.specs.Scopes.{entryLimit}
 use Rattle.mir.specs.Rvalues.{liveRow}
 use Rattle.state.specs.State.{State}
 use Rattle.state.specs.Steps.{within, nextLocal, newBlock, pushStatement, newLocal, pushEntry, setTerminator, tryBlock, tryStatement, tryLocal, tryEntry}
-use Rattle.lower.specs.declared.merging.OptBlock.{OptBlock}
-use Rattle.lower.specs.Temps.{isSlice, recordUnless, markLive, temp}
+use Rattle.lower_spec.specs.declared.merging.OptBlock.{OptBlock}
+use Rattle.lower_spec.specs.Temps.{isSlice, recordUnless, markLive, temp}
 use Rattle.views.specs.Views.{Statement, live, Line, Mir, lineOf, mirOf}
 use Rattle.views.specs.Growing.{terminatorAt, putTerminator, Quiet}
 use Rattle.views.proofs.ReadBack.{Halved, live-back}

@@ -12,7 +12,7 @@ use Rattle.image.specs.Tree.{tree}
 use Rattle.place.specs.declared.Place.{Place}
 use Rattle.mir.specs.declared.BasicBlockId.{BasicBlockId}
 use Rattle.state.specs.State.{State}
-use Rattle.lower.specs.declared.merging.OptBlock.{OptBlock}
+use Rattle.lower_spec.specs.declared.merging.OptBlock.{OptBlock}
 use Rattle.views.specs.Views.{Line, Mir, mirOf}
 use Rattle.views.specs.Growing.{Closed}
 use Rattle.pattern_matching.specs.Walking.{Ctx, Out, ok}

@@ -10,7 +10,7 @@ use mathlib.Core.List.{List, [], _∷_, _++_, append-nil, append-assoc}
 use borrow.Author.Tests.{eq-eqb, ne-eqb}
 use lib.ListN.{length}
 use Rattle.mir.specs.declared.blocks.Terminator.{Terminator}
-use Rattle.lower.specs.declared.merging.OptBlock.{OptBlock}
+use Rattle.lower_spec.specs.declared.merging.OptBlock.{OptBlock}
 use Rattle.views.specs.Views.{Line, Mir}
 use Rattle.views.specs.Growing.{terminatorAt, Closed}
 use Rattle.meaning.specs.Running.{Scene, Env, execute, switched, Run, here, skip, step, jump, branch}

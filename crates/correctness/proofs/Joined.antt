@@ -15,8 +15,8 @@ use Rattle.mir.specs.declared.blocks.Terminator.{Terminator}
 use Rattle.mir.specs.Blocks.{blockLimit}
 use Rattle.state.specs.State.{State}
 use Rattle.state.specs.Steps.{nextBlock, newBlock, tryBlock, setTerminator}
-use Rattle.lower.specs.declared.merging.OptBlock.{OptBlock}
-use Rattle.lower.specs.Merging.{setGoto}
+use Rattle.lower_spec.specs.declared.merging.OptBlock.{OptBlock}
+use Rattle.lower_spec.specs.Merging.{setGoto}
 use Rattle.views.specs.Views.{Line, Mir, mirOf}
 use Rattle.views.specs.Growing.{Closed, GoesOn}
 use Rattle.pattern_matching.specs.declared.MatchingMode.{MatchingMode}

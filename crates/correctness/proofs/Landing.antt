@@ -7,7 +7,7 @@ use mathlib.Core.List.{List, [], _++_}
 use Rattle.mir.specs.declared.BasicBlockId.{BasicBlockId}
 use Rattle.mir.specs.declared.blocks.Terminator.{Terminator}
 use Rattle.state.specs.State.{State}
-use Rattle.lower.specs.declared.merging.OptBlock.{OptBlock}
+use Rattle.lower_spec.specs.declared.merging.OptBlock.{OptBlock}
 use Rattle.views.specs.Views.{Line, Mir}
 use Rattle.pattern_matching.specs.Walking.{Ctx, Out}
 use Rattle.growth.specs.Opened.{count, terminator, lines, ElseReady, Ready, ElseLeft, Leaves}

@@ -20,8 +20,8 @@ use Rattle.mir.specs.declared.rvalues.PlaceRvalue.{PlaceRvalue}
 use Rattle.mir.specs.Rvalues.{placeRvalueRow}
 use Rattle.state.specs.State.{State}
 use Rattle.state.specs.Steps.{nextBlock, nextLocal, tryBlock, tryStatement}
-use Rattle.lower.specs.declared.merging.OptBlock.{OptBlock}
-use Rattle.lower.specs.Temps.{temp, discrTempPlace}
+use Rattle.lower_spec.specs.declared.merging.OptBlock.{OptBlock}
+use Rattle.lower_spec.specs.Temps.{temp, discrTempPlace}
 use Rattle.views.specs.Views.{ofPlace, Mir, mirOf}
 use Rattle.views.specs.Views.{set as puts}
 use Rattle.views.specs.Growing.{GoesOn}

@@ -17,7 +17,7 @@ use Rattle.place.specs.declared.place_ty.PlaceTy.{PlaceTy}
 use Rattle.mir.specs.declared.BasicBlockId.{BasicBlockId}
 use Rattle.mir.specs.declared.rvalues.Constant.{Constant}
 use Rattle.mir.specs.declared.rvalues.BinOp.{BinOp}
-use Rattle.lower.specs.declared.merging.OptBlock.{OptBlock}
+use Rattle.lower_spec.specs.declared.merging.OptBlock.{OptBlock}
 use Rattle.literals.specs.Literals.{lowerLiteralToOperand, lowerConstToOperand, lowerLiteralOrConstToOperand}
 use Rattle.views.specs.Views.{Mir, mirOf}
 use Rattle.views.specs.Growing.{GoesOn}

@@ -17,8 +17,8 @@ use Rattle.mir.specs.declared.rvalues.Left.{Left}
 use Rattle.mir.specs.Rvalues.{binaryRow}
 use Rattle.state.specs.State.{State}
 use Rattle.state.specs.Steps.{nextLocal, setTerminator, tryStatement}
-use Rattle.lower.specs.declared.merging.OptBlock.{OptBlock}
-use Rattle.lower.specs.Temps.{temp}
+use Rattle.lower_spec.specs.declared.merging.OptBlock.{OptBlock}
+use Rattle.lower_spec.specs.Temps.{temp}
 use Rattle.views.specs.Views.{binary, Mir, mirOf}
 use Rattle.views.specs.Views.{set as puts}
 use Rattle.views.specs.Growing.{Closed, GoesOn}

@@ -20,8 +20,8 @@ use Rattle.mir.specs.Rvalues.{constantRow, binaryRow}
 use Rattle.state.specs.State.{State}
 use Rattle.state.specs.Steps.{nextBlock, nextLocal, tryBlock, tryStatement}
 use Rattle.literals.specs.Literals.{lowerConstToOperand, lowerLiteralOrConstToOperand}
-use Rattle.lower.specs.declared.merging.OptBlock.{OptBlock}
-use Rattle.lower.specs.Temps.{temp}
+use Rattle.lower_spec.specs.declared.merging.OptBlock.{OptBlock}
+use Rattle.lower_spec.specs.Temps.{temp}
 use Rattle.views.specs.Views.{ofConstant, binary, Mir, mirOf}
 use Rattle.views.specs.Views.{set as puts}
 use Rattle.views.specs.Growing.{GoesOn}

@@ -12,7 +12,7 @@ use Rattle.place.specs.declared.LocalId.{LocalId}
 use Rattle.mir.specs.declared.BasicBlockId.{BasicBlockId}
 use Rattle.mir.specs.declared.blocks.Terminator.{Terminator}
 use Rattle.state.specs.State.{State}
-use Rattle.lower.specs.declared.merging.OptBlock.{OptBlock}
+use Rattle.lower_spec.specs.declared.merging.OptBlock.{OptBlock}
 use Rattle.views.specs.Views.{Line, Mir, lineOf, mirOf}
 use Rattle.views.specs.Growing.{Closed, Quiet, GoesOn}
 use Rattle.pattern_matching.specs.Walking.{Ctx, Out}

@@ -9,7 +9,7 @@ use Rattle.place.specs.declared.place_ty.PlaceTy.{PlaceTy}
 use Rattle.place.specs.Elems.{Fits}
 use Rattle.place.specs.PlaceTypes.{projectionTy, multiProjectionTy}
 use Rattle.mir.specs.declared.BasicBlockId.{BasicBlockId}
-use Rattle.lower.specs.declared.merging.OptBlock.{OptBlock}
+use Rattle.lower_spec.specs.declared.merging.OptBlock.{OptBlock}
 use Rattle.pattern_matching.specs.Walking.{Ctx, Out, Walk, Lowering, next, project}
 use Rattle.pattern_matching.specs.Variants.{patternMatchAdt}
 use Rattle.counting.specs.Reaching.{zip, someArgument, Reaching, Reached, throughArguments}

@@ -20,8 +20,8 @@ use Rattle.mir.specs.declared.BasicBlockId.{BasicBlockId}
 use Rattle.mir.specs.Rvalues.{placeRvalueRow}
 use Rattle.state.specs.State.{State}
 use Rattle.state.specs.Steps.{tryStatement}
-use Rattle.lower.specs.declared.merging.OptBlock.{OptBlock}
-use Rattle.lower.specs.Temps.{isHeld, bindingLocal, pushStorageLiveForLocal}
+use Rattle.lower_spec.specs.declared.merging.OptBlock.{OptBlock}
+use Rattle.lower_spec.specs.Temps.{isHeld, bindingLocal, pushStorageLiveForLocal}
 use Rattle.pattern_matching.specs.Walking.{Ctx, Out, Walk, ok, Lowering, next, step, out, withState, project, visited, inCheck}
 use Rattle.pattern_matching.specs.Tests.{bindingRvalue, patternMatchBinding}
 use Rattle.pattern_matching.specs.Variants.{patternMatchAdt}

@@ -10,7 +10,7 @@ use lib.Dec.{eqb}
 use lib.ListN.{length}
 use Rattle.image.specs.Tree.{Pat}
 use Rattle.place.specs.declared.place_ty.PlaceTy.{PlaceTy}
-use Rattle.lower.specs.declared.merging.OptBlock.{OptBlock}
+use Rattle.lower_spec.specs.declared.merging.OptBlock.{OptBlock}
 use Rattle.counting.specs.Reaching.{Reached, reached}
 use Rattle.counting.specs.Counting.{one, total, checkVisits, visitsOf, blocksOf, bindStatements, statementsOf, elseMade, mostOrs}
 use Rattle.counting.proofs.Going.{block, statement, visit}

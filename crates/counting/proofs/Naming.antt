@@ -16,7 +16,7 @@ use Rattle.place.specs.declared.elems.ProjectionElem.{ProjectionElem}
 use Rattle.place.specs.declared.place_ty.PlaceTy.{PlaceTy}
 use Rattle.place.specs.PlaceTypes.{projectionTy, multiProjectionTy}
 use Rattle.mir.specs.declared.BasicBlockId.{BasicBlockId}
-use Rattle.lower.specs.declared.merging.OptBlock.{OptBlock}
+use Rattle.lower_spec.specs.declared.merging.OptBlock.{OptBlock}
 use Rattle.pattern_matching.specs.Walking.{Ctx, Out, Walk, refused, Lowering, step, out, project, visited, inCheck}
 use Rattle.pattern_matching.specs.Variants.{AdtPatternShape, needed, variantFields, discriminantTest, variantOn, adtOn}
 use Rattle.counting.specs.Reaching.{Argument, isEnum, downcast, inARow, byFields, someArgument, Reaching, Reached, naming, throughArguments}

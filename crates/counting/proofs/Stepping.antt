@@ -6,7 +6,7 @@ use native.Mathlib.Nat.{le-trans, lt-of-lt-of-le}
 use native.Mathlib.Omega.{arith}
 use lib.ListN.{length}
 use Rattle.mir.specs.declared.BasicBlockId.{BasicBlockId}
-use Rattle.lower.specs.declared.merging.OptBlock.{OptBlock}
+use Rattle.lower_spec.specs.declared.merging.OptBlock.{OptBlock}
 use Rattle.pattern_matching.specs.Walking.{Ctx, Out}
 use Rattle.counting.specs.Counting.{one, elseMade}
 use Rattle.counting.specs.Demand3.{ElseIs}

@@ -19,8 +19,8 @@ use Rattle.mir.specs.Rvalues.{placeRvalueRow, constantRow, binaryRow}
 use Rattle.state.specs.State.{State}
 use Rattle.state.specs.Steps.{nextBlock, nextLocal, tryBlock, tryStatement, setTerminator}
 use Rattle.literals.specs.Literals.{lowerConstToOperand, lowerLiteralOrConstToOperand}
-use Rattle.lower.specs.declared.merging.OptBlock.{OptBlock}
-use Rattle.lower.specs.Temps.{temp, discrTempPlace}
+use Rattle.lower_spec.specs.declared.merging.OptBlock.{OptBlock}
+use Rattle.lower_spec.specs.Temps.{temp, discrTempPlace}
 use Rattle.pattern_matching.specs.declared.MatchingMode.{MatchingMode}
 use Rattle.pattern_matching.specs.Walking.{Ctx, Out, Walk, step, out, withState, localPlace, elseState, elseBlock}
 use Rattle.pattern_matching.specs.Tests.{boolWord, usizeWord, ifTrue, compare, patternMatchConst, constantPath, rangeEnd, rangeEnd?}

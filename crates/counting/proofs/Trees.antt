@@ -11,7 +11,7 @@ use Rattle.refusals.specs.declared.MirLowerError.{MirLowerError}
 use Rattle.place.specs.declared.Place.{Place}
 use Rattle.place.specs.declared.place_ty.PlaceTy.{PlaceTy}
 use Rattle.mir.specs.declared.BasicBlockId.{BasicBlockId}
-use Rattle.lower.specs.declared.merging.OptBlock.{OptBlock}
+use Rattle.lower_spec.specs.declared.merging.OptBlock.{OptBlock}
 use Rattle.pattern_matching.specs.Walking.{Ctx, Lowering, visited}
 use Rattle.pattern_matching.specs.Slices.{sliceOn}
 use Rattle.pattern_matching.specs.Patterns.{bindPattern, orPattern, restOf, patternMatchInner, lowerings, lowering?}

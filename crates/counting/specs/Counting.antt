@@ -8,7 +8,7 @@ use mathlib.Core.Logic.{_⊎_}
 use lib.Dec.{eqb}
 use Rattle.image.specs.Tree.{Pat}
 use Rattle.place.specs.declared.place_ty.PlaceTy.{PlaceTy}
-use Rattle.lower.specs.declared.merging.OptBlock.{OptBlock}
+use Rattle.lower_spec.specs.declared.merging.OptBlock.{OptBlock}
 use Rattle.counting.specs.Reaching.{Reached, canFail, reached}
 
 -- one where it holds

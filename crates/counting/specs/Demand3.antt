@@ -7,7 +7,7 @@ use mathlib.Core.List.{List}
 use lib.ListN.{length, getD}
 use Rattle.image.specs.Tree.{Pat}
 use Rattle.place.specs.declared.Place.{Place}
-use Rattle.lower.specs.declared.merging.OptBlock.{OptBlock}
+use Rattle.lower_spec.specs.declared.merging.OptBlock.{OptBlock}
 use Rattle.pattern_matching.specs.Walking.{Ctx, Out}
 use Rattle.pattern_matching.specs.Variants.{placeTy}
 use Rattle.counting.specs.Reaching.{canFail}

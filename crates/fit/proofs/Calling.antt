@@ -15,7 +15,7 @@ use Rattle.image.specs.Valid.{valid}
 use Rattle.image.proofs.Bools.{and-left, and-right}
 use Rattle.read_image.specs.declared.Read.{Read}
 use Rattle.read_image.specs.Read.{readOf}
-use Rattle.lower_calls.proofs.Prologue.{read-valid, read-refused, whole-of}
+use Rattle.body_calls_spec.proofs.Prologue.{read-valid, read-refused, whole-of}
 use Rattle.meaning.specs.Fit.{typesFit, bindingsFit, nothingRefused, localsDiffer, fits}
 use Rattle.fit_reached.specs.Taking.{FitsSomewhere}
 use Rattle.fit.specs.declared.FitCall.{FitCall}

@@ -5,16 +5,16 @@ ghost use lib.ListN.{drop};
 ghost use Rattle.image.specs.Lists.{member, distinct};
 ghost use Rattle.meaning.specs.Fit.{present, localsDiffer};
 
-// The local l is that of a binding, from the binding `from` on.
-fn stands_from(bindings: &[u16], from: usize, l: u16) -> bool
-    ensures { λ r. ⌜ r ≡ member l (present (drop from (now (bindings .entry)))) ⌝ }
+// The local l is that of a binding, from the binding `from` on. 65535 is that of none.
+fn stands_from(bindings: &[u16], from: usize, l: LocalId) -> bool
+    ensures { λ r. ⌜ r ≡ member (l .0) (present (drop from (now (bindings .entry)))) ⌝ }
 {
-    if l == 65535 {
+    if l.0 == 65535 {
         return false;
     }
     let mut i = from;
     while i < bindings.len() {
-        if bindings[i] == l {
+        if bindings[i] == l.0 {
             return true;
         }
         i += 1;
@@ -28,7 +28,7 @@ fn bindings_differ(bindings: &[u16]) -> bool
 {
     let mut i = 0;
     while i < bindings.len() {
-        let l = bindings[i];
+        let l = LocalId(bindings[i]);
         i += 1;
         if stands_from(bindings, i, l) {
             return false;
@@ -41,7 +41,7 @@ fn bindings_differ(bindings: &[u16]) -> bool
 pub fn locals_differ(bindings: &[u16], root: LocalId) -> bool
     ensures { λ r. ⌜ r ≡ localsDiffer (now (bindings .entry)) (root .0) ⌝ }
 {
-    if stands_from(bindings, 0, root.0) {
+    if stands_from(bindings, 0, root) {
         return false;
     }
     bindings_differ(bindings)

@@ -7,6 +7,7 @@ use mathlib.Core.List.{List, [], _∷_, _++_, append-nil, append-assoc}
 use native.Mathlib.Omega.{arith}
 use borrow.Author.Tests.{ltb-true}
 use lib.Dec.{eqb, ltb}
+use Rattle.image.specs.declared.BindingId.{BindingId}
 use Rattle.image.specs.declared.kinds.PatKind.{PatKind}
 use Rattle.image.specs.declared.kinds.TypeKind.{TypeKind}
 use Rattle.image.specs.declared.rows.PatRow.{PatRow}
@@ -38,7 +39,7 @@ headOf p row = record { number = p; ty = row .ty; derefs = row .derefs }
 
 module _ (image : List ℕ) where
   -- a rest that binds, by the kind of the slice's type
-  rest-by-type : (k : TypeKind) (row : TypeRow) (b t items : ℕ) → owned (restOfType k row b t items) ≡ restTy (shapeBy k image row) b t items ∷ []
+  rest-by-type : (k : TypeKind) (row : TypeRow) (b : BindingId) (t items : ℕ) → owned (restOfType k row b t items) ≡ restTy (shapeBy k image row) (b .0) t items ∷ []
   unfolding owned restOfType shapeBy restTy
   rest-by-type TypeKind.Integer row b t items = refl
   rest-by-type TypeKind.Bool row b t items = refl
@@ -66,7 +67,7 @@ module _ (image : List ℕ) where
   rest-by-kind PatKind.Slice g h row t items = refl
   rest-by-kind PatKind.Path g h row t items = refl
   rest-by-kind PatKind.Lit g h row t items = refl
-  rest-by-kind PatKind.Bind g h row t items = rest-by-type (typeKind (typeAt image t .kind)) (typeAt image t) (row .a) t items
+  rest-by-kind PatKind.Bind g h row t items = rest-by-type (typeKind (typeAt image t .kind)) (typeAt image t) (record { 0 = row .a }) t items
   rest-by-kind PatKind.TupleStruct g h row t items = refl
   rest-by-kind PatKind.Ref g h row t items = refl
   rest-by-kind PatKind.Expr g h row t items = refl

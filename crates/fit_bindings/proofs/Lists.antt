@@ -6,6 +6,7 @@ use mathlib.Core.Option.{none, some}
 use mathlib.Core.List.{List, [], _∷_, _++_, map}
 use borrow.Author.Tests.{eqb-true, eqb-false, eq-eqb, ne-eqb}
 use lib.Dec.{eqb}
+use Rattle.image.specs.declared.BindingId.{BindingId}
 use Rattle.image.specs.Lists.{member, distinct}
 use Rattle.image.proofs.Bools.{and-left, and-right}
 use Rattle.meaning.specs.Fit.{BoundAt, sameCount, standsIn, within}
@@ -130,24 +131,24 @@ one-put x xs ys = once-put x xs ys ∙ sym (and-assoc (not (member (x .binding) 
 pub once-split : {whole rest : List BoundAt} (own : Own) → Split whole (owned own) rest → once whole ≡ allOf (agrees Test.Apart rest) (owned own) && once rest
 unfolding owned allOf agrees
 once-split Own.None s = ap once (s .whole-is ∙ sym (s .rest-is))
-once-split (Own.At b t) s = rw (s .whole-is, s .rest-is) (one-put (record { binding = b; ty = t; lengthLeft = none }) (s .front) (s .back))
-once-split (Own.Rest b t n) s = rw (s .whole-is, s .rest-is) (one-put (record { binding = b; ty = t; lengthLeft = some n }) (s .front) (s .back))
+once-split (Own.At b t) s = rw (s .whole-is, s .rest-is) (one-put (record { binding = b .0; ty = t; lengthLeft = none }) (s .front) (s .back))
+once-split (Own.Rest b t n) s = rw (s .whole-is, s .rest-is) (one-put (record { binding = b .0; ty = t; lengthLeft = some n }) (s .front) (s .back))
 
 -- the tests, by what is looked for
-pub stands-at : (b t : ℕ) (ys : List BoundAt) → standsIn (record { binding = b; ty = t; lengthLeft = none }) ys ≡ anyOf (meets (Wanted.At b t)) ys
+pub stands-at : (b : BindingId) (t : ℕ) (ys : List BoundAt) → standsIn (record { binding = b .0; ty = t; lengthLeft = none }) ys ≡ anyOf (meets (Wanted.At b t)) ys
 unfolding standsIn anyOf meets
 stands-at b t [] = refl
-stands-at b t (y ∷ ys) = ap (λ (c : Bool). (eqb b (y .binding) && eqb t (y .ty) && sameCount none (y .lengthLeft)) || c) (stands-at b t ys)
+stands-at b t (y ∷ ys) = ap (λ (c : Bool). (eqb (b .0) (y .binding) && eqb t (y .ty) && sameCount none (y .lengthLeft)) || c) (stands-at b t ys)
 
-pub stands-rest : (b t n : ℕ) (ys : List BoundAt) → standsIn (record { binding = b; ty = t; lengthLeft = some n }) ys ≡ anyOf (meets (Wanted.Rest b t n)) ys
+pub stands-rest : (b : BindingId) (t n : ℕ) (ys : List BoundAt) → standsIn (record { binding = b .0; ty = t; lengthLeft = some n }) ys ≡ anyOf (meets (Wanted.Rest b t n)) ys
 unfolding standsIn anyOf meets
 stands-rest b t n [] = refl
-stands-rest b t n (y ∷ ys) = ap (λ (c : Bool). (eqb b (y .binding) && eqb t (y .ty) && sameCount (some n) (y .lengthLeft)) || c) (stands-rest b t n ys)
+stands-rest b t n (y ∷ ys) = ap (λ (c : Bool). (eqb (b .0) (y .binding) && eqb t (y .ty) && sameCount (some n) (y .lengthLeft)) || c) (stands-rest b t n ys)
 
-pub member-any : (b : ℕ) (ys : List BoundAt) → member b (numbersOf ys) ≡ anyOf (meets (Wanted.Binding b)) ys
+pub member-any : (b : BindingId) (ys : List BoundAt) → member (b .0) (numbersOf ys) ≡ anyOf (meets (Wanted.Binding b)) ys
 unfolding member anyOf meets
 member-any b [] = refl
-member-any b (y ∷ ys) = ap (λ (c : Bool). eqb b (y .binding) || c) (member-any b ys)
+member-any b (y ∷ ys) = ap (λ (c : Bool). eqb (b .0) (y .binding) || c) (member-any b ys)
 
 pub within-all : (xs ys : List BoundAt) → within xs ys ≡ allOf (agrees Test.Same ys) xs
 unfolding within allOf agrees

@@ -6,6 +6,7 @@ use mathlib.Core.List.{List}
 use native.Mathlib.Omega.{arith}
 use borrow.Author.Tests.{eqb-true, ltb-true, eq-eqb, ne-eqb}
 use lib.Dec.{eqb, ltb}
+use Rattle.image.specs.declared.BindingId.{BindingId}
 use Rattle.image.specs.declared.kinds.PatKind.{PatKind}
 use Rattle.image.specs.declared.kinds.TypeKind.{TypeKind}
 use Rattle.image.specs.declared.rows.PatRow.{PatRow}
@@ -68,12 +69,12 @@ telling-one node d ne =
     one (suc n) ne = refl
 
 -- `rest_of_type`: the type's row and kind as they were read
-pub rest-type-is : (image : List ℕ) (t b items : ℕ) {row : TypeRow} {k : TypeKind} (j : TypeKind) → row ≡ typeAt image t → k ≡ typeKind (row .kind) → k ≡ j →
+pub rest-type-is : (image : List ℕ) (t : ℕ) (b : BindingId) (items : ℕ) {row : TypeRow} {k : TypeKind} (j : TypeKind) → row ≡ typeAt image t → k ≡ typeKind (row .kind) → k ≡ j →
     restOfType j row b t items ≡ restOfType (typeKind (typeAt image t .kind)) (typeAt image t) b t items
 rest-type-is image t b items j d e same = rw (sym same, e, d) refl
 
 -- and an array that has no more elements than there are items
-pub rest-array-none : (image : List ℕ) (t b items : ℕ) {row : TypeRow} {k : TypeKind} → row ≡ typeAt image t → k ≡ typeKind (row .kind) → k ≡ TypeKind.Array → row .b ≤ items →
+pub rest-array-none : (image : List ℕ) (t : ℕ) (b : BindingId) (items : ℕ) {row : TypeRow} {k : TypeKind} → row ≡ typeAt image t → k ≡ typeKind (row .kind) → k ≡ TypeKind.Array → row .b ≤ items →
     Own.Rest b (row .a) 0 ≡ restOfType (typeKind (typeAt image t .kind)) (typeAt image t) b t items
 unfolding restOfType
 rest-array-none image t b items {row = row} d e same h =
@@ -101,48 +102,48 @@ pub node-is : (image : List ℕ) (p : ℕ) {row : PatRow} {k : PatKind} → row 
 node-is image p e f = rw (f, e) refl
 
 -- `wants_at`
-module _ (b t : ℕ) where
-  pub at-other : (x y : ℕ) → (x ≡ b → ⊥) → false ≡ anyOf (meets (Wanted.At x y)) (owned (Own.At b t))
+module _ (b : BindingId) (t : ℕ) where
+  pub at-other : (x : BindingId) (y : ℕ) → (x .0 ≡ b .0 → ⊥) → false ≡ anyOf (meets (Wanted.At x y)) (owned (Own.At b t))
   unfolding anyOf meets owned
-  at-other x y ne = rw (ne-eqb x b ne) refl
+  at-other x y ne = rw (ne-eqb (x .0) (b .0) ne) refl
 
-  pub at-same : (x y : ℕ) → x ≡ b → eqb y t ≡ anyOf (meets (Wanted.At x y)) (owned (Own.At b t))
+  pub at-same : (x : BindingId) (y : ℕ) → x .0 ≡ b .0 → eqb y t ≡ anyOf (meets (Wanted.At x y)) (owned (Own.At b t))
   unfolding anyOf meets owned
-  at-same x y e = rw (eq-eqb x b e) (sym (or-false (eqb y t && true) ∙ and-true (eqb y t)))
+  at-same x y e = rw (eq-eqb (x .0) (b .0) e) (sym (or-false (eqb y t && true) ∙ and-true (eqb y t)))
 
-  pub at-rest : (x y n : ℕ) → false ≡ anyOf (meets (Wanted.Rest x y n)) (owned (Own.At b t))
+  pub at-rest : (x : BindingId) (y n : ℕ) → false ≡ anyOf (meets (Wanted.Rest x y n)) (owned (Own.At b t))
   unfolding anyOf meets owned
-  at-rest x y n = sym (or-false (eqb x b && eqb y t && false) ∙ and-false (eqb x b && eqb y t))
+  at-rest x y n = sym (or-false (eqb (x .0) (b .0) && eqb y t && false) ∙ and-false (eqb (x .0) (b .0) && eqb y t))
 
-  pub at-binding : (x : ℕ) → eqb x b ≡ anyOf (meets (Wanted.Binding x)) (owned (Own.At b t))
+  pub at-binding : (x : BindingId) → eqb (x .0) (b .0) ≡ anyOf (meets (Wanted.Binding x)) (owned (Own.At b t))
   unfolding anyOf meets owned
-  at-binding x = sym (or-false (eqb x b))
+  at-binding x = sym (or-false (eqb (x .0) (b .0)))
 
 -- `wants_rest`
-module _ (b t left : ℕ) where
-  pub rest-other : (x y n : ℕ) → (x ≡ b → ⊥) → false ≡ anyOf (meets (Wanted.Rest x y n)) (owned (Own.Rest b t left))
+module _ (b : BindingId) (t left : ℕ) where
+  pub rest-other : (x : BindingId) (y n : ℕ) → (x .0 ≡ b .0 → ⊥) → false ≡ anyOf (meets (Wanted.Rest x y n)) (owned (Own.Rest b t left))
   unfolding anyOf meets owned
-  rest-other x y n ne = rw (ne-eqb x b ne) refl
+  rest-other x y n ne = rw (ne-eqb (x .0) (b .0) ne) refl
 
-  pub rest-other-type : (x y n : ℕ) → (y ≡ t → ⊥) → false ≡ anyOf (meets (Wanted.Rest x y n)) (owned (Own.Rest b t left))
+  pub rest-other-type : (x : BindingId) (y n : ℕ) → (y ≡ t → ⊥) → false ≡ anyOf (meets (Wanted.Rest x y n)) (owned (Own.Rest b t left))
   unfolding anyOf meets owned
   rest-other-type x y n ne =
-      rw (ne-eqb y t ne) (sym (or-false (eqb x b && false && eqb n left) ∙ ap (λ (c : Bool). c && eqb n left) (and-false (eqb x b))))
+      rw (ne-eqb y t ne) (sym (or-false (eqb (x .0) (b .0) && false && eqb n left) ∙ ap (λ (c : Bool). c && eqb n left) (and-false (eqb (x .0) (b .0)))))
 
-  pub rest-same : (x y n : ℕ) → x ≡ b → y ≡ t → eqb n left ≡ anyOf (meets (Wanted.Rest x y n)) (owned (Own.Rest b t left))
+  pub rest-same : (x : BindingId) (y n : ℕ) → x .0 ≡ b .0 → y ≡ t → eqb n left ≡ anyOf (meets (Wanted.Rest x y n)) (owned (Own.Rest b t left))
   unfolding anyOf meets owned
-  rest-same x y n d e = rw (eq-eqb x b d, eq-eqb y t e) (sym (or-false (eqb n left)))
+  rest-same x y n d e = rw (eq-eqb (x .0) (b .0) d, eq-eqb y t e) (sym (or-false (eqb n left)))
 
-  pub rest-at : (x y : ℕ) → false ≡ anyOf (meets (Wanted.At x y)) (owned (Own.Rest b t left))
+  pub rest-at : (x : BindingId) (y : ℕ) → false ≡ anyOf (meets (Wanted.At x y)) (owned (Own.Rest b t left))
   unfolding anyOf meets owned
-  rest-at x y = sym (or-false (eqb x b && eqb y t && false) ∙ and-false (eqb x b && eqb y t))
+  rest-at x y = sym (or-false (eqb (x .0) (b .0) && eqb y t && false) ∙ and-false (eqb (x .0) (b .0) && eqb y t))
 
-  pub rest-binding : (x : ℕ) → eqb x b ≡ anyOf (meets (Wanted.Binding x)) (owned (Own.Rest b t left))
+  pub rest-binding : (x : BindingId) → eqb (x .0) (b .0) ≡ anyOf (meets (Wanted.Binding x)) (owned (Own.Rest b t left))
   unfolding anyOf meets owned
-  rest-binding x = sym (or-false (eqb x b))
+  rest-binding x = sym (or-false (eqb (x .0) (b .0)))
 
 -- `at_agrees` and `rest_agrees`
-module _ {r : Bool} (b t : ℕ) (ys : List BoundAt) where
+module _ {r : Bool} (b : BindingId) (t : ℕ) (ys : List BoundAt) where
   pub at-stands : r ≡ anyOf (meets (Wanted.At b t)) ys → r ≡ allOf (agrees Test.Same ys) (owned (Own.At b t))
   unfolding allOf agrees owned
   at-stands e = e ∙ sym (stands-at b t ys) ∙ sym (and-true _)

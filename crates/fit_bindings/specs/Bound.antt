@@ -30,14 +30,14 @@ boundInRow image row = boundInAll image (rowTrees image row)
 -- the binding that stands in a pattern itself
 unfoldable pub owned : Own → List BoundAt
 owned Own.None = []
-owned (Own.At b t) = record { binding = b; ty = t; lengthLeft = none } ∷ []
-owned (Own.Rest b t n) = record { binding = b; ty = t; lengthLeft = some n } ∷ []
+owned (Own.At b t) = record { binding = b .0; ty = t; lengthLeft = none } ∷ []
+owned (Own.Rest b t n) = record { binding = b .0; ty = t; lengthLeft = some n } ∷ []
 
 -- a binding at a type, or a binding at any type
 unfoldable pub meets : Wanted → BoundAt → Bool
-meets (Wanted.At b t) y = eqb b (y .binding) && eqb t (y .ty) && sameCount none (y .lengthLeft)
-meets (Wanted.Rest b t n) y = eqb b (y .binding) && eqb t (y .ty) && sameCount (some n) (y .lengthLeft)
-meets (Wanted.Binding b) y = eqb b (y .binding)
+meets (Wanted.At b t) y = eqb (b .0) (y .binding) && eqb t (y .ty) && sameCount none (y .lengthLeft)
+meets (Wanted.Rest b t n) y = eqb (b .0) (y .binding) && eqb t (y .ty) && sameCount (some n) (y .lengthLeft)
+meets (Wanted.Binding b) y = eqb (b .0) (y .binding)
 
 -- a binding stands among others at the same type, or does not stand among them at any type
 unfoldable pub agrees : Test → List BoundAt → BoundAt → Bool

@@ -4,6 +4,7 @@ use mathlib.Core.Path.{_≡_}
 use mathlib.Core.Bool.{Bool, true, false, cond, _&&_, _||_}
 use mathlib.Core.List.{List, [], _∷_}
 use lib.Dec.{eqb, leb, ltb}
+use Rattle.image.specs.declared.BindingId.{BindingId}
 use Rattle.image.specs.declared.kinds.PatKind.{PatKind}
 use Rattle.image.specs.declared.kinds.TypeKind.{TypeKind}
 use Rattle.image.specs.declared.rows.PatRow.{PatRow}
@@ -74,10 +75,10 @@ alternativesNode row = record { own = Own.None; row = row; alternatives = true }
 
 -- a Bind
 abbrev pub bindNode : ℕ → PatRow → Node
-bindNode p row = record { own = Own.At (row .a) (row .ty); row = presentRow p (row .b); alternatives = false }
+bindNode p row = record { own = Own.At (record { 0 = row .a }) (row .ty); row = presentRow p (row .b); alternatives = false }
 
 -- the binding of a rest, by the kind of the slice's type
-unfoldable pub restOfType : TypeKind → TypeRow → ℕ → ℕ → ℕ → Own
+unfoldable pub restOfType : TypeKind → TypeRow → BindingId → ℕ → ℕ → Own
 restOfType TypeKind.Integer row b t items = Own.At b t
 restOfType TypeKind.Bool row b t items = Own.At b t
 restOfType TypeKind.Char row b t items = Own.At b t
@@ -89,26 +90,26 @@ restOfType TypeKind.Array row b t items = Own.Rest b (row .a) (row .b - items)
 restOfType TypeKind.Slice row b t items = Own.At b t
 restOfType TypeKind.Unknown row b t items = Own.At b t
 
--- a rest that is a Bind binds
+-- a rest that is a Bind binds the binding that the word a of its row is
 unfoldable pub restByKind : PatKind → List ℕ → ℕ → ℕ → ℕ → Own
-restByKind PatKind.Missing image b t items = Own.None
-restByKind PatKind.Rest image b t items = Own.None
-restByKind PatKind.NotNull image b t items = Own.None
-restByKind PatKind.Wild image b t items = Own.None
-restByKind PatKind.Tuple image b t items = Own.None
-restByKind PatKind.Or image b t items = Own.None
-restByKind PatKind.Record image b t items = Own.None
-restByKind PatKind.Range image b t items = Own.None
-restByKind PatKind.Slice image b t items = Own.None
-restByKind PatKind.Path image b t items = Own.None
-restByKind PatKind.Lit image b t items = Own.None
-restByKind PatKind.Bind image b t items = restOfType (typeKind (typeAt image t .kind)) (typeAt image t) b t items
-restByKind PatKind.TupleStruct image b t items = Own.None
-restByKind PatKind.Ref image b t items = Own.None
-restByKind PatKind.Expr image b t items = Own.None
-restByKind PatKind.Box image b t items = Own.None
-restByKind PatKind.Deref image b t items = Own.None
-restByKind PatKind.Unknown image b t items = Own.None
+restByKind PatKind.Missing image a t items = Own.None
+restByKind PatKind.Rest image a t items = Own.None
+restByKind PatKind.NotNull image a t items = Own.None
+restByKind PatKind.Wild image a t items = Own.None
+restByKind PatKind.Tuple image a t items = Own.None
+restByKind PatKind.Or image a t items = Own.None
+restByKind PatKind.Record image a t items = Own.None
+restByKind PatKind.Range image a t items = Own.None
+restByKind PatKind.Slice image a t items = Own.None
+restByKind PatKind.Path image a t items = Own.None
+restByKind PatKind.Lit image a t items = Own.None
+restByKind PatKind.Bind image a t items = restOfType (typeKind (typeAt image t .kind)) (typeAt image t) (record { 0 = a }) t items
+restByKind PatKind.TupleStruct image a t items = Own.None
+restByKind PatKind.Ref image a t items = Own.None
+restByKind PatKind.Expr image a t items = Own.None
+restByKind PatKind.Box image a t items = Own.None
+restByKind PatKind.Deref image a t items = Own.None
+restByKind PatKind.Unknown image a t items = Own.None
 
 -- a rest that may be absent
 unfoldable pub restOwn : List ℕ → ℕ → ℕ → ℕ → Own

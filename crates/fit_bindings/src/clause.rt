@@ -8,6 +8,7 @@ use super::nodes::first;
 use super::nodes::node_at;
 use super::nodes::one;
 use super::nodes::rest;
+use image::PatId;
 use image::Tables;
 ghost use mathlib.Core.Path.{_≡_};
 ghost use mathlib.Core.Bool.{true};
@@ -20,12 +21,12 @@ ghost use Rattle.fit_bindings.specs.Nodes.{Lies, rowTrees};
 ghost use Rattle.fit_bindings.specs.Bound.{boundInRow, joins};
 
 // Two patterns bind the same bindings at the same types.
-fn same(image: &[u8], tables: Tables, p: u16, q: u16) -> bool
-    requires { ⌜ (valid (now image) ≡ true) × Whole (now image) tables × (p < patternCount (now image)) × (q < patternCount (now image)) ⌝ }
-    ensures { λ r. ⌜ r ≡ sameBindings (boundIn (now (image .entry)) (tree (now (image .entry)) p)) (boundIn (now (image .entry)) (tree (now (image .entry)) q)) ⌝ }
+fn same(image: &[u8], tables: Tables, p: PatId, q: PatId) -> bool
+    requires { ⌜ (valid (now image) ≡ true) × Whole (now image) tables × (p .0 < patternCount (now image)) × (q .0 < patternCount (now image)) ⌝ }
+    ensures { λ r. ⌜ r ≡ sameBindings (boundIn (now (image .entry)) (tree (now (image .entry)) (p .0))) (boundIn (now (image .entry)) (tree (now (image .entry)) (q .0))) ⌝ }
 {
-    let a = one(p + 1, p);
-    let b = one(q + 1, q);
+    let a = one(p.0 + 1, p);
+    let b = one(q.0 + 1, q);
     if !each_agrees(image, tables, Test::Same, a, b) {
         return false;
     }
@@ -61,7 +62,7 @@ fn once(image: &[u8], tables: Tables, row: Row) -> bool
     while left.count != 0 {
         let p = first(image, tables, left);
         left = rest(left);
-        if !each_agrees(image, tables, Test::Apart, one(p + 1, p), left) {
+        if !each_agrees(image, tables, Test::Apart, one(p.0 + 1, p), left) {
             return false;
         }
     }

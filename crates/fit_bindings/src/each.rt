@@ -7,6 +7,7 @@ use super::nodes::first;
 use super::nodes::node_at;
 use super::nodes::rest;
 use super::nodes::telling;
+use image::BindingId;
 use image::Tables;
 ghost use mathlib.Core.Path.{_≡_};
 ghost use mathlib.Core.Bool.{true};
@@ -22,7 +23,7 @@ pub enum Test {
 }
 
 // The binding b at the type t is bound in the others as the test asks.
-fn at_agrees(image: &[u8], tables: Tables, test: Test, b: u16, t: u16, others: Row) -> bool
+fn at_agrees(image: &[u8], tables: Tables, test: Test, b: BindingId, t: u16, others: Row) -> bool
     requires { ⌜ (valid (now image) ≡ true) × Whole (now image) tables × Lies (now image) others ⌝ }
     ensures { λ r. ⌜ r ≡ allOf (agrees test (boundInRow (now (image .entry)) others)) (owned (Own.At b t)) ⌝ }
 {
@@ -37,7 +38,7 @@ fn rest_agrees(
     image: &[u8],
     tables: Tables,
     test: Test,
-    b: u16,
+    b: BindingId,
     t: u16,
     n: u16,
     others: Row,

@@ -5,6 +5,7 @@ use super::nodes::first;
 use super::nodes::node_at;
 use super::nodes::rest;
 use super::nodes::telling;
+use image::BindingId;
 use image::Tables;
 ghost use mathlib.Core.Path.{_≡_};
 ghost use mathlib.Core.Bool.{true};
@@ -15,35 +16,35 @@ ghost use Rattle.fit_bindings.specs.Bound.{anyOf, meets, owned, boundInR
 
 // What is looked for: a binding at a type, a binding of an array's rest at the elements' type and how many are left, or a binding at any type.
 pub enum Wanted {
-    At(u16, u16),
-    Rest(u16, u16, u16),
-    Binding(u16),
+    At(BindingId, u16),
+    Rest(BindingId, u16, u16),
+    Binding(BindingId),
 }
 
 // The binding b at the type t is wanted.
-fn wants_at(wanted: Wanted, b: u16, t: u16) -> bool
+fn wants_at(wanted: Wanted, b: BindingId, t: u16) -> bool
     ensures { λ r. ⌜ r ≡ anyOf (meets wanted) (owned (Own.At b t)) ⌝ }
 {
     match wanted {
         Wanted::At(x, y) => {
-            if x != b {
+            if x.0 != b.0 {
                 return false;
             }
             y == t
         }
         Wanted::Rest(x, y, n) => false,
-        Wanted::Binding(x) => x == b,
+        Wanted::Binding(x) => x.0 == b.0,
     }
 }
 
 // The binding b at the elements' type t, so many of which are left, is wanted.
-fn wants_rest(wanted: Wanted, b: u16, t: u16, left: u16) -> bool
+fn wants_rest(wanted: Wanted, b: BindingId, t: u16, left: u16) -> bool
     ensures { λ r. ⌜ r ≡ anyOf (meets wanted) (owned (Own.Rest b t left)) ⌝ }
 {
     match wanted {
         Wanted::At(x, y) => false,
         Wanted::Rest(x, y, n) => {
-            if x != b {
+            if x.0 != b.0 {
                 return false;
             }
             if y != t {
@@ -51,7 +52,7 @@ fn wants_rest(wanted: Wanted, b: u16, t: u16, left: u16) -> bool
             }
             n == left
         }
-        Wanted::Binding(x) => x == b,
+        Wanted::Binding(x) => x.0 == b.0,
     }
 }
 

@@ -19,5 +19,5 @@ pub fn bindings_fit(image: &[u8], tables: Tables, p: PatId) -> bool
     requires { ⌜ (valid (now image) ≡ true) × Whole (now image) tables × (p .0 < patternCount (now image)) ⌝ }
     ensures { λ r. ⌜ r ≡ bindingsFit (now (image .entry)) (tree (now (image .entry)) (p .0)) ⌝ }
 {
-    clause::all_fit(image, tables, nodes::one(p.0 + 1, p.0))
+    clause::all_fit(image, tables, nodes::one(p.0 + 1, p))
 }

@@ -1,4 +1,5 @@
 // A pattern's own binding, and its row of subpatterns.
+use image::BindingId;
 use image::PatId;
 use image::Tables;
 use image::kinds::PatKind;
@@ -32,8 +33,8 @@ pub struct Row {
 // The binding that stands in a pattern itself: its number and its type, and of an array's rest how many elements are left.
 pub enum Own {
     None,
-    At(u16, u16),
-    Rest(u16, u16, u16),
+    At(BindingId, u16),
+    Rest(BindingId, u16, u16),
 }
 
 // A pattern's own binding, its subpatterns, and whether these are alternatives.
@@ -44,14 +45,14 @@ pub struct Node {
 }
 
 // The first pattern of a row.
-pub fn first(image: &[u8], tables: Tables, row: Row) -> u16
+pub fn first(image: &[u8], tables: Tables, row: Row) -> PatId
     requires { ⌜ Whole (now image) tables × Lies (now image) row × (0 < row .count) ⌝ }
-    ensures { λ r. ⌜ r ≡ numberAt (now (image .entry)) (row .step) (row .from) ⌝ }
+    ensures { λ r. ⌜ r .0 ≡ numberAt (now (image .entry)) (row .step) (row .from) ⌝ }
 {
     if row.step == 0 {
-        return row.from;
+        return PatId(row.from);
     }
-    list_at(image, tables, row.from)
+    PatId(list_at(image, tables, row.from))
 }
 
 // The row without its first pattern.
@@ -68,18 +69,18 @@ pub fn rest(row: Row) -> Row
 }
 
 // The row of one pattern.
-pub fn one(below: u16, p: u16) -> Row
-    ensures { λ r. ⌜ r ≡ oneRow below p ⌝ }
+pub fn one(below: u16, p: PatId) -> Row
+    ensures { λ r. ⌜ r ≡ oneRow below (p .0) ⌝ }
 {
     Row {
         below: below,
         step: 0,
-        from: p,
+        from: p.0,
         count: 1,
     }
 }
 
-// The row of a pattern that may be absent.
+// The row of a pattern that may be absent. Where it is absent the word p is 65535.
 fn present(below: u16, p: u16) -> Row
     ensures { λ r. ⌜ r ≡ presentRow below p ⌝ }
 {
@@ -91,7 +92,7 @@ fn present(below: u16, p: u16) -> Row
             count: 0,
         };
     }
-    one(below, p)
+    one(below, PatId(p))
 }
 
 // Words of the list, each `step` behind the one before.
@@ -136,18 +137,18 @@ fn alternatives(row: Row) -> Node
 }
 
 // A Bind.
-fn bind_node(p: u16, row: PatRow) -> Node
-    ensures { λ r. ⌜ r ≡ bindNode p row ⌝ }
+fn bind_node(p: PatId, row: PatRow) -> Node
+    ensures { λ r. ⌜ r ≡ bindNode (p .0) row ⌝ }
 {
     Node {
-        own: Own::At(row.a, row.ty),
-        row: present(p, row.b),
+        own: Own::At(BindingId(row.a), row.ty),
+        row: present(p.0, row.b),
         alternatives: false,
     }
 }
 
 // The binding b of a rest: t is the slice's type, and `items` the count of its items.
-fn rest_of_type(image: &[u8], tables: Tables, b: u16, t: u16, items: u16) -> Own
+fn rest_of_type(image: &[u8], tables: Tables, b: BindingId, t: u16, items: u16) -> Own
     requires { ⌜ Whole (now image) tables × (t < typeCount (now image)) ⌝ }
     ensures { λ r. ⌜ r ≡ restOfType (typeKind (typeAt (now (image .entry)) t .kind)) (typeAt (now (image .entry)) t) b t items ⌝ }
 {
@@ -171,13 +172,13 @@ fn rest_of_type(image: &[u8], tables: Tables, b: u16, t: u16, items: u16) -> Own
     }
 }
 
-// The binding of a rest, by its row and kind.
-fn rest_by_kind(image: &[u8], tables: Tables, kind: PatKind, b: u16, t: u16, items: u16) -> Own
+// The binding of a rest, by its kind. Only of a Bind is the word a of its row a binding.
+fn rest_by_kind(image: &[u8], tables: Tables, kind: PatKind, a: u16, t: u16, items: u16) -> Own
     requires { ⌜ Whole (now image) tables × (t < typeCount (now image)) ⌝ }
-    ensures { λ r. ⌜ r ≡ restByKind kind (now (image .entry)) b t items ⌝ }
+    ensures { λ r. ⌜ r ≡ restByKind kind (now (image .entry)) a t items ⌝ }
 {
     match kind {
-        PatKind::Bind => rest_of_type(image, tables, b, t, items),
+        PatKind::Bind => rest_of_type(image, tables, BindingId(a), t, items),
         PatKind::Missing => Own::None,
         PatKind::Rest => Own::None,
         PatKind::NotNull => Own::None,
@@ -198,7 +199,7 @@ fn rest_by_kind(image: &[u8], tables: Tables, kind: PatKind, b: u16, t: u16, ite
     }
 }
 
-// The binding of a rest that may be absent.
+// The binding of a rest that may be absent. Where it is absent the word d is 65535.
 fn rest_own(image: &[u8], tables: Tables, d: u16, t: u16, items: u16) -> Own
     requires { ⌜ Whole (now image) tables × (t < typeCount (now image)) × (eqb d absent || ltb d (patternCount (now image)) ≡ true) ⌝ }
     ensures { λ r. ⌜ r ≡ restOwn (now (image .entry)) d t items ⌝ }
@@ -211,51 +212,51 @@ fn rest_own(image: &[u8], tables: Tables, d: u16, t: u16, items: u16) -> Own
 }
 
 // A slice: the binding of its rest, and its prefix and suffix, which stand in one row.
-fn slice_node(image: &[u8], tables: Tables, p: u16, row: PatRow) -> Node
-    requires { ⌜ (valid (now image) ≡ true) × Whole (now image) tables × (p < patternCount (now image)) × (row ≡ patAt (now image) p) × (patKind (row .kind) ≡ PatKind.Slice) ⌝ }
-    ensures { λ r. ⌜ r ≡ nodeBy PatKind.Slice (now (image .entry)) p row ⌝ }
+fn slice_node(image: &[u8], tables: Tables, p: PatId, row: PatRow) -> Node
+    requires { ⌜ (valid (now image) ≡ true) × Whole (now image) tables × (p .0 < patternCount (now image)) × (row ≡ patAt (now image) (p .0)) × (patKind (row .kind) ≡ PatKind.Slice) ⌝ }
+    ensures { λ r. ⌜ r ≡ nodeBy PatKind.Slice (now (image .entry)) (p .0) row ⌝ }
 {
     let items = row.b + row.c;
     Node {
         own: rest_own(image, tables, row.d, row.ty, items),
-        row: listed(p, 1, row.a, items),
+        row: listed(p.0, 1, row.a, items),
         alternatives: false,
     }
 }
 
 // The pattern p, by its row and kind.
-fn node_by(image: &[u8], tables: Tables, p: u16, row: PatRow, kind: PatKind) -> Node
-    requires { ⌜ (valid (now image) ≡ true) × Whole (now image) tables × (p < patternCount (now image)) × (row ≡ patAt (now image) p) × (kind ≡ patKind (row .kind)) ⌝ }
-    ensures { λ r. ⌜ r ≡ nodeBy kind (now (image .entry)) p row ⌝ }
+fn node_by(image: &[u8], tables: Tables, p: PatId, row: PatRow, kind: PatKind) -> Node
+    requires { ⌜ (valid (now image) ≡ true) × Whole (now image) tables × (p .0 < patternCount (now image)) × (row ≡ patAt (now image) (p .0)) × (kind ≡ patKind (row .kind)) ⌝ }
+    ensures { λ r. ⌜ r ≡ nodeBy kind (now (image .entry)) (p .0) row ⌝ }
 {
     match kind {
-        PatKind::Tuple => no_binding(listed(p, 1, row.a, row.b)),
-        PatKind::Or => alternatives(listed(p, 1, row.a, row.b)),
-        PatKind::Record => no_binding(listed(p, 2, row.a + 1, row.b)),
+        PatKind::Tuple => no_binding(listed(p.0, 1, row.a, row.b)),
+        PatKind::Or => alternatives(listed(p.0, 1, row.a, row.b)),
+        PatKind::Record => no_binding(listed(p.0, 2, row.a + 1, row.b)),
         PatKind::Slice => slice_node(image, tables, p, row),
         PatKind::Bind => bind_node(p, row),
-        PatKind::TupleStruct => no_binding(listed(p, 1, row.a, row.b)),
-        PatKind::Ref => no_binding(one(p, row.a)),
-        PatKind::Missing => no_subpatterns(p),
-        PatKind::Rest => no_subpatterns(p),
-        PatKind::NotNull => no_subpatterns(p),
-        PatKind::Wild => no_subpatterns(p),
-        PatKind::Range => no_subpatterns(p),
-        PatKind::Path => no_subpatterns(p),
-        PatKind::Lit => no_subpatterns(p),
-        PatKind::Expr => no_subpatterns(p),
-        PatKind::Box => no_subpatterns(p),
-        PatKind::Deref => no_subpatterns(p),
-        PatKind::Unknown => no_subpatterns(p),
+        PatKind::TupleStruct => no_binding(listed(p.0, 1, row.a, row.b)),
+        PatKind::Ref => no_binding(one(p.0, PatId(row.a))),
+        PatKind::Missing => no_subpatterns(p.0),
+        PatKind::Rest => no_subpatterns(p.0),
+        PatKind::NotNull => no_subpatterns(p.0),
+        PatKind::Wild => no_subpatterns(p.0),
+        PatKind::Range => no_subpatterns(p.0),
+        PatKind::Path => no_subpatterns(p.0),
+        PatKind::Lit => no_subpatterns(p.0),
+        PatKind::Expr => no_subpatterns(p.0),
+        PatKind::Box => no_subpatterns(p.0),
+        PatKind::Deref => no_subpatterns(p.0),
+        PatKind::Unknown => no_subpatterns(p.0),
     }
 }
 
 // The pattern p.
-pub fn node_at(image: &[u8], tables: Tables, p: u16) -> Node
-    requires { ⌜ (valid (now image) ≡ true) × Whole (now image) tables × (p < patternCount (now image)) ⌝ }
-    ensures { λ r. ⌜ r ≡ nodeOf (now (image .entry)) p ⌝ }
+pub fn node_at(image: &[u8], tables: Tables, p: PatId) -> Node
+    requires { ⌜ (valid (now image) ≡ true) × Whole (now image) tables × (p .0 < patternCount (now image)) ⌝ }
+    ensures { λ r. ⌜ r ≡ nodeOf (now (image .entry)) (p .0) ⌝ }
 {
-    let row = pat_at(image, tables, PatId(p));
+    let row = pat_at(image, tables, p);
     node_by(image, tables, p, row, pat_kind(row.kind))
 }
 

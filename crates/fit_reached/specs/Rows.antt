@@ -65,30 +65,30 @@ pathKindFails shape PathKind.Constant = true
 pathKindFails shape PathKind.Other = false
 pathKindFails shape PathKind.Unknown = false
 
--- the binding of a rest has a local, by the rest's kind
+-- the binding of a rest has a local, by the rest's kind; only of a Bind is the word a of its row a binding
 abbrev pub restKindTaken : List ℕ → PatKind → ℕ → Bool
-restKindTaken bindings PatKind.Missing b = true
-restKindTaken bindings PatKind.Rest b = true
-restKindTaken bindings PatKind.NotNull b = true
-restKindTaken bindings PatKind.Wild b = true
-restKindTaken bindings PatKind.Tuple b = true
-restKindTaken bindings PatKind.Or b = true
-restKindTaken bindings PatKind.Record b = true
-restKindTaken bindings PatKind.Range b = true
-restKindTaken bindings PatKind.Slice b = true
-restKindTaken bindings PatKind.Path b = true
-restKindTaken bindings PatKind.Lit b = true
-restKindTaken bindings PatKind.Bind b = hasLocal bindings b
-restKindTaken bindings PatKind.TupleStruct b = true
-restKindTaken bindings PatKind.Ref b = true
-restKindTaken bindings PatKind.Expr b = true
-restKindTaken bindings PatKind.Box b = true
-restKindTaken bindings PatKind.Deref b = true
-restKindTaken bindings PatKind.Unknown b = true
+restKindTaken bindings PatKind.Missing a = true
+restKindTaken bindings PatKind.Rest a = true
+restKindTaken bindings PatKind.NotNull a = true
+restKindTaken bindings PatKind.Wild a = true
+restKindTaken bindings PatKind.Tuple a = true
+restKindTaken bindings PatKind.Or a = true
+restKindTaken bindings PatKind.Record a = true
+restKindTaken bindings PatKind.Range a = true
+restKindTaken bindings PatKind.Slice a = true
+restKindTaken bindings PatKind.Path a = true
+restKindTaken bindings PatKind.Lit a = true
+restKindTaken bindings PatKind.Bind a = hasLocal bindings a
+restKindTaken bindings PatKind.TupleStruct a = true
+restKindTaken bindings PatKind.Ref a = true
+restKindTaken bindings PatKind.Expr a = true
+restKindTaken bindings PatKind.Box a = true
+restKindTaken bindings PatKind.Deref a = true
+restKindTaken bindings PatKind.Unknown a = true
 
 -- a binding of a rest is one of the table
 abbrev pub RestNamed : List ℕ → PatKind → ℕ → Type 0
-RestNamed bindings kind b = kind ≡ PatKind.Bind → b < length bindings
+RestNamed bindings kind a = kind ≡ PatKind.Bind → a < length bindings
 
 -- a Tuple itself is not refused; a Record, a TupleStruct, a Slice
 abbrev pub tupleTaken : List ℕ → PatRow → Bool

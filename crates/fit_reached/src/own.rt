@@ -10,6 +10,7 @@ use super::parts::path_taken;
 use super::parts::rest_taken;
 use super::parts::variant_taken;
 use fit_types::fields::variant_fields;
+use image::BindingId;
 use image::Tables;
 use image::kinds::PatKind;
 use image::kinds::path_kind;
@@ -81,7 +82,7 @@ pub fn own_taken(image: &[u8], tables: Tables, bindings: &[u16], row: PatRow, ki
         PatKind::Slice => slice_taken(image, tables, bindings, row),
         PatKind::Path => path_taken(image, tables, row.ty, path_kind(row.a), row.b),
         PatKind::Lit => true,
-        PatKind::Bind => has_local(bindings, row.a),
+        PatKind::Bind => has_local(bindings, BindingId(row.a)),
         PatKind::TupleStruct => tuple_struct_taken(image, tables, row),
         PatKind::Ref => kind_of(image, tables, row.ty) == 7,
         PatKind::Expr => false,

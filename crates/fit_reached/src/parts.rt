@@ -1,5 +1,6 @@
 // What a type's row and the words of a pattern's row say, without the patterns below.
 use fit_types::fields::has_variant;
+use image::BindingId;
 use image::PatId;
 use image::Tables;
 use image::kinds::AdtKind;
@@ -133,17 +134,17 @@ pub fn ellipsis_within(ellipsis: u16, count: u16) -> bool
 }
 
 // The binding b has a local.
-pub fn has_local(bindings: &[u16], b: u16) -> bool
-    requires { ⌜ b < length (now bindings) ⌝ }
-    ensures { λ r. ⌜ r ≡ hasLocal (now (bindings .entry)) b ⌝ }
+pub fn has_local(bindings: &[u16], b: BindingId) -> bool
+    requires { ⌜ b .0 < length (now bindings) ⌝ }
+    ensures { λ r. ⌜ r ≡ hasLocal (now (bindings .entry)) (b .0) ⌝ }
 {
-    bindings[b as usize] != 65535
+    bindings[b.0 as usize] != 65535
 }
 
-// The binding of a rest of this kind has one.
-fn rest_kind_taken(bindings: &[u16], kind: PatKind, b: u16) -> bool
-    requires { ⌜ RestNamed (now bindings) kind b ⌝ }
-    ensures { λ r. ⌜ r ≡ restKindTaken (now (bindings .entry)) kind b ⌝ }
+// The binding of a rest of this kind has one. Only of a Bind is the word a of its row a binding.
+fn rest_kind_taken(bindings: &[u16], kind: PatKind, a: u16) -> bool
+    requires { ⌜ RestNamed (now bindings) kind a ⌝ }
+    ensures { λ r. ⌜ r ≡ restKindTaken (now (bindings .entry)) kind a ⌝ }
 {
     match kind {
         PatKind::Missing => true,
@@ -157,7 +158,7 @@ fn rest_kind_taken(bindings: &[u16], kind: PatKind, b: u16) -> bool
         PatKind::Slice => true,
         PatKind::Path => true,
         PatKind::Lit => true,
-        PatKind::Bind => has_local(bindings, b),
+        PatKind::Bind => has_local(bindings, BindingId(a)),
         PatKind::TupleStruct => true,
         PatKind::Ref => true,
         PatKind::Expr => true,
@@ -167,7 +168,7 @@ fn rest_kind_taken(bindings: &[u16], kind: PatKind, b: u16) -> bool
     }
 }
 
-// That of a rest that may be absent.
+// That of a rest that may be absent. Where it is absent the word `rest` is 65535.
 pub fn rest_taken(image: &[u8], tables: Tables, bindings: &[u16], rest: u16) -> bool
     requires { ⌜ (valid (now image) ≡ true) × Whole (now image) tables × (patternOrAbsent (now image) rest ≡ true) × (length (now bindings) ≡ bindingCount (now image)) ⌝ }
     ensures { λ r. ⌜ r ≡ restTaken? (now (bindings .entry)) (tree? (tree (now (image .entry))) rest) ⌝ }
@@ -189,7 +190,7 @@ pub fn has_end(start: u16, end: u16) -> bool
     end != 65535
 }
 
-// A path of this kind is not refused at the type t.
+// A path of this kind is not refused at the type t. The word b is by the kind: a variant, a binding, or a constant's operand.
 pub fn path_taken(image: &[u8], tables: Tables, t: u16, kind: PathKind, b: u16) -> bool
     requires { ⌜ (valid (now image) ≡ true) × Whole (now image) tables × (t < typeCount (now image)) ⌝ }
     ensures { λ r. ⌜ r ≡ pathTaken (tyOf (now (image .entry)) t .shape) (target kind (now (image .entry)) b) ⌝ }

@@ -111,7 +111,7 @@ fn alts(image: &[u8], tables: Tables, bindings: &[u16], p: PatId, at: u16, count
     Reached::CanFail
 }
 
-// A subpattern that may be absent.
+// A subpattern that may be absent. Where it is absent the word q is 65535.
 fn sub(image: &[u8], tables: Tables, bindings: &[u16], p: PatId, q: u16) -> Reached
     requires { ⌜ Parent (now image) tables (p .0) × (allIn (λ s. ltb s (p .0)) (ifPresent q) ≡ true) × (length (now bindings) ≡ bindingCount (now image)) ⌝ }
     ensures { λ r. ⌜ r ≡ reachedBy? (now (image .entry)) (now (bindings .entry)) (tree? (tree (now (image .entry))) q) ⌝ }

@@ -15,7 +15,7 @@ ghost use Rattle.image.specs.Valid.{valid};
 ghost use Rattle.meaning.specs.Fit.{itemsFit, isRest?, restFits};
 ghost use Rattle.fit_types.specs.Slices.{restKind, patternOrAbsent};
 
-// The items of a slice pattern of the type t: as many as an array has, or no more where there is a rest.
+// The items of a slice pattern of the type t: as many as an array has, or no more where there is a rest. Where there is none the word `rest` is 65535.
 pub fn items_fit(image: &[u8], tables: Tables, t: u16, rest: u16, count: u16) -> bool
     requires { ⌜ (valid (now image) ≡ true) × Whole (now image) tables × (t < typeCount (now image)) ⌝ }
     ensures { λ r. ⌜ r ≡ itemsFit (tyOf (now (image .entry)) t .shape) (tree? (tree (now (image .entry))) rest) count ⌝ }
@@ -56,7 +56,7 @@ fn is_rest_kind(kind: PatKind) -> bool
     }
 }
 
-// The pattern q, which may be absent, is a Rest.
+// The pattern q, which may be absent, is a Rest. Where it is absent the word q is 65535.
 fn is_rest(image: &[u8], tables: Tables, q: u16) -> bool
     requires { ⌜ (valid (now image) ≡ true) × Whole (now image) tables × (patternOrAbsent (now image) q ≡ true) ⌝ }
     ensures { λ r. ⌜ r ≡ isRest? (tree? (tree (now (image .entry))) q) ⌝ }
@@ -67,7 +67,7 @@ fn is_rest(image: &[u8], tables: Tables, q: u16) -> bool
     is_rest_kind(pat_kind(pat_at(image, tables, PatId(q)).kind))
 }
 
-// The rest of a slice pattern, which may be absent: Rest, Wild, or Bind over Rest.
+// The rest of a slice pattern, which may be absent: Rest, Wild, or Bind over Rest. Where it is absent the word `rest` is 65535.
 pub fn rest_fits(image: &[u8], tables: Tables, rest: u16) -> bool
     requires { ⌜ (valid (now image) ≡ true) × Whole (now image) tables × (patternOrAbsent (now image) rest ≡ true) ⌝ }
     ensures { λ r. ⌜ r ≡ restFits (tree? (tree (now (image .entry))) rest) ⌝ }

@@ -147,7 +147,7 @@ fn items_all_fit(
     true
 }
 
-// A subpattern that may be absent, on a place of this type.
+// A subpattern that may be absent, on a place of this type. Where it is absent the word q is 65535.
 fn sub_fits(image: &[u8], tables: Tables, p: PatId, q: u16, place: TypeNumber) -> bool
     requires { ⌜ Parent (now image) tables (p .0) × (allIn (λ s. ltb s (p .0)) (ifPresent q) ≡ true) × (namesType? (now image) (typeNumber place) ≡ true) ⌝ }
     ensures { λ r. ⌜ r ≡ typesFit? (now (image .entry)) (tree? (tree (now (image .entry))) q) (typeNumber place) ⌝ }

@@ -22,7 +22,7 @@ use Rattle.place.specs.declared.place_ty.PlaceTy.{PlaceTy}
 use Rattle.place.specs.PlaceTypes.{projectionTy, Named}
 use Rattle.place.proofs.Named.{named-projection}
 use Rattle.mir.specs.declared.BasicBlockId.{BasicBlockId}
-use Rattle.lower.specs.declared.merging.OptBlock.{OptBlock}
+use Rattle.lower_spec.specs.declared.merging.OptBlock.{OptBlock}
 use Rattle.pattern_matching.specs.declared.MatchingMode.{MatchingMode}
 use Rattle.pattern_matching.specs.Walking.{Ctx, refused, Lowering, entered}
 use Rattle.pattern_matching.specs.Variants.{placeTy, tuplePattern, AdtPatternShape, variantPattern}

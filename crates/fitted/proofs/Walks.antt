@@ -18,7 +18,7 @@ use Rattle.place.specs.Places.{projectionOf}
 use Rattle.place.specs.PlaceTypes.{projectionTy, multiProjectionTy}
 use Rattle.mir.specs.declared.BasicBlockId.{BasicBlockId}
 use Rattle.mir.specs.Locals.{localTy}
-use Rattle.lower.specs.declared.merging.OptBlock.{OptBlock}
+use Rattle.lower_spec.specs.declared.merging.OptBlock.{OptBlock}
 use Rattle.pattern_matching.specs.Walking.{Ctx, Out, Walk, Lowering, next, out, project, visited, derefed, entered, inCheck}
 use Rattle.pattern_matching.specs.Variants.{placeTy, shapeOf, needed, patternMatchAdt, fieldsUpTo, patternMatchTupleLike}
 use Rattle.pattern_matching.specs.Patterns.{passing}

@@ -11,7 +11,7 @@ use Rattle.mir.specs.declared.BasicBlockId.{BasicBlockId}
 use Rattle.mir.specs.declared.blocks.Terminator.{Terminator}
 use Rattle.state.specs.State.{State}
 use Rattle.state.specs.Steps.{nextBlock, tryBlock, setTerminator}
-use Rattle.lower.specs.declared.merging.OptBlock.{OptBlock}
+use Rattle.lower_spec.specs.declared.merging.OptBlock.{OptBlock}
 use Rattle.views.specs.Growing.{Closed}
 use Rattle.pattern_matching.specs.declared.MatchingMode.{MatchingMode}
 use Rattle.pattern_matching.specs.Walking.{Ctx, Out, ok, Lowering, withState, elseState, elseBlock}

@@ -10,7 +10,7 @@ use Rattle.mir.specs.declared.BasicBlockId.{BasicBlockId}
 use Rattle.mir.specs.declared.blocks.Terminator.{Terminator}
 use Rattle.state.specs.State.{State}
 use Rattle.state.specs.Steps.{setTerminator}
-use Rattle.lower.specs.declared.merging.OptBlock.{OptBlock}
+use Rattle.lower_spec.specs.declared.merging.OptBlock.{OptBlock}
 use Rattle.views.specs.Growing.{Closed, Quiet}
 use Rattle.pattern_matching.specs.Walking.{Out}
 use Rattle.growth.specs.Opened.{count, terminator, lines, Below, ElseReady, Ready, From, Worked, ElseLeft, Leaves}

@@ -25,8 +25,8 @@ use Rattle.mir.specs.Scopes.{entryLimit}
 use Rattle.mir.specs.Rvalues.{liveRow, placeRvalueRow, constantRow, binaryRow}
 use Rattle.state.specs.State.{State}
 use Rattle.state.specs.Steps.{within, nextLocal, newBlock, pushStatement, newLocal, pushEntry, tryBlock, tryStatement, tryLocal, tryEntry}
-use Rattle.lower.specs.declared.merging.OptBlock.{OptBlock}
-use Rattle.lower.specs.Temps.{isSlice, recordUnless, markLive, temp}
+use Rattle.lower_spec.specs.declared.merging.OptBlock.{OptBlock}
+use Rattle.lower_spec.specs.Temps.{isSlice, recordUnless, markLive, temp}
 use Rattle.views.specs.Views.{Line, terminatorOf, lineOf, mirOf}
 use Rattle.views.specs.Growing.{Quiet}
 use Rattle.pattern_matching.specs.Walking.{elseState}

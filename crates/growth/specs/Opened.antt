@@ -6,7 +6,7 @@ use lib.ListN.{length}
 use Rattle.mir.specs.declared.BasicBlockId.{BasicBlockId}
 use Rattle.mir.specs.declared.blocks.Terminator.{Terminator}
 use Rattle.state.specs.State.{State}
-use Rattle.lower.specs.declared.merging.OptBlock.{OptBlock}
+use Rattle.lower_spec.specs.declared.merging.OptBlock.{OptBlock}
 use Rattle.views.specs.Views.{Line, mirOf}
 use Rattle.views.specs.Growing.{terminatorAt, Closed, Quiet}
 use Rattle.pattern_matching.specs.Walking.{Ctx, Out}

@@ -14,9 +14,9 @@ use Rattle.place.specs.Elems.{elemOf}
 use Rattle.mir.specs.declared.BasicBlockId.{BasicBlockId}
 use Rattle.mir.specs.declared.Counts.{Counts}
 use Rattle.mir.specs.Blocks.{isOpen}
-use Rattle.check_body.specs.Bodies.{isBlock, isLocal, elemHolds}
-use Rattle.lower.specs.declared.merging.OptBlock.{OptBlock}
-use Rattle.lower.specs.Promises.{Within}
+use Rattle.body_row_rules.specs.Bodies.{isBlock, isLocal, elemHolds}
+use Rattle.lower_spec.specs.declared.merging.OptBlock.{OptBlock}
+use Rattle.lower_spec.specs.Promises.{Within}
 use Rattle.handed.specs.Handed.{startHolds, elseHolds, placeHolds, bindingHolds, bindingsHold, patternHanded, Named, matchHolds, selfHolds}
 
 -- the start is a block that there is

@@ -12,8 +12,8 @@ use Rattle.place.specs.Elems.{elemOf}
 use Rattle.mir.specs.declared.BasicBlockId.{BasicBlockId}
 use Rattle.mir.specs.declared.Counts.{Counts}
 use Rattle.mir.specs.Blocks.{isOpen}
-use Rattle.check_body.specs.Bodies.{isBlock, isLocal, elemHolds}
-use Rattle.lower.specs.declared.merging.OptBlock.{OptBlock}
+use Rattle.body_row_rules.specs.Bodies.{isBlock, isLocal, elemHolds}
+use Rattle.lower_spec.specs.declared.merging.OptBlock.{OptBlock}
 
 -- "start block missing or not open" is refused
 unfoldable pub startHolds : List ℕ → Counts → BasicBlockId → Bool

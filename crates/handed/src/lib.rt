@@ -1,9 +1,9 @@
 // Whether what a call is handed names something: document 01's number 2.
-use check_body::statement::elem_holds;
+use body_row_rules::statement::elem_holds;
 use image::BindingId;
 use image::PatId;
 use image::Tables;
-use lower::merging::OptBlock;
+use lower_spec::merging::OptBlock;
 use mir::BasicBlockId;
 use mir::Counts;
 use mir::blocks::is_unterminated;
@@ -13,7 +13,7 @@ use place::elems::elem_of;
 ghost use mathlib.Core.Path.{_≡_};
 ghost use Prim.Native.Nat.{_≤_};
 ghost use lib.ListN.{length};
-ghost use Rattle.lower.specs.declared.merging.OptBlock.{OptBlock};
+ghost use Rattle.lower_spec.specs.declared.merging.OptBlock.{OptBlock};
 ghost use Rattle.handed.specs.Handed.{startHolds, elseHolds, placeHolds, bindingHolds, bindingsHold, patternHanded, matchHolds, selfHolds, isBlockOrNone, mergeHolds};
 
 pub fn start_holds(blocks: &[u16], counts: Counts, current: BasicBlockId) -> bool

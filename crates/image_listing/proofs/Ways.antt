@@ -1,8 +1,8 @@
 -- What the call of `pattern_match` is handed, and the type of local 0, by the ways through the code. Assumes nothing.
 use Prim.Native.Nat.{ℕ, _-_, _≤_, _<_}
-use mathlib.Core.Path.{_≡_, refl, sym, ap, subst, _∙_}
+use mathlib.Core.Path.{_≡_, ap, subst}
 use mathlib.Core.Bool.{true}
-use mathlib.Core.Option.{Option, none, some}
+use mathlib.Core.Option.{none, some}
 use mathlib.Core.List.{List}
 use native.Mathlib.Omega.{arith}
 use lib.ListN.{length, take}
@@ -15,7 +15,7 @@ use Rattle.place.specs.declared.Place.{Place}
 use Rattle.mir.specs.declared.Counts.{Counts}
 use Rattle.state.specs.State.{Body, encode, countsOf}
 use Rattle.pattern_matching.specs.Walking.{localPlace}
-use Rattle.match_calls.proofs.Starting.{visits-cleared}
+use Rattle.pattern_calls_spec.proofs.Starting.{visits-cleared}
 use Rattle.listing_start.specs.declared.StartType.{StartType}
 use Rattle.listing_start.specs.Started.{startType, startState}
 use Rattle.listing_start.specs.Sizes.{startTypeOf, IsType}

@@ -1,31 +1,26 @@
--- The text of what a call of `pattern_match` answers: of the tables after it, or of its refusal. Assumes nothing.
+-- The text of what a call of `pattern_match` answers: of the body after it, or of its refusal. Assumes nothing.
 use Prim.Native.Nat.{ℕ}
 use mathlib.Core.Path.{_≡_, refl, sym, ap, subst, _∙_}
-use mathlib.Core.List.{List, []}
+use mathlib.Core.List.{List}
 use native.Mathlib.Omega.{arith}
 use Rattle.refusals.specs.declared.MirLowerError.{MirLowerError}
 use Rattle.refusals.specs.Refusals.{breaksARule, namesNothing, refusalAt}
 use Rattle.image.specs.declared.PatId.{PatId}
 use Rattle.mir.specs.declared.BasicBlockId.{BasicBlockId}
 use Rattle.mir.specs.declared.Counts.{Counts}
-use Rattle.state.specs.State.{Body, body, decode, countsOf}
+use Rattle.state.specs.State.{Body, decode, countsOf}
 use Rattle.state.specs.Contracts.{Ready}
-use Rattle.lower.specs.declared.merging.OptBlock.{OptBlock}
+use Rattle.lower_spec.specs.declared.merging.OptBlock.{OptBlock}
 use Rattle.views.specs.Views.{mirOf}
 use Rattle.listing_text.specs.Listing.{listing, refusalText}
 use Rattle.pattern_matching.specs.Walking.{ok, refused}
-use Rattle.match_calls.specs.declared.MatchCall.{MatchCall}
-use Rattle.match_calls.specs.Calls.{Called, badImage, badCall, walked, answer, Reads, ReadyAfter, Visits}
+use Rattle.pattern_calls_spec.specs.declared.MatchCall.{MatchCall}
+use Rattle.pattern_calls_spec.specs.Calls.{Called, badImage, badCall, walked, answer, Reads, ReadyAfter, Visits}
 use Rattle.image_text.specs.Listed.{walkText, callText, answerText, Listable}
-
--- the listing takes neither the scopes nor the entries
-mir-same : (b : Body) (c : Counts) → mirOf (decode (body (b .blocks) (b .statements) (b .locals) [] []) c) ≡ mirOf (decode b c)
-unfolding mirOf decode
-mir-same b c = refl
 
 -- an accepted call
 accepted-text : (defined : Called) (b : Body) {c : Counts} {then : BasicBlockId} {els : OptBlock} → MatchCall.Matched c then els ≡ answer defined → Reads defined b →
-    listing then els (mirOf (decode (body (b .blocks) (b .statements) (b .locals) [] []) c)) ≡ callText defined
+    listing then els (mirOf (decode b c)) ≡ callText defined
 unfolding callText walkText
 accepted-text badImage b is reads = absurd (let z : _≡_ {A = ℕ} 0 1 = cc in omega arith)
 accepted-text badCall b is reads = absurd (let z : _≡_ {A = ℕ} 0 1 = cc in omega arith)
@@ -35,7 +30,7 @@ accepted-text (walked (ok r)) b {c} {then} {els} is reads =
     let goes-on : then ≡ r .then = cc in
     let fails : els ≡ r .else = cc in
     let state : decode b c ≡ r .ctx .state = ap (decode b) count ∙ reads in
-    rw (goes-on, fails) (ap (listing (r .then) (r .else)) (mir-same b c ∙ ap mirOf state))
+    rw (goes-on, fails) (ap (listing (r .then) (r .else)) (ap mirOf state))
 
 accepted-ready : (defined : Called) (b : Body) {c : Counts} {then : BasicBlockId} {els : OptBlock} → MatchCall.Matched c then els ≡ answer defined → ReadyAfter defined b → Ready b c
 accepted-ready badImage b is ready = absurd (let z : _≡_ {A = ℕ} 0 1 = cc in omega arith)
@@ -68,44 +63,43 @@ bad-image-text badCall is = absurd (let z : _≡_ {A = ℕ} 0 1 = cc in omega ar
 bad-image-text (walked (ok r)) is = absurd (let z : _≡_ {A = ℕ} 0 1 = cc in omega arith)
 bad-image-text (walked (refused e p)) is = absurd (let z : _≡_ {A = ℕ} 0 1 = cc in omega arith)
 
--- of a call that answered r, with the tables b′ at exit
+-- of a call that answered r, with the body b′ at exit
 module _ {b : Body} {v : List ℕ} {c : Counts} {defined : Called} {b′ : Body} {v′ : List ℕ} where
   -- the text is what the definition prints
-  pub answered : (r : MatchCall) → Visits b v c defined r b′ v′ → answerText (b′ .blocks) (b′ .statements) (b′ .locals) r ≡ callText defined
+  pub answered : (r : MatchCall) → Visits b v c defined r b′ v′ → answerText b′ r ≡ callText defined
   unfolding answerText
   answered (MatchCall.Matched c′ then els) G = accepted-text defined b′ (G .gives .reply) (G .gives .reads)
   answered (MatchCall.Refused e p) G = refused-text defined (G .gives .reply)
   answered MatchCall.BadCall G = bad-call-text defined (G .gives .reply)
   answered MatchCall.BadImage G = bad-image-text defined (G .gives .reply)
 
-  -- and the tables can be listed
-  pub listable : (r : MatchCall) → Visits b v c defined r b′ v′ → Listable (b′ .blocks) (b′ .statements) (b′ .locals) r
+  -- and the body can be listed
+  pub listable : (r : MatchCall) → Visits b v c defined r b′ v′ → Listable r
   listable (MatchCall.Matched c′ then els) G =
       let R = accepted-ready defined b′ (G .gives .reply) (G .gives .ready) in
-      (R .blocks, R .statements, R .locals, R .block-count, R .statement-count, R .local-count)
+      (R .block-count, R .statement-count, R .local-count)
   listable (MatchCall.Refused e p) G = tt
   listable MatchCall.BadCall G = tt
   listable MatchCall.BadImage G = tt
 
 -- the ways through `put_answer`
-module _ (blocks statements locals : List ℕ) {answer : MatchCall} where
-  pub listing-asked : {c : Counts} {then : BasicBlockId} {els : OptBlock} → answer ≡ MatchCall.Matched c then els → Listable blocks statements locals answer →
-      Listable blocks statements locals (MatchCall.Matched c then els)
-  listing-asked is L = subst (Listable blocks statements locals) is L
+module _ (b : Body) {answer : MatchCall} where
+  pub listing-asked : {c : Counts} {then : BasicBlockId} {els : OptBlock} → answer ≡ MatchCall.Matched c then els → Listable answer → Listable (MatchCall.Matched c then els)
+  listing-asked is L = subst Listable is L
 
   pub lists : {c : Counts} {then : BasicBlockId} {els : OptBlock} → answer ≡ MatchCall.Matched c then els →
-      listing then els (mirOf (decode (body blocks statements locals [] []) c)) ≡ answerText blocks statements locals answer
+      listing then els (mirOf (decode b c)) ≡ answerText b answer
   unfolding answerText
-  lists is = sym (ap (answerText blocks statements locals) is)
+  lists is = sym (ap (answerText b) is)
 
-  pub refuses : {e : MirLowerError} {p : PatId} → answer ≡ MatchCall.Refused e p → refusalText (refusalAt e (p .0)) ≡ answerText blocks statements locals answer
+  pub refuses : {e : MirLowerError} {p : PatId} → answer ≡ MatchCall.Refused e p → refusalText (refusalAt e (p .0)) ≡ answerText b answer
   unfolding answerText
-  refuses is = sym (ap (answerText blocks statements locals) is)
+  refuses is = sym (ap (answerText b) is)
 
-  pub refuses-call : answer ≡ MatchCall.BadCall → refusalText namesNothing ≡ answerText blocks statements locals answer
+  pub refuses-call : answer ≡ MatchCall.BadCall → refusalText namesNothing ≡ answerText b answer
   unfolding answerText
-  refuses-call is = sym (ap (answerText blocks statements locals) is)
+  refuses-call is = sym (ap (answerText b) is)
 
-  pub refuses-image : answer ≡ MatchCall.BadImage → refusalText breaksARule ≡ answerText blocks statements locals answer
+  pub refuses-image : answer ≡ MatchCall.BadImage → refusalText breaksARule ≡ answerText b answer
   unfolding answerText
-  refuses-image is = sym (ap (answerText blocks statements locals) is)
+  refuses-image is = sym (ap (answerText b) is)

@@ -18,16 +18,16 @@ use Rattle.image.specs.Valid.{valid}
 use Rattle.place.specs.declared.Place.{Place}
 use Rattle.mir.specs.declared.Counts.{Counts}
 use Rattle.state.specs.State.{Body, encode, countsOf}
-use Rattle.lower.specs.declared.merging.OptBlock.{OptBlock}
+use Rattle.lower_spec.specs.declared.merging.OptBlock.{OptBlock}
 use Rattle.read_image.specs.declared.Read.{Read}
 use Rattle.read_image.specs.Read.{Reads}
-use Rattle.lower_calls.proofs.Prologue.{read-valid, read-refused, whole-of}
+use Rattle.body_calls_spec.proofs.Prologue.{read-valid, read-refused, whole-of}
 use Rattle.listing_text.specs.declared.pen.Pen.{Pen}
 use Rattle.listing_text.specs.Listing.{refusalText}
 use Rattle.listing_text.specs.Writing.{Wrote}
 use Rattle.pattern_matching.specs.Walking.{localPlace}
-use Rattle.match_calls.specs.declared.MatchCall.{MatchCall}
-use Rattle.match_calls.specs.Calls.{Called, patternMatchCall, Visits}
+use Rattle.pattern_calls_spec.specs.declared.MatchCall.{MatchCall}
+use Rattle.pattern_calls_spec.specs.Calls.{Called, patternMatchCall, Visits}
 use Rattle.listing_start.specs.Started.{lastPattern, startType, startState, bindingLocals}
 use Rattle.image_text.specs.Listed.{listingCall, callText, typedText, imageText, Printed}
 

@@ -3,18 +3,18 @@ use Prim.Native.Nat.{ℕ, _≤_, _<_}
 use mathlib.Core.Path.{_≡_}
 use mathlib.Core.Bool.{cond}
 use mathlib.Core.Option.{Option, none, some}
-use mathlib.Core.List.{List, [], _++_}
+use mathlib.Core.List.{List, _++_}
 use lib.ListN.{length, drop}
 use Rattle.row_tables.specs.Rows.{zeros}
 use Rattle.refusals.specs.Refusals.{breaksARule, namesNothing, refusalAt}
 use Rattle.image.specs.Valid.{valid}
-use Rattle.state.specs.State.{body, decode, encode, countsOf}
-use Rattle.lower.specs.declared.merging.OptBlock.{OptBlock}
+use Rattle.state.specs.State.{Body, decode, encode, countsOf}
+use Rattle.lower_spec.specs.declared.merging.OptBlock.{OptBlock}
 use Rattle.views.specs.Views.{mirOf}
 use Rattle.listing_text.specs.Listing.{listing, refusalText}
 use Rattle.pattern_matching.specs.Walking.{Out, Walk, ok, refused, localPlace}
-use Rattle.match_calls.specs.declared.MatchCall.{MatchCall}
-use Rattle.match_calls.specs.Calls.{Called, badImage, badCall, walked, patternMatchCall}
+use Rattle.pattern_calls_spec.specs.declared.MatchCall.{MatchCall}
+use Rattle.pattern_calls_spec.specs.Calls.{Called, badImage, badCall, walked, patternMatchCall}
 use Rattle.listing_start.specs.Started.{lastPattern, startType, startState, bindingLocals}
 
 -- the call of `pattern_match`: from block 0, with no else, on local 0 of the type t
@@ -42,20 +42,19 @@ typedText image (some t) = callText (listingCall image t)
 unfoldable pub imageText : List ℕ → List ℕ
 imageText image = cond (valid image) (typedText image (startType image)) (refusalText breaksARule)
 
--- the text of an answer, where the tables of blocks, statements and locals are these
-unfoldable pub answerText : List ℕ → List ℕ → List ℕ → MatchCall → List ℕ
-answerText blocks statements locals (MatchCall.Matched c then els) = listing then els (mirOf (decode (body blocks statements locals [] []) c))
-answerText blocks statements locals (MatchCall.Refused e p) = refusalText (refusalAt e (p .0))
-answerText blocks statements locals MatchCall.BadCall = refusalText namesNothing
-answerText blocks statements locals MatchCall.BadImage = refusalText breaksARule
+-- the text of an answer, where the body is this
+unfoldable pub answerText : Body → MatchCall → List ℕ
+answerText b (MatchCall.Matched c then els) = listing then els (mirOf (decode b c))
+answerText b (MatchCall.Refused e p) = refusalText (refusalAt e (p .0))
+answerText b MatchCall.BadCall = refusalText namesNothing
+answerText b MatchCall.BadImage = refusalText breaksARule
 
--- the tables of an accepted call can be listed: they have their sizes, and the counts are within the limits
-abbrev pub Listable : List ℕ → List ℕ → List ℕ → MatchCall → Type 0
-Listable blocks statements locals (MatchCall.Matched c then els) =
-    (length blocks ≡ 6144) × (length statements ≡ 50176) × (length locals ≡ 512) × (c .blocks ≤ 512) × (c .statements ≤ 1024) × (c .locals ≤ 512)
-Listable blocks statements locals (MatchCall.Refused e p) = Unit
-Listable blocks statements locals MatchCall.BadCall = Unit
-Listable blocks statements locals MatchCall.BadImage = Unit
+-- the body of an accepted call can be listed: the counts are within the limits
+abbrev pub Listable : MatchCall → Type 0
+Listable (MatchCall.Matched c then els) = (c .blocks ≤ 512) × (c .statements ≤ 1024) × (c .locals ≤ 512)
+Listable (MatchCall.Refused e p) = Unit
+Listable MatchCall.BadCall = Unit
+Listable MatchCall.BadImage = Unit
 
 -- A text stands at the start of a buffer, what lay behind it is as it was, and r says how many bytes the text has, if there was room for it, and otherwise 0: `before` lies
 -- in the buffer before, and `after` after.

@@ -3,10 +3,12 @@ use image::PatId;
 use listing_body::put_listing;
 use listing_text::pen::Pen;
 use listing_text::put_refusal;
-use match_calls::MatchCall;
+use pattern_calls_spec::MatchCall;
 use refusals::MirLowerError;
 ghost use mathlib.Core.Path.{_≡_};
+ghost use lib.ListN.{length};
 ghost use Rattle.refusals.specs.Refusals.{numberOf, reasonOf, refusalAt};
+ghost use Rattle.body_tables.specs.Layout.{bodyWords, bodyOf};
 ghost use Rattle.listing_text.specs.Listing.{refusalText};
 ghost use Rattle.listing_text.specs.Writing.{Wrote};
 ghost use Rattle.image_text.specs.Listed.{Listable, answerText};
@@ -58,29 +60,13 @@ fn put_refused(out: &mut [u8], pen: Pen, e: MirLowerError, p: PatId) -> Pen
     put_refusal(out, pen, number_of(e), p.0, reason_of(e))
 }
 
-// The listing of the tables after a call that was accepted, or the refusal.
-pub fn put_answer(
-    out: &mut [u8],
-    pen: Pen,
-    blocks: &[u16],
-    statements: &[u16],
-    locals: &[u16],
-    answer: MatchCall,
-) -> Pen
-    requires { ⌜ Listable (now blocks) (now statements) (now locals) answer ⌝ }
-    ensures { λ r. ⌜ Wrote (now (out .entry)) pen (answerText (now (blocks .entry)) (now (statements .entry)) (now (locals .entry)) answer) r (now (out .exit)) ⌝ }
+// The listing of the body after a call that was accepted, or the refusal.
+pub fn put_answer(out: &mut [u8], pen: Pen, body: &[u16], answer: MatchCall) -> Pen
+    requires { ⌜ (length (now body) ≡ bodyWords) × Listable answer ⌝ }
+    ensures { λ r. ⌜ Wrote (now (out .entry)) pen (answerText (bodyOf (now (body .entry))) answer) r (now (out .exit)) ⌝ }
 {
     match answer {
-        MatchCall::Matched(c, then, els) => put_listing(
-            out,
-            pen,
-            blocks,
-            statements,
-            locals,
-            c,
-            then,
-            els,
-        ),
+        MatchCall::Matched(c, then, els) => put_listing(out, pen, body, c, then, els),
         MatchCall::Refused(e, p) => put_refused(out, pen, e, p),
         MatchCall::BadCall => put_refusal(out, pen, 2, 65535, 0),
         MatchCall::BadImage => put_refusal(out, pen, 1, 65535, 0),

@@ -13,10 +13,11 @@ use Rattle.image.specs.Tables.{bindingCount}
 use Rattle.image.specs.Lists.{upFrom}
 use Rattle.image.specs.Rows.{bindingAt}
 use Rattle.image.specs.Types.{bindingOf}
-use Rattle.state.specs.State.{body, encode, padded, countsOf}
+use Rattle.state.specs.State.{Body, body, encode, padded, countsOf}
+use Rattle.body_tables.specs.Layout.{bodyWords, statementsAt, localsAt, scopesAt, entriesAt, bodyOf, withLocals}
 use Rattle.meaning.proofs.Children.{length-from}
 use Rattle.listing_start.specs.Started.{startState, bindingLocals}
-use Rattle.listing_start.specs.Sizes.{TablesSized, localsFilled}
+use Rattle.listing_start.specs.Sizes.{localsFilled}
 
 -- one of the numbers from a on
 from-at : (a n i : ℕ) → i < n → getD (upFrom a n) i 0 ≡ a + i
@@ -111,18 +112,30 @@ locals-filled image t =
     let left : 511 - length words ≡ 512 - length (t ∷ words) = omega arith in
     ap (λ (l : List ℕ). t ∷ (words ++ l)) (ap (λ (n : ℕ). drop n (t ∷ zeros 511)) next ∙ drop-zeros (length words) 511 ∙ ap (λ (n : ℕ). zeros n) left)
 
+-- a part of zeros
+mid-zeros : (p m n : ℕ) → p + m ≤ n → take m (drop p (zeros n)) ≡ zeros m
+mid-zeros p m n h = ap (take m) (drop-zeros p n) ∙ take-zeros m (n - p) (omega arith)
+  where
+    take-zeros : (m n : ℕ) → m ≤ n → take m (zeros n) ≡ zeros m
+    take-zeros zero n h = refl
+    take-zeros (suc m) zero h = absurd (omega arith)
+    take-zeros (suc m) (suc n) h = ap (λ (l : List ℕ). 0 ∷ l) (take-zeros m n (omega arith))
+
+-- the tables of a body that is cleared whole
+pub body-cleared : (w : List ℕ) {w₁ : List ℕ} → length w ≡ bodyWords → w₁ ≡ cleared w 0 → bodyOf w₁ ≡ body (zeros 6144) (zeros 50176) (zeros 512) (zeros 32) (zeros 1024)
+unfolding bodyOf
+body-cleared w size is =
+    ap bodyOf (is ∙ all-zeros w size)
+    ∙ λ i. body (mid-zeros 0 6144 bodyWords (omega arith) i) (mid-zeros statementsAt 50176 bodyWords (omega arith) i) (mid-zeros localsAt 512 bodyWords (omega arith) i) (mid-zeros scopesAt 32 bodyWords (omega arith) i) (mid-zeros entriesAt 1024 bodyWords (omega arith) i)
+
 module _ (image : List ℕ) (t : ℕ) where
-  -- `start_body`: the tables at exit
-  pub body-started : {bl s l sc e bl₁ s₁ l₁ l₂ sc₁ e₁ : List ℕ} → TablesSized (body bl s l sc e) → bl₁ ≡ cleared bl 0 → s₁ ≡ cleared s 0 → l₁ ≡ cleared l 0 → sc₁ ≡ cleared sc 0 → e₁ ≡ cleared e 0 →
-      l₂ ≡ localsFilled image (set l₁ 0 t) → body bl₁ s₁ l₂ sc₁ e₁ ≡ encode (startState image t)
+  -- `start_body`: the body at exit
+  pub body-started : (w : List ℕ) {w₁ : List ℕ} {b : Body} → length w ≡ bodyWords → w₁ ≡ cleared w 0 → b ≡ withLocals (bodyOf w₁) (localsFilled image (set (bodyOf w₁ .locals) 0 t)) → b ≡ encode (startState image t)
   unfolding encode startState encodeRows joined padded
-  body-started {bl = bl} {s = s} {l = l} {sc = sc} {e = e} S bls ss ls scs es filled = λ i. record {
-    blocks = (bls ∙ all-zeros bl (S .blocks) ∙ sym open-block) i;
-    statements = (ss ∙ all-zeros s (S .statements)) i;
-    locals = (filled ∙ ap (λ (x : List ℕ). localsFilled image (set x 0 t)) (ls ∙ all-zeros l (S .locals)) ∙ locals-filled image t) i;
-    scopes = (scs ∙ all-zeros sc (S .scopes)) i;
-    entries = (es ∙ all-zeros e (S .entries)) i;
-  }
+  body-started w size is filled =
+      filled
+      ∙ ap (λ (x : Body). withLocals x (localsFilled image (set (x .locals) 0 t))) (body-cleared w size is)
+      ∙ λ i. body (sym open-block i) (zeros 50176) (locals-filled image t i) (zeros 32) (zeros 1024)
 
   -- and the counts
   pub counts-started : {n : ℕ} → n ≡ bindingCount image → record { blocks = 1; statements = 0; locals = 1 + n; scopes = 1; entries = 0 } ≡ countsOf (startState image t)

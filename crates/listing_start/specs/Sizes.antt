@@ -1,23 +1,12 @@
 -- What the code's functions ask for and answer. Assumes nothing: these are definitions.
 use Prim.Native.Nat.{ℕ, _<_}
-use mathlib.Core.Path.{_≡_}
 use mathlib.Core.Option.{Option, none, some}
 use mathlib.Core.List.{List, map}
-use lib.ListN.{length}
 use Rattle.row_tables.specs.Rows.{stored}
 use Rattle.image.specs.Tables.{typeCount, bindingCount}
 use Rattle.image.specs.Lists.{upFrom}
 use Rattle.image.specs.Types.{bindingOf}
-use Rattle.state.specs.State.{Body}
 use Rattle.listing_start.specs.declared.StartType.{StartType}
-
--- the tables have their sizes
-pub record TablesSized (b : Body) : Type 0 where
-  pub blocks : length (b .blocks) ≡ 6144
-  pub statements : length (b .statements) ≡ 50176
-  pub locals : length (b .locals) ≡ 512
-  pub scopes : length (b .scopes) ≡ 32
-  pub entries : length (b .entries) ≡ 1024
 
 -- the type of local 0, as the definitions have it
 abbrev pub startTypeOf : StartType → Option ℕ

@@ -1,4 +1,7 @@
 // Where the listing program starts: the type of local 0, the body, and the place.
+use body_tables::BODY_WORDS;
+use body_tables::LOCALS;
+use body_tables::SCOPES;
 use image::BindingId;
 use image::PatId;
 use image::Tables;
@@ -13,15 +16,16 @@ ghost use mathlib.Core.Path.{_≡_};
 ghost use mathlib.Core.Bool.{true};
 ghost use mathlib.Core.Option.{some};
 ghost use Prim.Native.Nat.{_<_};
-ghost use lib.ListN.{length};
+ghost use lib.ListN.{length, set};
 ghost use Rattle.image.specs.Tables.{Whole, typeCount};
 ghost use Rattle.image.specs.Lists.{upFrom};
 ghost use Rattle.image.specs.Valid.{valid};
-ghost use Rattle.state.specs.State.{body, encode, countsOf};
+ghost use Rattle.state.specs.State.{encode, countsOf};
 ghost use Rattle.pattern_matching.specs.Walking.{localPlace};
 ghost use Rattle.meaning.specs.Fit.{behind, isType};
 ghost use Rattle.listing_start.specs.Started.{startType, startState};
-ghost use Rattle.listing_start.specs.Sizes.{TablesSized, startTypeOf, IsType, localsFilled};
+ghost use Rattle.listing_start.specs.Sizes.{startTypeOf, IsType, localsFilled};
+ghost use Rattle.body_tables.specs.Layout.{bodyWords, bodyOf, withLocals};
 
 // The lowest-numbered type that leads to the last pattern's, if there is one.
 pub enum StartType {
@@ -75,27 +79,30 @@ fn type_bindings(image: &[u8], tables: Tables, locals: &mut [u16])
     }
 }
 
-// Block 0 is open, local 0 has the type t, the bindings' locals follow, and one scope is open.
-pub fn start_body(
-    image: &[u8],
-    tables: Tables,
-    t: u16,
-    blocks: &mut [u16],
-    statements: &mut [u16],
-    locals: &mut [u16],
-    scopes: &mut [u16],
-    entries: &mut [u16],
-) -> Counts
-    requires { ⌜ (valid (now image) ≡ true) × Whole (now image) tables × TablesSized (body (now blocks) (now statements) (now locals) (now scopes) (now entries)) ⌝ }
-    ensures { λ r. ⌜ (r ≡ countsOf (startState (now (image .entry)) t)) × (body (now (blocks .exit)) (now (statements .exit)) (now (locals .exit)) (now (scopes .exit)) (now (entries .exit)) ≡ encode (startState (now (image .entry)) t)) ⌝ }
+// Local 0 has the type t, and the bindings' locals follow.
+fn type_locals(image: &[u8], tables: Tables, t: u16, locals: &mut [u16])
+    requires { ⌜ (valid (now image) ≡ true) × Whole (now image) tables × (length (now locals) ≡ 512) ⌝ }
+    ensures { λ _. ⌜ now (locals .exit) ≡ localsFilled (now (image .entry)) (set (now (locals .entry)) 0 t) ⌝ }
 {
-    clear_from(blocks, 0);
-    clear_from(statements, 0);
-    clear_from(locals, 0);
-    clear_from(scopes, 0);
-    clear_from(entries, 0);
     locals[0] = t;
     type_bindings(image, tables, locals);
+}
+
+// The same in a body.
+fn type_body(image: &[u8], tables: Tables, t: u16, body: &mut [u16])
+    requires { ⌜ (valid (now image) ≡ true) × Whole (now image) tables × (length (now body) ≡ bodyWords) ⌝ }
+    ensures { λ _. ⌜ bodyOf (now (body .exit)) ≡ withLocals (bodyOf (now (body .entry))) (localsFilled (now (image .entry)) (set (bodyOf (now (body .entry)) .locals) 0 t)) ⌝ }
+{
+    type_locals(image, tables, t, &mut body[LOCALS..SCOPES]);
+}
+
+// Block 0 is open, local 0 has the type t, the bindings' locals follow, and one scope is open.
+pub fn start_body(image: &[u8], tables: Tables, t: u16, body: &mut [u16; BODY_WORDS]) -> Counts
+    requires { ⌜ (valid (now image) ≡ true) × Whole (now image) tables ⌝ }
+    ensures { λ r. ⌜ (r ≡ countsOf (startState (now (image .entry)) t)) × (bodyOf (now (body .exit)) ≡ encode (startState (now (image .entry)) t)) ⌝ }
+{
+    clear_from(body, 0);
+    type_body(image, tables, t, body);
     Counts {
         blocks: 1,
         statements: 0,

@@ -6,14 +6,13 @@ use native.Mathlib.Numerals.{add-one}
 use native.Mathlib.Omega.{arith}
 use lib.ListN.{length, getD, take, drop, List·getD-eq-default, List·getD-map, drop-of-length-le}
 use lib.Seq.{drop-cons, getD-take, getD-drop}
-use Rattle.image.proofs.Defaults.{NoneOf, past, default-from-one}
+use Rattle.image.proofs.Defaults.{NoneOf, past}
 use Rattle.row_tables.specs.Rows.{rowAt, rowsOf}
 use Rattle.row_tables.proofs.Tables.{length-row, length-rows, row-of}
 use Rattle.place.specs.declared.elems.ProjectionElem.{ProjectionElem}
 use Rattle.place.specs.Elems.{elemOf}
-use Rattle.mir.specs.declared.blocks.Terminator.{Terminator}
 use Rattle.mir.specs.declared.rvalues.Left.{Left}
-use Rattle.views.specs.Views.{unknown, set, word, terminatorKinds, terminatorOf, constantAt, leftOf, statementKinds, lineOf}
+use Rattle.views.specs.Views.{unknown, set, word, constantAt, leftOf, statementKinds, lineOf}
 use Rattle.listing_text.specs.RowParts.{elemAt, rvalueKinds, rvalueOf}
 
 -- the part of a table that is the row i
@@ -47,16 +46,6 @@ past-row row j e h =
     rw (low, high)
 
 module _ (row : List ℕ) where
-  -- a row of the kind k has the terminator that stands at k
-  pub terminator-kind : (k : ℕ) → word row 0 ≡ k → terminatorOf row ≡ getD (terminatorKinds row) k Terminator.Open
-  unfolding terminatorOf
-  terminator-kind k e = ap (λ (n : ℕ). getD (terminatorKinds row) n Terminator.Open) e
-
-  -- one of no other kind is open
-  pub terminator-open : NoneOf (word row 0) 1 4 → terminatorOf row ≡ Terminator.Open
-  unfolding terminatorOf
-  terminator-open w = default-from-one (terminatorKinds row) Terminator.Open (word row 0) 4 refl refl w
-
   -- a left operand of the kind 1 is a local
   pub left-local : word row 3 ≡ 1 → leftOf row ≡ Left.Local (record { 0 = word row 4 })
   unfolding leftOf

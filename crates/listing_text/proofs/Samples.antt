@@ -6,7 +6,7 @@ use Rattle.place.specs.declared.elems.ProjectionElem.{ProjectionElem}
 use Rattle.mir.specs.declared.blocks.Terminator.{Terminator}
 use Rattle.mir.specs.declared.rvalues.BinOp.{BinOp}
 use Rattle.mir.specs.declared.rvalues.Left.{Left}
-use Rattle.lower.specs.declared.merging.OptBlock.{OptBlock}
+use Rattle.lower_spec.specs.declared.merging.OptBlock.{OptBlock}
 use Rattle.views.specs.Views.{binary, live, set, Mir}
 use Rattle.listing_text.specs.Words.{thenWord, elseWord, localWord, boolWord, typeWord, blockWord, liveWord, setWord, eqWord, switchWord, openWord, derefWord, fieldWord, indexWord, fromEndWord, subsliceWord, downcastWord, refusedWord, andCopyWord, space, dash, newline}
 use Rattle.listing_text.specs.Numbers.{hexDigit, decimalBy, decimal, hexBy, hexDigits, hexHalves, hexBytes, constantBytes}

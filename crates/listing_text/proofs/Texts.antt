@@ -9,7 +9,8 @@ use lib.ListN.{length, getD, take, drop, drop-of-length-le}
 use lib.Seq.{length-take-le, drop-cons, getD-take}
 use Rattle.row_tables.specs.Rows.{rowAt, rowsOf}
 use Rattle.place.specs.declared.elems.ProjectionElem.{ProjectionElem}
-use Rattle.views.specs.Views.{Line, word, elemsAt, terminatorOf, lineOf}
+use Rattle.mir.specs.declared.blocks.Terminator.{Terminator}
+use Rattle.views.specs.Views.{Line, word, elemsAt, lineOf}
 use Rattle.listing_text.specs.Listing.{elemText, elemsText, statementText, localText, localsText, linesText, blockText, blocksText}
 use Rattle.listing_text.specs.RowParts.{elemAt}
 use Rattle.listing_text.proofs.Readings.{first-word, rows-next, rows-done}
@@ -74,17 +75,19 @@ pub lines-end : (t : List ℕ) (count b i : ℕ) → count ≤ i → linesFrom t
 unfolding linesText
 lines-end t count b i h = rw (rows-done 49 t count i h)
 
--- the blocks from the block b on, of so many
-abbrev pub blocksFrom : List Line → List ℕ → ℕ → ℕ → List ℕ
-blocksFrom lines t count b = blocksText lines b (map terminatorOf (drop b (rowsOf 12 t count)))
+-- the blocks from the block b on, of those with these terminators
+abbrev pub blocksFrom : List Line → List Terminator → ℕ → List ℕ
+blocksFrom lines ts b = blocksText lines b (drop b ts)
 
-module _ (lines : List Line) (t : List ℕ) (count : ℕ) where
+module _ (lines : List Line) (ts : List Terminator) where
   -- the block b, and those behind it
-  pub blocks-more : (b : ℕ) → b < count → blocksFrom lines t count b ≡ blockText lines b (terminatorOf (rowAt 12 t b)) ++ blocksFrom lines t count (b + 1)
+  pub blocks-more : (b : ℕ) → b < length ts → blocksFrom lines ts b ≡ blockText lines b (getD ts b Terminator.Open) ++ blocksFrom lines ts (b + 1)
   unfolding blocksText
-  blocks-more b h = rw (rows-next 12 t count b h)
+  blocks-more b h =
+      let next : drop b ts ≡ getD ts b Terminator.Open ∷ drop (b + 1) ts = rw add-one (drop-cons ts b Terminator.Open h) in
+      rw next
 
   -- behind the last there is none
-  pub blocks-end : (b : ℕ) → count ≤ b → blocksFrom lines t count b ≡ []
+  pub blocks-end : (b : ℕ) → length ts ≤ b → blocksFrom lines ts b ≡ []
   unfolding blocksText
-  blocks-end b h = rw (rows-done 12 t count b h)
+  blocks-end b h = let none : drop b ts ≡ [] = drop-of-length-le ts {i = b} h in rw none

@@ -10,7 +10,7 @@ use Rattle.mir.specs.declared.blocks.Terminator.{Terminator}
 use Rattle.mir.specs.declared.rvalues.BinOp.{BinOp}
 use Rattle.mir.specs.declared.rvalues.Left.{Left}
 use Rattle.mir.specs.declared.rvalues.PlaceRvalue.{PlaceRvalue}
-use Rattle.lower.specs.declared.merging.OptBlock.{OptBlock}
+use Rattle.lower_spec.specs.declared.merging.OptBlock.{OptBlock}
 use Rattle.views.specs.Views.{Path, Rvalue, ofPlace, ofConstant, binary, unknown, Statement, live, dead, set, Line, Mir}
 use Rattle.listing_text.specs.Words.{thenWord, elseWord, localWord, boolWord, usizeWord, i128Word, typeWord, blockWord, liveWord, deadWord, setWord, copyWord, refWord, mutWord, lenWord, discrWord, eqWord, leWord, geWord, gtWord, switchWord, gotoWord, unreachableWord, dropWord, openWord, derefWord, fieldWord, indexWord, fromEndWord, subsliceWord, downcastWord, refusedWord, andCopyWord, space, dash, newline}
 use Rattle.listing_text.specs.Numbers.{decimal, hexHalves, constantBytes}

@@ -12,7 +12,7 @@ use pen::Pen;
 ghost use Rattle.listing_text.specs.Listing.{refusalText};
 ghost use Rattle.listing_text.specs.Writing.{Wrote};
 
-// A refusal: its number, its pattern and its reason.
+// A refusal: its number, its pattern, or 65535 where it has none, and its reason.
 pub fn put_refusal(out: &mut [u8], pen: Pen, number: u16, pattern: u16, reason: u16) -> Pen
     ensures { λ r. ⌜ Wrote (now (out .entry)) pen (refusalText (record { number = number; pattern = pattern; reason = reason })) r (now (out .exit)) ⌝ }
 {

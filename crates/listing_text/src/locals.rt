@@ -5,6 +5,7 @@ use super::pen::put;
 use mir::locals::BOOL;
 use mir::locals::I128;
 use mir::locals::USIZE;
+use place::LocalId;
 ghost use mathlib.Core.Path.{_≡_};
 ghost use Prim.Native.Nat.{_≤_};
 ghost use lib.ListN.{length, take};
@@ -27,11 +28,11 @@ fn put_local_ty(out: &mut [u8], pen: Pen, word: u16) -> Pen
     put_numbered(out, pen, b"t", word)
 }
 
-// The local i, whose type has this word.
-fn put_local(out: &mut [u8], pen: Pen, i: u16, word: u16) -> Pen
-    ensures { λ r. ⌜ Wrote (now (out .entry)) pen (localText i word) r (now (out .exit)) ⌝ }
+// The local l, whose type has this word.
+fn put_local(out: &mut [u8], pen: Pen, l: LocalId, word: u16) -> Pen
+    ensures { λ r. ⌜ Wrote (now (out .entry)) pen (localText (l .0) word) r (now (out .exit)) ⌝ }
 {
-    let number = put_numbered(out, pen, b"local ", i);
+    let number = put_numbered(out, pen, b"local ", l.0);
     let begun = put(out, number, b" ");
     let ended = put_local_ty(out, begun, word);
     put(out, ended, b"\n")
@@ -45,7 +46,7 @@ pub fn put_locals(out: &mut [u8], pen: Pen, locals: &[u16], count: u16) -> Pen
     let mut written = put(out, pen, b"");
     let mut i = 0u16;
     while i < count {
-        written = put_local(out, written, i, locals[i as usize]);
+        written = put_local(out, written, LocalId(i), locals[i as usize]);
         i += 1;
     }
     written

@@ -9,10 +9,10 @@ use Rattle.place.specs.declared.Place.{Place}
 use Rattle.mir.specs.declared.BasicBlockId.{BasicBlockId}
 use Rattle.mir.specs.declared.Counts.{Counts}
 use Rattle.state.specs.State.{Body}
-use Rattle.lower.specs.declared.merging.OptBlock.{OptBlock}
-use Rattle.match_calls.specs.declared.MatchCall.{MatchCall}
-use Rattle.match_calls.specs.Calls.{patternMatchCall, Visits}
-use Rattle.match_calls.proofs.Stepping.{visits-by}
+use Rattle.lower_spec.specs.declared.merging.OptBlock.{OptBlock}
+use Rattle.pattern_calls_spec.specs.declared.MatchCall.{MatchCall}
+use Rattle.pattern_calls_spec.specs.Calls.{patternMatchCall, Visits}
+use Rattle.pattern_calls_spec.proofs.Stepping.{visits-by}
 use Rattle.lowering_c.specs.Words.{blockWord, answerWords, refusalWords, Answered}
 
 -- the words of a match

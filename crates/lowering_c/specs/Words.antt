@@ -9,9 +9,10 @@ use Rattle.row_tables.specs.Rows.{zeros}
 use Rattle.refusals.specs.Refusals.{numberOf, reasonOf}
 use Rattle.mir.specs.declared.Counts.{Counts}
 use Rattle.state.specs.State.{Body}
-use Rattle.lower.specs.declared.merging.OptBlock.{OptBlock}
-use Rattle.match_calls.specs.declared.MatchCall.{MatchCall}
-use Rattle.match_calls.specs.Calls.{Called, answer, bodyAfter, visitsAfter}
+use Rattle.lower_spec.specs.declared.merging.OptBlock.{OptBlock}
+use Rattle.pattern_calls_spec.specs.declared.MatchCall.{MatchCall}
+use Rattle.pattern_matching.specs.Walking.{localPlace}
+use Rattle.pattern_calls_spec.specs.Calls.{Called, answer, bodyAfter, visitsAfter, patternMatchCall}
 
 -- a block's number, or 65535 for none
 unfoldable pub blockOrNone : ℕ → OptBlock
@@ -43,3 +44,9 @@ pub record Answered (b : Body) (v : List ℕ) (c : Counts) (defined : Called) (w
   pub answers : words ≡ answerWords (answer defined)
   pub tables : b′ ≡ bodyAfter b c defined
   pub visits : v′ ≡ visitsAfter v defined
+
+-- the contract, of what the call is handed, nine words among it: the five counts, the pattern, the block to start from, the else and the local
+abbrev pub WordsGive : List ℕ → List ℕ → List ℕ → Body → List ℕ → List ℕ → Body → List ℕ → Type 0
+WordsGive image bindings words b v =
+    Answered b v (countsOfWords words)
+    (patternMatchCall image bindings b v (countsOfWords words) (getD words 5 0) (record { 0 = getD words 6 0 }) (blockOrNone (getD words 7 0)) (localPlace (record { 0 = getD words 8 0 })))

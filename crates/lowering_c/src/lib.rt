@@ -1,20 +1,19 @@
 // `pattern_match` for a caller in C: the numbers of a call are handed in as words, and those of its answer are handed out so.
+use body_tables::BODY_WORDS;
 use image::PatId;
 use image_text::number_of;
 use image_text::reason_of;
-use lower::merging::OptBlock;
-use match_calls::MatchCall;
+use lower_spec::merging::OptBlock;
 use mir::BasicBlockId;
 use mir::Counts;
-use pattern_calls::pattern_match;
+use pattern_calls_spec::MatchCall;
+use pattern_entering::VISIT_WORDS;
+use pattern_match_call::pattern_match;
 use place::LocalId;
 use place::Place;
 ghost use mathlib.Core.Path.{_≡_};
-ghost use lib.ListN.{getD};
-ghost use Rattle.pattern_matching.specs.Walking.{localPlace};
-ghost use Rattle.state.specs.State.{body};
-ghost use Rattle.match_calls.specs.Calls.{patternMatchCall};
-ghost use Rattle.lowering_c.specs.Words.{blockOrNone, countsOfWords, blockWord, answerWords, Answered};
+ghost use Rattle.lowering_c.specs.Words.{blockOrNone, blockWord, answerWords, WordsGive};
+ghost use Rattle.body_tables.specs.Layout.{bodyOf};
 
 // A block's number, or 65535 for none.
 fn block_or_none(word: u16) -> OptBlock
@@ -63,16 +62,12 @@ fn answer_words(call: MatchCall) -> [u16; 10]
 pub extern "C" fn fithongu_pattern_match(
     image: &[u8],
     bindings: &[u16],
-    blocks: &mut [u16],
-    statements: &mut [u16],
-    locals: &mut [u16],
-    scopes: &mut [u16],
-    entries: &mut [u16],
-    visits: &mut [u16],
+    body: &mut [u16; BODY_WORDS],
+    visits: &mut [u16; VISIT_WORDS],
     call: &[u16; 9],
     answer: &mut [u16; 10],
 )
-    ensures { λ _. ⌜ Answered (body (now (blocks .entry)) (now (statements .entry)) (now (locals .entry)) (now (scopes .entry)) (now (entries .entry))) (now (visits .entry)) (countsOfWords (now (call .entry))) (patternMatchCall (now (image .entry)) (now (bindings .entry)) (body (now (blocks .entry)) (now (statements .entry)) (now (locals .entry)) (now (scopes .entry)) (now (entries .entry))) (now (visits .entry)) (countsOfWords (now (call .entry))) (getD (now (call .entry)) 5 0) (record { 0 = getD (now (call .entry)) 6 0 }) (blockOrNone (getD (now (call .entry)) 7 0)) (localPlace (record { 0 = getD (now (call .entry)) 8 0 }))) (now (answer .exit)) (body (now (blocks .exit)) (now (statements .exit)) (now (locals .exit)) (now (scopes .exit)) (now (entries .exit))) (now (visits .exit)) ⌝ }
+    ensures { λ _. ⌜ WordsGive (now (image .entry)) (now (bindings .entry)) (now (call .entry)) (bodyOf (now (body .entry))) (now (visits .entry)) (now (answer .exit)) (bodyOf (now (body .exit))) (now (visits .exit)) ⌝ }
 {
     let counts = Counts {
         blocks: call[0],
@@ -89,11 +84,7 @@ pub extern "C" fn fithongu_pattern_match(
     let given = pattern_match(
         image,
         bindings,
-        blocks,
-        statements,
-        locals,
-        scopes,
-        entries,
+        body,
         visits,
         counts,
         PatId(call[5]),

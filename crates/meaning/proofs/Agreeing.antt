@@ -10,7 +10,7 @@ use Rattle.mir.specs.declared.blocks.Terminator.{Terminator}
 use Rattle.views.specs.Views.{Line, Mir}
 use Rattle.views.specs.Growing.{terminatorAt}
 use Rattle.meaning.specs.Running.{Scene, Env, execute, switched, Run, here, skip, step, jump, branch}
-use Rattle.lower.specs.declared.merging.OptBlock.{OptBlock}
+use Rattle.lower_spec.specs.declared.merging.OptBlock.{OptBlock}
 use Rattle.meaning.specs.Executing.{Position, Ending, atThen, atElse, stuck, unfinished, isElse, lineDone, entering, Leap, to, nowhere, leap, leapTo, advanced, steps, leapt, onward, runs}
 
 -- a position

@@ -21,9 +21,9 @@ use Rattle.mir.specs.Scopes.{entryLimit}
 use Rattle.mir.specs.Rvalues.{liveRow}
 use Rattle.state.specs.State.{State}
 use Rattle.state.specs.Steps.{newBlock, setTerminator, pushStatement, newLocal, pushEntry, within, tryBlock, tryStatement, tryLocal, tryEntry, nextLocal}
-use Rattle.lower.specs.declared.merging.OptBlock.{OptBlock}
-use Rattle.lower.specs.Temps.{isSlice, isHeld, recordUnless, markLive, pushStorageLiveForLocal, temp, bindingLocal}
-use Rattle.lower.specs.Recorded.{recorded, occurs, OncePerLocal}
+use Rattle.lower_spec.specs.declared.merging.OptBlock.{OptBlock}
+use Rattle.lower_spec.specs.Temps.{isSlice, isHeld, recordUnless, markLive, pushStorageLiveForLocal, temp, bindingLocal}
+use Rattle.lower_spec.specs.Recorded.{recorded, occurs, OncePerLocal}
 use Rattle.views.specs.Views.{Line, terminatorOf, lineOf, mirOf}
 use Rattle.pattern_matching.specs.Walking.{elseState}
 use Rattle.counting.proofs.Holding.{Gives, gives, stops, gives-then}

@@ -17,11 +17,11 @@ use Rattle.mir.specs.Scopes.{scopeLimit}
 use Rattle.mir.specs.Rvalues.{deadRow}
 use Rattle.state.specs.State.{State}
 use Rattle.state.specs.Steps.{within, nextBlock, newBlock, pushStatement, pushScope, setTerminator, scopeStart, popScope, tryBlock, tryStatement, tryScope}
-use Rattle.lower.specs.declared.merging.OptBlock.{OptBlock}
-use Rattle.lower.specs.Merging.{setGoto, mergeBlocks}
-use Rattle.lower.specs.Recorded.{recorded, occurs, OncePerLocal}
-use Rattle.lower.specs.Temps.{temp}
-use Rattle.drop_scopes.specs.Dropping.{At, isCopy, markDead, emitDropAndStorageDead, leaveAll, entriesFrom, dropUntilScope, popAndDrop, popAssumeDropped}
+use Rattle.lower_spec.specs.declared.merging.OptBlock.{OptBlock}
+use Rattle.lower_spec.specs.Merging.{setGoto, mergeBlocks}
+use Rattle.lower_spec.specs.Recorded.{recorded, occurs, OncePerLocal}
+use Rattle.lower_spec.specs.Temps.{temp}
+use Rattle.drop_scopes_spec.specs.Dropping.{At, isCopy, markDead, emitDropAndStorageDead, leaveAll, entriesFrom, dropUntilScope, popAndDrop, popAssumeDropped}
 use Rattle.counting.proofs.Holding.{Gives, gives, stops, gives-then}
 use Rattle.named.specs.Named.{NamedBelow}
 use Rattle.named.specs.Marked.{MarksRecorded}

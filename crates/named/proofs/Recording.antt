@@ -9,7 +9,7 @@ use lib.Dec.{eqb}
 use lib.ListN.{length, take, drop}
 use Rattle.image.specs.Lists.{member}
 use Rattle.state.specs.State.{State}
-use Rattle.lower.specs.Recorded.{recorded, occurs, OncePerLocal}
+use Rattle.lower_spec.specs.Recorded.{recorded, occurs, OncePerLocal}
 use Rattle.views.specs.Views.{Line, lineOf, mirOf}
 use Rattle.named.specs.Named.{Throughout}
 use Rattle.named.specs.Marked.{markOf, markedLive, MarksRecorded}

@@ -17,8 +17,8 @@ use Rattle.mir.specs.declared.rvalues.Constant.{Constant}
 use Rattle.mir.specs.declared.rvalues.Left.{Left}
 use Rattle.state.specs.State.{Body, decode}
 use Rattle.state.proofs.Words.{length-words}
-use Rattle.check_body.specs.Bodies.{wordOf, isBlock, isLocal, tablesSized, countsWithin, blockHolds, elemAtHolds, placeHolds, constantHolds, leftHolds, rvalueHolds, statementHolds, localHolds, scopeHolds, entryHolds, entriesBelong, bodyHolds}
-use Rattle.check_body.proofs.Checked.{sizes, within, entry-local}
+use Rattle.body_row_rules.specs.Bodies.{wordOf, isBlock, isLocal, tablesSized, countsWithin, blockHolds, elemAtHolds, placeHolds, constantHolds, leftHolds, rvalueHolds, statementHolds, localHolds, scopeHolds, entryHolds, entriesBelong, bodyHolds}
+use Rattle.body_row_rules.proofs.Checked.{sizes, within, entry-local}
 use Rattle.views.specs.Views.{set, unknown, Line, word, terminatorKinds, terminatorOf, pathOf, constantAt, leftOf, statementKinds, lineOf, mirOf}
 use Rattle.named.specs.Named.{LeftBelow, StatementBelow, TerminatorBelow, Throughout, NamesBelow, NamedBelow}
 use Rattle.named.proofs.Rows.{each-made}

@@ -18,8 +18,8 @@ use Rattle.mir.specs.Scopes.{entryLimit}
 use Rattle.mir.specs.Rvalues.{liveRow, placeRvalueRow}
 use Rattle.state.specs.State.{State}
 use Rattle.state.specs.Steps.{within, nextLocal, newBlock, pushStatement, newLocal, pushEntry, setTerminator, tryBlock, tryStatement, tryLocal, tryEntry}
-use Rattle.lower.specs.declared.merging.OptBlock.{OptBlock}
-use Rattle.lower.specs.Temps.{isSlice, markLive, temp, discrTempPlace}
+use Rattle.lower_spec.specs.declared.merging.OptBlock.{OptBlock}
+use Rattle.lower_spec.specs.Temps.{isSlice, markLive, temp, discrTempPlace}
 use Rattle.views.specs.Views.{Line, lineOf, mirOf}
 use Rattle.views.proofs.ReadBack.{live-back, place-rvalue-back}
 use Rattle.pattern_matching.specs.Walking.{Ctx, Out, ok, elseState}

@@ -26,8 +26,8 @@ use Rattle.mir.specs.Rvalues.{placeRvalueRow, constantRow, binaryRow}
 use Rattle.state.specs.State.{State}
 use Rattle.state.specs.Steps.{nextLocal, nextBlock, tryBlock, tryStatement}
 use Rattle.literals.specs.Literals.{lowerConstToOperand, lowerLiteralToOperand, lowerLiteralOrConstToOperand}
-use Rattle.lower.specs.declared.merging.OptBlock.{OptBlock}
-use Rattle.lower.specs.Temps.{isHeld, temp, bindingLocal, pushStorageLiveForLocal, discrTempPlace}
+use Rattle.lower_spec.specs.declared.merging.OptBlock.{OptBlock}
+use Rattle.lower_spec.specs.Temps.{isHeld, temp, bindingLocal, pushStorageLiveForLocal, discrTempPlace}
 use Rattle.pattern_matching.specs.declared.MatchingMode.{MatchingMode}
 use Rattle.pattern_matching.specs.Walking.{Ctx, Out, Walk, Lowering, out, project, localPlace, elseState, elseBlock, inCheck}
 use Rattle.pattern_matching.specs.Tests.{boolWord, usizeWord, compare, patternMatchConst, literal, litBy, constantPath, rangeEnd, rangeEnd?, bindingRvalue, patternMatchBinding, localPath}

@@ -18,8 +18,8 @@ use Rattle.mir.specs.declared.blocks.Terminator.{Terminator}
 use Rattle.mir.specs.declared.rvalues.BinOp.{BinOp}
 use Rattle.state.specs.State.{State}
 use Rattle.state.specs.Steps.{nextBlock, tryBlock}
-use Rattle.lower.specs.declared.merging.OptBlock.{OptBlock}
-use Rattle.lower.specs.Merging.{setGoto}
+use Rattle.lower_spec.specs.declared.merging.OptBlock.{OptBlock}
+use Rattle.lower_spec.specs.Merging.{setGoto}
 use Rattle.pattern_matching.specs.declared.MatchingMode.{MatchingMode}
 use Rattle.pattern_matching.specs.Walking.{Ctx, Out, Walk, refused, Lowering, out, withState, visited, project, derefed, entered, elseState, elseBlock, inCheck}
 use Rattle.pattern_matching.specs.Tests.{rangeEnd?, litBy}

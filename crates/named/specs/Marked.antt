@@ -4,7 +4,7 @@ use mathlib.Core.Path.{_≡_}
 use mathlib.Core.List.{List, [], _∷_, _++_}
 use lib.ListN.{length, drop}
 use Rattle.state.specs.State.{State}
-use Rattle.lower.specs.Recorded.{recorded}
+use Rattle.lower_spec.specs.Recorded.{recorded}
 use Rattle.views.specs.Views.{Statement, live, dead, set, Line, mirOf}
 
 -- the local that a statement marks live, where it marks one

@@ -8,9 +8,9 @@ use lib.ListN.{getD}
 use Rattle.image.specs.declared.rows.PatRow.{PatRow}
 use Rattle.image.specs.Rows.{patAt}
 use Rattle.image.specs.Tree.{tree}
-use Rattle.lowered_params.specs.declared.SelfParam.{SelfParam}
-use Rattle.lowered_params.specs.Params.{plainBinding}
-use Rattle.lowered_params.specs.Calls.{paramsFrom, paramCount, paramsOf, listFormed, bindsReceiver, noneBindsReceiver, receiverApart, listHolds}
+use Rattle.params_spec.specs.declared.SelfParam.{SelfParam}
+use Rattle.params_spec.specs.Params.{plainBinding}
+use Rattle.params_spec.specs.Calls.{paramsFrom, paramCount, paramsOf, listFormed, bindsReceiver, noneBindsReceiver, receiverApart, listHolds}
 use Rattle.param_lists.specs.Plain.{isPlain}
 use Rattle.param_lists.proofs.Listing.{params-none, params-more, Listed, list-taken, listed-behind}
 use Rattle.param_lists.proofs.Plain.{row-plain}

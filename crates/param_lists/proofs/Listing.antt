@@ -10,9 +10,9 @@ use lib.ListN.{length, getD, take, drop}
 use lib.Seq.{split-at, getD-at, length-take-le}
 use Rattle.image.specs.Tables.{typeCount, patternCount}
 use Rattle.image.proofs.Bools.{and-left, and-right}
-use Rattle.lowered_params.specs.declared.SelfParam.{SelfParam}
-use Rattle.lowered_params.specs.Params.{Param}
-use Rattle.lowered_params.specs.Calls.{paramsFrom, paramCount, paramsOf, paramsNamed, listFormed, receiverApart, listHolds}
+use Rattle.params_spec.specs.declared.SelfParam.{SelfParam}
+use Rattle.params_spec.specs.Params.{Param}
+use Rattle.params_spec.specs.Calls.{paramsFrom, paramCount, paramsOf, paramsNamed, listFormed, receiverApart, listHolds}
 
 -- within a list it does not matter what there would be outside
 pub word-within : (words : List ℕ) (i d d′ : ℕ) → i < length words → getD words i d ≡ getD words i d′

@@ -9,7 +9,7 @@ use lib.Dec.{ltb}
 use lib.ListN.{length, getD}
 use Rattle.image.specs.declared.Tables.{Tables}
 use Rattle.image.specs.Tables.{Whole, typeCount, patternCount}
-use Rattle.lowered_params.specs.Calls.{paramsFrom, paramCount, paramsOf, paramsNamed, listFormed}
+use Rattle.params_spec.specs.Calls.{paramsFrom, paramCount, paramsOf, paramsNamed, listFormed}
 use Rattle.param_lists.proofs.Listing.{params-none, params-more}
 
 -- the parameters from the word k on are left to look at, and decide

@@ -15,7 +15,7 @@ use Rattle.image.specs.Rows.{patAt}
 use Rattle.image.specs.Rules.{absent}
 use Rattle.image.specs.Tree.{Head, Pat, no, sub, tree?, nodeBy, node, treeOf, tree}
 use Rattle.pattern_parts.specs.Parts.{isBind}
-use Rattle.lowered_params.specs.Params.{byValue, plainBind, plainBinding}
+use Rattle.params_spec.specs.Params.{byValue, plainBind, plainBinding}
 use Rattle.param_lists.specs.Plain.{isPlain}
 
 -- no number past the last is a Bind's

@@ -4,15 +4,15 @@ use image::PatId;
 use image::Tables;
 use image::rows::PatRow;
 use image::rows::pat_at;
-use lowered_params::SelfParam;
+use params_spec::SelfParam;
 ghost use mathlib.Core.Path.{_≡_};
 ghost use mathlib.Core.Bool.{true};
 ghost use Prim.Native.Nat.{_*_, _<_};
 ghost use lib.ListN.{length};
 ghost use Rattle.image.specs.Tables.{Whole, patternCount};
 ghost use Rattle.image.specs.Tree.{tree};
-ghost use Rattle.lowered_params.specs.Params.{plainBinding};
-ghost use Rattle.lowered_params.specs.Calls.{paramCount, paramsOf, paramsNamed, listFormed, bindsReceiver, noneBindsReceiver, receiverApart, listHolds};
+ghost use Rattle.params_spec.specs.Params.{plainBinding};
+ghost use Rattle.params_spec.specs.Calls.{paramCount, paramsOf, paramsNamed, listFormed, bindsReceiver, noneBindsReceiver, receiverApart, listHolds};
 ghost use Rattle.param_lists.specs.Plain.{isPlain};
 
 // Each parameter of a list names a pattern and a type.

@@ -9,8 +9,8 @@ use lib.Dec.{ltb}
 use Rattle.image.specs.declared.BindingId.{BindingId}
 use Rattle.image.specs.declared.Tables.{Tables}
 use Rattle.image.specs.Tables.{Whole, bindingCount}
-use Rattle.lowered_params.specs.declared.SelfParam.{SelfParam}
-use Rattle.lowered_params.specs.Calls.{selfNamed}
+use Rattle.params_spec.specs.declared.SelfParam.{SelfParam}
+use Rattle.params_spec.specs.Calls.{selfNamed}
 
 -- `self_named`
 module _ {image : List ℕ} {tables : Tables} (W : Whole image tables) (b : BindingId) (ty : ℕ) where

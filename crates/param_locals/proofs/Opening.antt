@@ -13,13 +13,13 @@ use Rattle.read_image.specs.Read.{readOf}
 use Rattle.mir.specs.declared.BasicBlockId.{BasicBlockId}
 use Rattle.mir.specs.declared.Counts.{Counts}
 use Rattle.state.specs.State.{Body}
-use Rattle.check_body.specs.Bodies.{bodyHolds}
-use Rattle.lower_calls.specs.declared.opening.Opened.{Opened}
-use Rattle.lower_calls.specs.Calls.{bodyTaken}
-use Rattle.lower_calls.specs.Sizes.{Taken}
-use Rattle.lower_calls.proofs.Prologue.{read-valid, read-refused, whole-of, opens-image, opens-no-body, not-taken, taken}
-use Rattle.lowered_params.specs.declared.SelfParam.{SelfParam}
-use Rattle.lowered_params.specs.Calls.{listHolds, paramsHold}
+use Rattle.body_row_rules.specs.Bodies.{bodyHolds}
+use Rattle.body_calls_spec.specs.declared.Opened.{Opened}
+use Rattle.body_calls_spec.specs.Calls.{bodyTaken}
+use Rattle.body_calls_spec.specs.Sizes.{Taken}
+use Rattle.body_calls_spec.proofs.Prologue.{read-valid, read-refused, whole-of, opens-image, opens-no-body, not-taken, taken}
+use Rattle.params_spec.specs.declared.SelfParam.{SelfParam}
+use Rattle.params_spec.specs.Calls.{listHolds, paramsHold}
 use Rattle.param_locals.specs.Looking.{openedParams, ParamsTaken}
 
 -- the tables of an image that was read

@@ -13,7 +13,7 @@ use Rattle.image.specs.Tree.{tree}
 use Rattle.image.specs.Valid.{valid}
 use Rattle.image.proofs.Bools.{and-left}
 use Rattle.pattern_nodes.proofs.There.{bind-there}
-use Rattle.lowered_params.specs.Params.{plainBinding, boundTo}
+use Rattle.params_spec.specs.Params.{plainBinding, boundTo}
 use Rattle.param_lists.specs.Plain.{isPlain}
 use Rattle.param_lists.proofs.Plain.{row-plain}
 

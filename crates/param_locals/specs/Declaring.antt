@@ -1,5 +1,5 @@
--- What the functions that make the locals promise: with the tables at exit, their answers are what the definitions give, whatever lies in the tables that
--- they do not touch, and at whatever block a walk stands. Assumes nothing: these are definitions.
+-- What the functions that make the locals promise: with the body at exit, their answers are what the definitions give, at whatever block a walk stands. Assumes
+-- nothing: these are definitions.
 use Prim.Native.Nat.{ℕ, _<_}
 use mathlib.Core.Path.{_≡_}
 use mathlib.Core.Bool.{true}
@@ -11,18 +11,16 @@ use Rattle.image.specs.Valid.{valid}
 use Rattle.refusals.specs.Refusals.{Result, ok, refused}
 use Rattle.mir.specs.declared.Counts.{Counts}
 use Rattle.state.specs.declared.Stepped.{Stepped}
-use Rattle.state.specs.State.{Body, body, decode}
+use Rattle.state.specs.State.{Body, decode}
 use Rattle.state.specs.Contracts.{Ready, Answers, steppedCounts}
-use Rattle.lowered_params.specs.declared.SelfParam.{SelfParam}
-use Rattle.lowered_params.specs.Params.{Declared}
+use Rattle.params_spec.specs.declared.SelfParam.{SelfParam}
+use Rattle.params_spec.specs.Params.{Declared}
 
--- what is asked for: a valid image, a word for each of its bindings, and tables of the right sizes
-pub record Declarable (image : List ℕ) (tables : Tables) (m l e : List ℕ) : Type 0 where
+-- what is asked for: a valid image, and a word for each of its bindings
+pub record Declarable (image : List ℕ) (tables : Tables) (m : List ℕ) : Type 0 where
   pub image-valid : valid image ≡ true
   pub whole : Whole image tables
   pub bindings : length m ≡ bindingCount image
-  pub locals : length l ≡ 512
-  pub entries : length e ≡ 1024
 
 -- self's binding is one of so many
 abbrev pub SelfBound : ℕ → SelfParam → Type 0
@@ -38,12 +36,6 @@ abbrev pub declaredResult : Stepped → Body → List ℕ → Result Declared
 declaredResult (Stepped.Now c) b bindings = ok (declaredOf b c bindings)
 declaredResult (Stepped.Refused e) b bindings = refused e
 
--- the bindings' locals m₀, the locals l₀ and the entries e₀ before, m, l and e after
-pub record Declares (defined : Declared → Result Declared) (c : Counts) (m₀ l₀ e₀ : List ℕ) (r : Stepped) (m l e : List ℕ) : Type 0 where
-  pub answers : (current : ℕ) (blocks statements scopes : List ℕ) → Ready (body blocks statements l₀ scopes e₀) c →
-      Answers (body blocks statements l₀ scopes e₀) c current (body blocks statements l scopes e) (steppedCounts r) (declaredResult r (body blocks statements l scopes e) m)
-      (defined (declaredOf (body blocks statements l₀ scopes e₀) c m₀))
-
--- the same where no entry is made
-pub record DeclaresAlone (defined : Declared → Result Declared) (c : Counts) (m₀ l₀ : List ℕ) (r : Stepped) (m l : List ℕ) : Type 0 where
-  pub beside : (entries : List ℕ) → Declares defined c m₀ l₀ entries r m l entries
+-- the bindings' locals m₀ and the body b₀ before, m and b after
+pub record Declares (defined : Declared → Result Declared) (c : Counts) (m₀ : List ℕ) (b₀ : Body) (r : Stepped) (m : List ℕ) (b : Body) : Type 0 where
+  pub answers : (current : ℕ) → Ready b₀ c → Answers b₀ c current b (steppedCounts r) (declaredResult r b m) (defined (declaredOf b₀ c m₀))

@@ -9,11 +9,11 @@ use Rattle.image.specs.Valid.{valid}
 use Rattle.mir.specs.declared.BasicBlockId.{BasicBlockId}
 use Rattle.mir.specs.declared.Counts.{Counts}
 use Rattle.state.specs.State.{Body}
-use Rattle.lower_calls.specs.declared.opening.Opened.{Opened}
-use Rattle.lower_calls.specs.Calls.{bodyTaken}
-use Rattle.lower_calls.specs.Sizes.{Taken}
-use Rattle.lowered_params.specs.declared.SelfParam.{SelfParam}
-use Rattle.lowered_params.specs.Calls.{listHolds, paramsHold}
+use Rattle.body_calls_spec.specs.declared.Opened.{Opened}
+use Rattle.body_calls_spec.specs.Calls.{bodyTaken}
+use Rattle.body_calls_spec.specs.Sizes.{Taken}
+use Rattle.params_spec.specs.declared.SelfParam.{SelfParam}
+use Rattle.params_spec.specs.Calls.{listHolds, paramsHold}
 
 -- the tables' places, where image, list, body and the call's own values are taken
 unfoldable pub openedParams : List ℕ → List ℕ → SelfParam → List ℕ → Body → List ℕ → Counts → BasicBlockId → Opened

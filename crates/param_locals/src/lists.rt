@@ -1,37 +1,36 @@
 // Whether what a call on parameters is handed is taken: document 01's numbers 1 and 2.
-use check_body::check_body;
+use body_calls_spec::Opened;
+use body_handed::start_holds;
+use body_rules::body_holds;
+use body_tables::BODY_WORDS;
 use handed::bindings_hold;
-use handed::start_holds;
 use image::Tables;
-use lower_calls::opening::Opened;
-use lowered_params::SelfParam;
 use mir::BasicBlockId;
 use mir::Counts;
 use param_lists::list_holds;
+use params_spec::SelfParam;
+use pattern_entering::VISIT_WORDS;
 use read_image::Read;
 use read_image::read_image;
 ghost use mathlib.Core.Path.{_≡_};
 ghost use Prim.Native.Nat.{_≤_};
-ghost use lib.ListN.{length};
 ghost use Rattle.image.specs.Tables.{Whole};
-ghost use Rattle.state.specs.State.{body};
-ghost use Rattle.lowered_params.specs.Calls.{selfNamed, paramsHold};
+ghost use Rattle.params_spec.specs.Calls.{selfNamed, paramsHold};
 ghost use Rattle.param_locals.specs.Looking.{openedParams};
+ghost use Rattle.body_tables.specs.Layout.{bodyOf};
 
 // Self names a binding and a type.
 fn self_named(image: &[u8], tables: Tables, receiver: SelfParam) -> bool
     requires { ⌜ Whole (now image) tables ⌝ }
     ensures { λ r. ⌜ r ≡ selfNamed (now (image .entry)) receiver ⌝ }
 {
-    match receiver {
-        SelfParam::None => true,
-        SelfParam::Some(b, ty) => {
-            if tables.bindings.count <= b.0 {
-                return false;
-            }
-            ty < tables.types.count
-        }
+    let SelfParam::Some(b, ty) = receiver else {
+        return true;
+    };
+    if tables.bindings.count <= b.0 {
+        return false;
     }
+    ty < tables.types.count
 }
 
 // All else that the call is handed names something.
@@ -40,13 +39,13 @@ fn params_hold(
     tables: Tables,
     receiver: SelfParam,
     bindings: &[u16],
-    blocks: &[u16],
+    body: &[u16; BODY_WORDS],
     visits: &[u16],
     counts: Counts,
     current: BasicBlockId,
 ) -> bool
-    requires { ⌜ Whole (now image) tables × (length (now blocks) ≡ 6144) × (counts .blocks ≤ 512) ⌝ }
-    ensures { λ r. ⌜ r ≡ paramsHold (now (image .entry)) receiver (now (bindings .entry)) (now (blocks .entry)) (now (visits .entry)) counts current ⌝ }
+    requires { ⌜ Whole (now image) tables × (counts .blocks ≤ 512) ⌝ }
+    ensures { λ r. ⌜ r ≡ paramsHold (now (image .entry)) receiver (now (bindings .entry)) (bodyOf (now (body .entry)) .blocks) (now (visits .entry)) counts current ⌝ }
 {
     if !self_named(image, tables, receiver) {
         return false;
@@ -54,10 +53,10 @@ fn params_hold(
     if !bindings_hold(tables.bindings.count, counts, bindings) {
         return false;
     }
-    if !start_holds(blocks, counts, current) {
+    if !start_holds(body, counts, current) {
         return false;
     }
-    visits.len() == 512
+    visits.len() == VISIT_WORDS
 }
 
 // Image, list, body and the call's own values are taken, in this order.
@@ -66,48 +65,33 @@ pub fn open_params(
     words: &[u16],
     receiver: SelfParam,
     bindings: &[u16],
-    blocks: &[u16],
-    statements: &[u16],
-    locals: &[u16],
-    scopes: &[u16],
-    entries: &[u16],
-    visits: &[u16],
+    body: &[u16; BODY_WORDS],
+    visits: &[u16; VISIT_WORDS],
     counts: Counts,
     current: BasicBlockId,
 ) -> Opened
-    ensures { λ r. ⌜ r ≡ openedParams (now (image .entry)) (now (words .entry)) receiver (now (bindings .entry)) (body (now (blocks .entry)) (now (statements .entry)) (now (locals .entry)) (now (scopes .entry)) (now (entries .entry))) (now (visits .entry)) counts current ⌝ }
+    ensures { λ r. ⌜ r ≡ openedParams (now (image .entry)) (now (words .entry)) receiver (now (bindings .entry)) (bodyOf (now (body .entry))) (now (visits .entry)) counts current ⌝ }
 {
-    match read_image(image) {
-        Read::Refused => Opened::BadImage,
-        Read::Image(tables) => {
-            if !list_holds(image, tables, receiver, words) {
-                return Opened::BadImage;
-            }
-            if !check_body(
-                tables.types.count,
-                tables.variants.count,
-                blocks,
-                statements,
-                locals,
-                scopes,
-                entries,
-                counts,
-            ) {
-                return Opened::BadCall;
-            }
-            if !params_hold(
-                image,
-                tables,
-                receiver,
-                bindings,
-                blocks,
-                visits,
-                counts,
-                current,
-            ) {
-                return Opened::BadCall;
-            }
-            Opened::Image(tables)
-        }
+    let Read::Image(tables) = read_image(image) else {
+        return Opened::BadImage;
+    };
+    if !list_holds(image, tables, receiver, words) {
+        return Opened::BadImage;
     }
+    if !body_holds(tables.types.count, tables.variants.count, body, counts) {
+        return Opened::BadCall;
+    }
+    if !params_hold(
+        image,
+        tables,
+        receiver,
+        bindings,
+        body,
+        visits,
+        counts,
+        current,
+    ) {
+        return Opened::BadCall;
+    }
+    Opened::Image(tables)
 }

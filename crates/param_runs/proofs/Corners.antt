@@ -5,7 +5,7 @@ use mathlib.Core.Path.{_≡_, refl}
 use mathlib.Core.List.{List, [], _∷_, map}
 use mathlib.Core.Bool.{true, false}
 use lib.IntN.{pos}
-use Rattle.lowered_params.specs.declared.SelfParam.{SelfParam}
+use Rattle.params_spec.specs.declared.SelfParam.{SelfParam}
 use Rattle.meaning.specs.Values.{Value, Int, Tuple, Adt, noMore, more}
 use Rattle.place.specs.declared.elems.ProjectionElem.{ProjectionElem}
 use Rattle.mir.specs.declared.blocks.Terminator.{Terminator}
@@ -33,7 +33,7 @@ use Rattle.mir.specs.Locals.{localTy}
 use Rattle.mir.specs.Rvalues.{constantWords, leftWords, placeRvalueKind, binaryKind, liveRow, deadRow, placeRvalueRow, constantRow, binaryRow}
 use Rattle.state.specs.Steps.{newBlock, setTerminator, pushStatement, newLocal, pushScope, pushEntry, tryBlock, tryStatement, tryLocal, tryScope, tryEntry}
 use Rattle.literals.specs.Literals.{constantOf, stringConstant, integerConstant, literalBy, lowerLiteralToOperand, lowerConstToOperand, literalOrConstBy, lowerLiteralOrConstToOperand}
-use Rattle.lower.specs.Temps.{isSlice, isHeld, markLive, temp, bindingLocal}
+use Rattle.lower_spec.specs.Temps.{isSlice, isHeld, markLive, temp, bindingLocal}
 use Rattle.views.specs.Views.{terminatorOf, elemsAt, pathOf, constantAt, leftOf, lineOf, mirOf}
 use Rattle.refusals.specs.Refusals.{numberOf, reasonOf, refusalAt}
 use Rattle.pattern_matching.specs.Walking.{visited, project, localPlace, elseState, elseBlock, derefed, entered}
@@ -41,8 +41,8 @@ use Rattle.pattern_matching.specs.Tests.{compare, patternMatchConst, literal, l
 use Rattle.pattern_matching.specs.Variants.{placeTy, shapeOf, patternMatchAdt, patternMatchTupleLike, ellipsisAt, tupleOn, tuplePattern, refOn, refPattern, resolved, recordFields, variantFields, discriminantTest, variantOn, adtOn, patternMatchingVariant, variantPattern}
 use Rattle.pattern_matching.specs.Slices.{lengthConstant, lengthCompared, lengthTest, restBound, sliceItems, sliceOn}
 use Rattle.pattern_matching.specs.Patterns.{alternatives, alternativesEnd, orPattern, endOp, rangePattern, pathPattern, bindPattern, restBy, restOf, patternMatchInner, lowerings, lowering?, patternMatch}
-use Rattle.lowered_params.specs.Params.{paramLocal, byValue, plainBind, plainBinding, boundTo, declareSelf, declareParam, declareParams, declareBinding, declareBindings, declare, shutElse, shut, unlessBound, unlessOwn, lowerParam, lowerParams, selfCount, lowerAll, lowerParamsAndBindings}
-use Rattle.lowered_params.specs.Calls.{bindsReceiver, noneBindsReceiver, receiverApart}
+use Rattle.params_spec.specs.Params.{paramLocal, byValue, plainBind, plainBinding, boundTo, declareSelf, declareParam, declareParams, declareBinding, declareBindings, declare, shutElse, shut, unlessBound, unlessOwn, lowerParam, lowerParams, selfCount, lowerAll, lowerParamsAndBindings}
+use Rattle.params_spec.specs.Calls.{bindsReceiver, noneBindsReceiver, receiverApart}
 use Rattle.image.specs.Integers.{leastValue, greatestValue, inRange, integerValue}
 use Rattle.counting.specs.Cases.{kindNumber, tupleFields, referent}
 use Rattle.meaning.specs.Values.{items, partsOf, intFits, hasVariant, valueFits}

@@ -10,11 +10,11 @@ use Rattle.image.specs.Valid.{valid}
 use Rattle.image.specs.Tree.{tree}
 use Rattle.place.specs.declared.place_ty.PlaceTy.{PlaceTy}
 use Rattle.mir.specs.declared.BasicBlockId.{BasicBlockId}
-use Rattle.lower.specs.declared.merging.OptBlock.{OptBlock}
+use Rattle.lower_spec.specs.declared.merging.OptBlock.{OptBlock}
 use Rattle.pattern_matching.specs.Walking.{Ctx, Out, ok, withState, localPlace}
-use Rattle.lowered_params.specs.declared.SelfParam.{SelfParam}
-use Rattle.lowered_params.specs.Params.{Param, ParamsOut, lowerParam, lowerParams, lowerParamsAndBindings}
-use Rattle.lowered_params.specs.Calls.{paramsNamed}
+use Rattle.params_spec.specs.declared.SelfParam.{SelfParam}
+use Rattle.params_spec.specs.Params.{Param, ParamsOut, lowerParam, lowerParams, lowerParamsAndBindings}
+use Rattle.params_spec.specs.Calls.{paramsNamed}
 use Rattle.counting.specs.Reaching.{Reached}
 use Rattle.counting.specs.Counting.{total, reachedFrom, visitsOf, newBlocks}
 use Rattle.counting.proofs.Ors.{visits-few}

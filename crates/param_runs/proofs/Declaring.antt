@@ -23,9 +23,9 @@ use Rattle.mir.specs.Locals.{localLimit}
 use Rattle.mir.specs.Scopes.{entryLimit}
 use Rattle.state.specs.State.{State}
 use Rattle.state.specs.Steps.{within, nextLocal, newLocal, pushEntry, tryLocal, tryEntry}
-use Rattle.lowered_params.specs.declared.SelfParam.{SelfParam}
-use Rattle.lowered_params.specs.Params.{Param, Declared, paramLocal, plainBinding, boundTo, declareSelf, declareParam, declareParams, declareBinding, declareBindings, declare}
-use Rattle.lowered_params.specs.Calls.{bindsReceiver, noneBindsReceiver}
+use Rattle.params_spec.specs.declared.SelfParam.{SelfParam}
+use Rattle.params_spec.specs.Params.{Param, Declared, paramLocal, plainBinding, boundTo, declareSelf, declareParam, declareParams, declareBinding, declareBindings, declare}
+use Rattle.params_spec.specs.Calls.{bindsReceiver, noneBindsReceiver}
 use Rattle.counting.proofs.Holding.{Gives, gives, stops, gives-then}
 use Rattle.named.specs.Named.{WordsBelow}
 use Rattle.param_runs.proofs.Words.{words-more, bound-below, bound-keeps}

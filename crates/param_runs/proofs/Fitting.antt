@@ -5,7 +5,7 @@ use mathlib.Core.Bool.{Bool, true, false, cond, _&&_}
 use mathlib.Core.List.{List, _∷_}
 use Rattle.image.specs.Tree.{tree}
 use Rattle.image.proofs.Bools.{and-left, and-right}
-use Rattle.lowered_params.specs.Params.{Param}
+use Rattle.params_spec.specs.Params.{Param}
 use Rattle.meaning.specs.Values.{Value, valueFits}
 use Rattle.meaning.specs.Matching.{matches}
 use Rattle.meaning.specs.Fit.{fits}

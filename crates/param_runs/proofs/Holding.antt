@@ -10,7 +10,7 @@ use Rattle.image.specs.Lists.{member, distinct}
 use Rattle.image.specs.Tree.{Pat, tree}
 use Rattle.image.proofs.Bools.{and-left, and-right}
 use Rattle.pattern_matching.specs.Walking.{Ctx}
-use Rattle.lowered_params.specs.Params.{Param}
+use Rattle.params_spec.specs.Params.{Param}
 use Rattle.meaning.specs.Values.{Value}
 use Rattle.meaning.specs.Running.{Held, Env}
 use Rattle.meaning.specs.Binding.{binds}

@@ -7,12 +7,12 @@ use lib.ListN.{length}
 use Rattle.image.specs.Tree.{tree}
 use Rattle.mir.specs.declared.BasicBlockId.{BasicBlockId}
 use Rattle.mir.specs.declared.blocks.Terminator.{Terminator}
-use Rattle.lower.specs.declared.merging.OptBlock.{OptBlock}
+use Rattle.lower_spec.specs.declared.merging.OptBlock.{OptBlock}
 use Rattle.views.specs.Views.{mirOf}
 use Rattle.views.specs.Growing.{terminatorAt, GoesOn}
 use Rattle.pattern_matching.specs.Walking.{Ctx, Out, ok, withState, localPlace}
-use Rattle.lowered_params.specs.declared.SelfParam.{SelfParam}
-use Rattle.lowered_params.specs.Params.{Param, ParamsOut, selfCount, lowerParam, lowerParams, lowerParamsAndBindings}
+use Rattle.params_spec.specs.declared.SelfParam.{SelfParam}
+use Rattle.params_spec.specs.Params.{Param, ParamsOut, selfCount, lowerParam, lowerParams, lowerParamsAndBindings}
 use Rattle.growth.specs.Opened.{Starts, Leaves}
 use Rattle.growth.proofs.Opening.{adds-same, adds-words}
 use Rattle.growth.proofs.Leaving.{not-none, leaves-lines, leaves-seq}

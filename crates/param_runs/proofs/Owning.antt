@@ -10,11 +10,11 @@ use Rattle.refusals.specs.Refusals.{ok as done, refused as stopped}
 use Rattle.image.specs.Tree.{Pat, tree}
 use Rattle.place.specs.declared.LocalId.{LocalId}
 use Rattle.mir.specs.declared.BasicBlockId.{BasicBlockId}
-use Rattle.lower.specs.declared.merging.OptBlock.{OptBlock}
-use Rattle.lower.specs.Temps.{bindingLocal}
+use Rattle.lower_spec.specs.declared.merging.OptBlock.{OptBlock}
+use Rattle.lower_spec.specs.Temps.{bindingLocal}
 use Rattle.pattern_matching.specs.Walking.{Ctx, Out, Walk, ok, step, localPlace}
 use Rattle.pattern_matching.specs.Patterns.{patternMatch}
-use Rattle.lowered_params.specs.Params.{shut, unlessBound, unlessOwn, lowerParam}
+use Rattle.params_spec.specs.Params.{shut, unlessBound, unlessOwn, lowerParam}
 use Rattle.growth.proofs.Walks.{not-ok, ok-is, walked}
 use Rattle.param_runs.specs.Returned.{ownLocal}
 use Rattle.param_runs.proofs.Shutting.{shutOut}

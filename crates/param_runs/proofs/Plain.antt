@@ -11,7 +11,7 @@ use lib.ListN.{getD}
 use Rattle.image.specs.declared.kinds.BindingMode.{BindingMode}
 use Rattle.image.specs.Lists.{member}
 use Rattle.image.specs.Tree.{Pat, no, sub}
-use Rattle.lowered_params.specs.Params.{byValue, plainBind, plainBinding}
+use Rattle.params_spec.specs.Params.{byValue, plainBind, plainBinding}
 use Rattle.meaning.specs.Values.{Value}
 use Rattle.meaning.specs.Running.{value}
 use Rattle.meaning.specs.Matching.{crossed, crossedPath, boundAs}

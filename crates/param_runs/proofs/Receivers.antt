@@ -17,17 +17,17 @@ use Rattle.image.proofs.Bools.{and-left, and-right}
 use Rattle.mir.specs.declared.BasicBlockId.{BasicBlockId}
 use Rattle.mir.specs.declared.Counts.{Counts}
 use Rattle.state.specs.State.{Body, decode}
-use Rattle.lower.specs.declared.merging.OptBlock.{OptBlock}
-use Rattle.lower.specs.Temps.{bindingLocal}
-use Rattle.lower_calls.specs.Calls.{bodyTaken}
+use Rattle.lower_spec.specs.declared.merging.OptBlock.{OptBlock}
+use Rattle.lower_spec.specs.Temps.{bindingLocal}
+use Rattle.body_calls_spec.specs.Calls.{bodyTaken}
 use Rattle.pattern_matching.specs.Walking.{Ctx, Out, Walk, next, step, out, withState}
 use Rattle.pattern_matching.specs.Walking.{ok as gives}
 use Rattle.pattern_matching.specs.Patterns.{matchSelfParam}
-use Rattle.walks.specs.Answers.{ctxOf}
+use Rattle.pattern_walk_spec.specs.Answers.{ctxOf}
 use Rattle.handed.specs.Handed.{bindingHolds, bindingsHold}
-use Rattle.lowered_params.specs.declared.SelfParam.{SelfParam}
-use Rattle.lowered_params.specs.Params.{Param, Declared, ParamsOut, declare, shut, unlessBound, lowerParams, selfCount, lowerAll, lowerParamsAndBindings}
-use Rattle.lowered_params.specs.Calls.{ParamsCalled, badImage, badCall, walked, paramsOf, listFormed, receiverApart, listHolds, selfNamed, paramsHold, paramsCall}
+use Rattle.params_spec.specs.declared.SelfParam.{SelfParam}
+use Rattle.params_spec.specs.Params.{Param, Declared, ParamsOut, declare, shut, unlessBound, lowerParams, selfCount, lowerAll, lowerParamsAndBindings}
+use Rattle.params_spec.specs.Calls.{ParamsCalled, badImage, badCall, walked, paramsOf, listFormed, receiverApart, listHolds, selfNamed, paramsHold, paramsCall}
 use Rattle.param_runs.proofs.Declaring.{makes-count, all-made}
 
 -- self, whose local is l, from the block `current` on: a binding with another local is filled by `match_self_param`

@@ -17,13 +17,13 @@ use Rattle.image.specs.Lists.{member, distinct}
 use Rattle.image.specs.Tree.{tree}
 use Rattle.image.proofs.Bools.{and-left, and-right}
 use Rattle.mir.specs.declared.BasicBlockId.{BasicBlockId}
-use Rattle.lower.specs.declared.merging.OptBlock.{OptBlock}
+use Rattle.lower_spec.specs.declared.merging.OptBlock.{OptBlock}
 use Rattle.views.specs.Views.{Line, Mir, mirOf}
 use Rattle.views.specs.Growing.{GoesOn}
 use Rattle.pattern_matching.specs.Walking.{Ctx, Out, ok, withState}
-use Rattle.lowered_params.specs.declared.SelfParam.{SelfParam}
-use Rattle.lowered_params.specs.Params.{Param, Declared, ParamsOut, declare, plainBinding, selfCount, lowerParams, lowerParamsAndBindings}
-use Rattle.lowered_params.specs.Calls.{selfNamed, bindsReceiver, noneBindsReceiver}
+use Rattle.params_spec.specs.declared.SelfParam.{SelfParam}
+use Rattle.params_spec.specs.Params.{Param, Declared, ParamsOut, declare, plainBinding, selfCount, lowerParams, lowerParamsAndBindings}
+use Rattle.params_spec.specs.Calls.{selfNamed, bindsReceiver, noneBindsReceiver}
 use Rattle.growth.specs.Opened.{Starts}
 use Rattle.growth.proofs.Opening.{adds-words}
 use Rattle.growth.proofs.Leaving.{leaves-lines}

@@ -17,11 +17,11 @@ use Rattle.mir.specs.Locals.{localLimit}
 use Rattle.mir.specs.Scopes.{entryLimit}
 use Rattle.state.specs.State.{State}
 use Rattle.state.specs.Steps.{within, nextLocal, newLocal, pushEntry, tryLocal, tryEntry}
-use Rattle.lower.specs.declared.merging.OptBlock.{OptBlock}
-use Rattle.lower.specs.Recorded.{OncePerLocal}
+use Rattle.lower_spec.specs.declared.merging.OptBlock.{OptBlock}
+use Rattle.lower_spec.specs.Recorded.{OncePerLocal}
 use Rattle.pattern_matching.specs.Walking.{Ctx, Out, ok, withState, localPlace}
-use Rattle.lowered_params.specs.declared.SelfParam.{SelfParam}
-use Rattle.lowered_params.specs.Params.{Param, Declared, ParamsOut, paramLocal, declareSelf, declareParam, declareParams, declareBinding, declareBindings, declare, shutElse, lowerParam, lowerParams, selfCount, lowerParamsAndBindings}
+use Rattle.params_spec.specs.declared.SelfParam.{SelfParam}
+use Rattle.params_spec.specs.Params.{Param, Declared, ParamsOut, paramLocal, declareSelf, declareParam, declareParams, declareBinding, declareBindings, declare, shutElse, lowerParam, lowerParams, selfCount, lowerParamsAndBindings}
 use Rattle.counting.proofs.Holding.{Gives, gives, stops, gives-then}
 use Rattle.growth.proofs.Walks.{ok-is, walked}
 use Rattle.named.specs.Named.{NamedBelow, WordsBelow}

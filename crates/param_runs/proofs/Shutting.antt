@@ -8,10 +8,10 @@ use Rattle.mir.specs.declared.BasicBlockId.{BasicBlockId}
 use Rattle.mir.specs.declared.blocks.Terminator.{Terminator}
 use Rattle.state.specs.State.{State}
 use Rattle.state.specs.Steps.{setTerminator}
-use Rattle.lower.specs.declared.merging.OptBlock.{OptBlock}
+use Rattle.lower_spec.specs.declared.merging.OptBlock.{OptBlock}
 use Rattle.views.specs.Growing.{Closed}
 use Rattle.pattern_matching.specs.Walking.{Ctx, Out}
-use Rattle.lowered_params.specs.Params.{shutElse}
+use Rattle.params_spec.specs.Params.{shutElse}
 use Rattle.growth.specs.Opened.{count, terminator, ElseReady, From, ElseLeft, Leaves}
 use Rattle.growth.proofs.States.{count-terminator, closes, terminator-other}
 use Rattle.growth.proofs.Working.{worked-seq, worked-terminator, lines-below}

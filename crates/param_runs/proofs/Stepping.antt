@@ -7,8 +7,8 @@ use Rattle.refusals.specs.Refusals.{Result, noPattern}
 use Rattle.refusals.specs.Refusals.{ok as done, refused as stopped}
 use Rattle.mir.specs.declared.BasicBlockId.{BasicBlockId}
 use Rattle.pattern_matching.specs.Walking.{Ctx, Out, Walk, ok, step, withState}
-use Rattle.lowered_params.specs.declared.SelfParam.{SelfParam}
-use Rattle.lowered_params.specs.Params.{Param, Declared, ParamsOut, declare, selfCount, lowerParams, lowerAll, lowerParamsAndBindings}
+use Rattle.params_spec.specs.declared.SelfParam.{SelfParam}
+use Rattle.params_spec.specs.Params.{Param, Declared, ParamsOut, declare, selfCount, lowerParams, lowerAll, lowerParamsAndBindings}
 use Rattle.growth.proofs.Walks.{not-ok, ok-is, walked}
 
 -- what each step gave

@@ -9,12 +9,12 @@ use Rattle.image.specs.Tree.{Pat}
 use Rattle.place.specs.declared.Place.{Place}
 use Rattle.mir.specs.declared.BasicBlockId.{BasicBlockId}
 use Rattle.mir.specs.declared.blocks.Terminator.{Terminator}
-use Rattle.lower.specs.declared.merging.OptBlock.{OptBlock}
+use Rattle.lower_spec.specs.declared.merging.OptBlock.{OptBlock}
 use Rattle.state.specs.State.{State}
 use Rattle.pattern_matching.specs.Walking.{Ctx, Out, ok, withState}
 use Rattle.pattern_matching.specs.Variants.{placeTy}
 use Rattle.pattern_matching.specs.Patterns.{patternMatch}
-use Rattle.lowered_params.specs.Params.{shutElse}
+use Rattle.params_spec.specs.Params.{shutElse}
 use Rattle.counting.specs.Reaching.{Reached}
 use Rattle.counting.specs.Counting.{total, reachedFrom, visitsOf, newBlocks, statementsOf}
 use Rattle.counting.proofs.Building.{built-terminator}

@@ -12,12 +12,12 @@ use Rattle.image.specs.Lists.{distinct}
 use Rattle.image.specs.Valid.{valid}
 use Rattle.image.specs.Tree.{tree}
 use Rattle.mir.specs.declared.BasicBlockId.{BasicBlockId}
-use Rattle.lower.specs.declared.merging.OptBlock.{OptBlock}
+use Rattle.lower_spec.specs.declared.merging.OptBlock.{OptBlock}
 use Rattle.views.specs.Views.{Mir, mirOf}
 use Rattle.views.specs.Growing.{GoesOn}
 use Rattle.pattern_matching.specs.Walking.{Ctx, Out, ok}
-use Rattle.lowered_params.specs.Params.{Param, lowerParam, lowerParams}
-use Rattle.lowered_params.specs.Calls.{paramsNamed}
+use Rattle.params_spec.specs.Params.{Param, lowerParam, lowerParams}
+use Rattle.params_spec.specs.Calls.{paramsNamed}
 use Rattle.growth.specs.Opened.{count, From, Starts}
 use Rattle.growth.proofs.Working.{goes-on-trans}
 use Rattle.growth.proofs.Walks.{ok-is, walked}

@@ -19,9 +19,9 @@ use Rattle.mir.specs.Locals.{localTy, testTypes}
 use Rattle.state.specs.State.{State}
 use Rattle.pattern_matching.specs.Walking.{localPlace}
 use Rattle.pattern_matching.specs.Variants.{placeTy}
-use Rattle.lowered_params.specs.declared.SelfParam.{SelfParam}
-use Rattle.lowered_params.specs.Params.{Param, selfCount}
-use Rattle.lowered_params.specs.Calls.{paramsNamed}
+use Rattle.params_spec.specs.declared.SelfParam.{SelfParam}
+use Rattle.params_spec.specs.Params.{Param, selfCount}
+use Rattle.params_spec.specs.Calls.{paramsNamed}
 use Rattle.meaning.proofs.Constants.{type-sized}
 use Rattle.param_runs.proofs.Declaring.{selfTypes, paramTypes, Makes}
 

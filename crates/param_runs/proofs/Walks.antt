@@ -13,12 +13,12 @@ use Rattle.mir.specs.declared.BasicBlockId.{BasicBlockId}
 use Rattle.mir.specs.declared.blocks.Terminator.{Terminator}
 use Rattle.state.specs.State.{State}
 use Rattle.state.specs.Steps.{setTerminator}
-use Rattle.lower.specs.declared.merging.OptBlock.{OptBlock}
+use Rattle.lower_spec.specs.declared.merging.OptBlock.{OptBlock}
 use Rattle.views.specs.Views.{Line, Mir, mirOf}
 use Rattle.views.specs.Growing.{GoesOn}
 use Rattle.pattern_matching.specs.Walking.{Ctx, Out, ok, localPlace}
 use Rattle.pattern_matching.specs.Patterns.{patternMatch}
-use Rattle.lowered_params.specs.Params.{Param, shutElse}
+use Rattle.params_spec.specs.Params.{Param, shutElse}
 use Rattle.growth.specs.Opened.{count, Starts, Leaves}
 use Rattle.growth.proofs.States.{count-terminator}
 use Rattle.growth.proofs.Working.{worked-terminator, goes-on, goes-on-refl, goes-on-trans}

@@ -18,7 +18,7 @@ use Rattle.mir.specs.declared.Counts.{Counts}
 use Rattle.state.specs.State.{State, countsOf}
 use Rattle.handed.specs.Handed.{bindingHolds, bindingsHold}
 use Rattle.named.specs.Named.{WordsBelow}
-use Rattle.lowered_params.specs.Params.{boundTo}
+use Rattle.params_spec.specs.Params.{boundTo}
 use Rattle.correctness.proofs.BindingNames.{or-elim}
 
 -- below more too

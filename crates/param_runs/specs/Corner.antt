@@ -11,9 +11,9 @@ use Rattle.image.specs.Valid.{valid}
 use Rattle.mir.specs.declared.BasicBlockId.{BasicBlockId}
 use Rattle.views.specs.Views.{Mir, mirOf}
 use Rattle.pattern_matching.specs.Walking.{Ctx, Walk, ok, refused}
-use Rattle.lowered_params.specs.declared.SelfParam.{SelfParam}
-use Rattle.lowered_params.specs.Params.{Param, ParamsOut, lowerParamsAndBindings}
-use Rattle.lowered_params.specs.Calls.{receiverApart}
+use Rattle.params_spec.specs.declared.SelfParam.{SelfParam}
+use Rattle.params_spec.specs.Params.{Param, ParamsOut, lowerParamsAndBindings}
+use Rattle.params_spec.specs.Calls.{receiverApart}
 use Rattle.meaning.specs.Values.{Value}
 use Rattle.param_runs.specs.Through.{allFit, bindingsDiffer}
 

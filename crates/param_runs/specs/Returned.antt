@@ -5,9 +5,9 @@ use mathlib.Core.List.{List}
 use lib.Dec.{eqb}
 use lib.ListN.{getD}
 use Rattle.image.specs.Tree.{Pat}
-use Rattle.lower.specs.declared.merging.OptBlock.{OptBlock}
+use Rattle.lower_spec.specs.declared.merging.OptBlock.{OptBlock}
 use Rattle.pattern_matching.specs.Walking.{Out}
-use Rattle.lowered_params.specs.Params.{ParamsOut}
+use Rattle.params_spec.specs.Params.{ParamsOut}
 use Rattle.counting.specs.Cases.{ifBind}
 
 -- what comes of parameters is what a walk with no else gives

@@ -13,13 +13,13 @@ use Rattle.image.specs.Valid.{valid}
 use Rattle.image.specs.Tree.{Pat, PatOpt, no, sub, tree}
 use Rattle.mir.specs.declared.BasicBlockId.{BasicBlockId}
 use Rattle.state.specs.State.{countsOf}
-use Rattle.lower.specs.declared.merging.OptBlock.{OptBlock}
+use Rattle.lower_spec.specs.declared.merging.OptBlock.{OptBlock}
 use Rattle.views.specs.Views.{Path, Line, Mir}
 use Rattle.pattern_matching.specs.Walking.{Ctx}
 use Rattle.handed.specs.Handed.{bindingsHold}
-use Rattle.lowered_params.specs.declared.SelfParam.{SelfParam}
-use Rattle.lowered_params.specs.Params.{Param, Declared, ParamsOut, declare}
-use Rattle.lowered_params.specs.Calls.{paramsNamed, selfNamed}
+use Rattle.params_spec.specs.declared.SelfParam.{SelfParam}
+use Rattle.params_spec.specs.Params.{Param, Declared, ParamsOut, declare}
+use Rattle.params_spec.specs.Calls.{paramsNamed, selfNamed}
 use Rattle.counting.specs.Cases.{ifBind}
 use Rattle.growth.specs.Opened.{Starts}
 use Rattle.meaning.specs.Values.{Value, valueFits}

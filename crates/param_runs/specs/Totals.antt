@@ -6,10 +6,10 @@ use mathlib.Core.List.{List, [], _∷_, _++_}
 use lib.ListN.{length, getD}
 use Rattle.image.specs.Tree.{tree}
 use Rattle.place.specs.declared.place_ty.PlaceTy.{PlaceTy}
-use Rattle.lower.specs.declared.merging.OptBlock.{OptBlock}
+use Rattle.lower_spec.specs.declared.merging.OptBlock.{OptBlock}
 use Rattle.pattern_matching.specs.Walking.{Ctx}
-use Rattle.lowered_params.specs.declared.SelfParam.{SelfParam}
-use Rattle.lowered_params.specs.Params.{Param, ParamsOut, selfCount}
+use Rattle.params_spec.specs.declared.SelfParam.{SelfParam}
+use Rattle.params_spec.specs.Params.{Param, ParamsOut, selfCount}
 use Rattle.counting.specs.Reaching.{Reached}
 use Rattle.counting.specs.Counting.{total, reachedFrom, visitsOf, newBlocks, statementsOf}
 use Rattle.param_runs.specs.Returned.{ownLocal}

@@ -15,11 +15,11 @@ use Rattle.image.specs.Tables.{patternCount, bindingCount}
 use Rattle.image.specs.Tree.{Head, Pat, nodeBy, node, treeOf, tree}
 use Rattle.image.specs.Valid.{valid}
 use Rattle.place.specs.declared.LocalId.{LocalId}
-use Rattle.lower.specs.Temps.{bindingLocal}
+use Rattle.lower_spec.specs.Temps.{bindingLocal}
 use Rattle.pattern_matching.specs.Walking.{Out, Walk, step}
 use Rattle.pattern_parts.specs.Parts.{isBind}
 use Rattle.pattern_nodes.proofs.There.{bind-there}
-use Rattle.lowered_params.specs.Params.{unlessBound, unlessOwn}
+use Rattle.params_spec.specs.Params.{unlessBound, unlessOwn}
 use Rattle.param_lists.proofs.Plain.{bind-number}
 use Rattle.param_steps.specs.declared.owning.Owned.{Owned}
 use Rattle.param_steps.specs.Owning.{TellsBinding, TellsParam}

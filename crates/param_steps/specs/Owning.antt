@@ -4,7 +4,7 @@ use mathlib.Core.Path.{_≡_}
 use mathlib.Core.List.{List}
 use Rattle.image.specs.Tree.{tree}
 use Rattle.pattern_matching.specs.Walking.{Out, Walk, refused}
-use Rattle.lowered_params.specs.Params.{unlessBound, unlessOwn}
+use Rattle.params_spec.specs.Params.{unlessBound, unlessOwn}
 use Rattle.param_steps.specs.declared.owning.Owned.{Owned}
 
 -- what follows: nothing where it is its own, and otherwise the walk `other`; p is the pattern where a refusal is met

@@ -1,13 +1,13 @@
 // The numbers of the parameters' locals.
-use lowered_params::ParamsCall;
-use lowered_params::SelfParam;
 use mir::BasicBlockId;
 use mir::Counts;
+use params_spec::ParamsCall;
+use params_spec::SelfParam;
 use place::LocalId;
 ghost use mathlib.Core.Path.{_≡_};
 ghost use Prim.Native.Nat.{_+_, _<_};
-ghost use Rattle.lowered_params.specs.declared.ParamsCall.{ParamsCall};
-ghost use Rattle.lowered_params.specs.Params.{selfCount};
+ghost use Rattle.params_spec.specs.declared.ParamsCall.{ParamsCall};
+ghost use Rattle.params_spec.specs.Params.{selfCount};
 
 // How many locals self has.
 pub fn self_count(receiver: SelfParam) -> u16

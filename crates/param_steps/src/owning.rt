@@ -1,10 +1,10 @@
 // Whether the local of a parameter's binding is the parameter's own: then there is nothing to do.
+use body_lowering::temps::binding_local;
 use image::BindingId;
 use image::PatId;
 use image::Tables;
 use image::rows::pat_at;
-use lower::temps::BoundLocal;
-use lower::temps::binding_local;
+use lower_spec::temps::BoundLocal;
 use place::LocalId;
 use refusals::MirLowerError;
 ghost use mathlib.Core.Path.{_≡_};

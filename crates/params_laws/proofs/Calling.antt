@@ -7,12 +7,12 @@ use Rattle.image.specs.declared.Tables.{Tables}
 use Rattle.mir.specs.declared.BasicBlockId.{BasicBlockId}
 use Rattle.mir.specs.declared.Counts.{Counts}
 use Rattle.state.specs.State.{Body}
-use Rattle.lower_calls.specs.declared.opening.Opened.{Opened}
-use Rattle.walks.specs.Answers.{ctxOf}
-use Rattle.lowered_params.specs.declared.SelfParam.{SelfParam}
-use Rattle.lowered_params.specs.declared.ParamsCall.{ParamsCall}
-use Rattle.lowered_params.specs.Params.{lowerParamsAndBindings}
-use Rattle.lowered_params.specs.Calls.{badImage, badCall, walked, paramsOf, paramsCall, GivesParams}
+use Rattle.body_calls_spec.specs.declared.Opened.{Opened}
+use Rattle.pattern_walk_spec.specs.Answers.{ctxOf}
+use Rattle.params_spec.specs.declared.SelfParam.{SelfParam}
+use Rattle.params_spec.specs.declared.ParamsCall.{ParamsCall}
+use Rattle.params_spec.specs.Params.{lowerParamsAndBindings}
+use Rattle.params_spec.specs.Calls.{badImage, badCall, walked, paramsOf, paramsCall, GivesParams}
 use Rattle.param_locals.specs.Looking.{openedParams}
 use Rattle.param_locals.proofs.Opening.{not-image, not-call, params-taken}
 use Rattle.params_laws.proofs.Stepping.{params-by}

@@ -1,6 +1,6 @@
 -- A parameter, and the parameters in order: a law for each way through the code, and the invariant of the loop. Assumes nothing.
 use Prim.Native.Nat.{ℕ, _+_, _-_, _≤_, _<_}
-use mathlib.Core.Path.{_≡_, refl, _∙_}
+use mathlib.Core.Path.{_≡_, refl}
 use mathlib.Core.Bool.{true}
 use mathlib.Core.Logic.{inl, inr}
 use mathlib.Core.List.{List}
@@ -15,24 +15,26 @@ use Rattle.image.specs.Valid.{valid}
 use Rattle.place.specs.declared.LocalId.{LocalId}
 use Rattle.mir.specs.declared.BasicBlockId.{BasicBlockId}
 use Rattle.mir.specs.declared.Counts.{Counts}
-use Rattle.lower.specs.declared.merging.OptBlock.{OptBlock}
+use Rattle.state.specs.State.{Body}
+use Rattle.state.specs.Contracts.{Ready}
+use Rattle.lower_spec.specs.declared.merging.OptBlock.{OptBlock}
 use Rattle.pattern_matching.specs.Walking.{Ctx, Out, Walk, next, out, localPlace}
 use Rattle.pattern_matching.specs.Patterns.{patternMatch}
-use Rattle.walks.specs.declared.Lowered.{Lowered}
-use Rattle.walks.specs.Answers.{Lent, lent, Primed, OwnElse, OnwardBy, Walks}
-use Rattle.walks.proofs.Sequences.{lowers-skips, lowers-refuses, lowers-walks, walks-by, walks-stops, walks-then, primed-after, placed-after}
-use Rattle.walking.specs.Walk.{Walkable}
-use Rattle.lowered_params.specs.Params.{shut, lowerParam, lowerParams}
-use Rattle.lowered_params.specs.Calls.{paramsFrom, paramCount, paramsOf}
+use Rattle.pattern_walk_spec.specs.declared.Lowered.{Lowered}
+use Rattle.pattern_walk_spec.specs.Answers.{OwnElse, OnwardBy, Walks}
+use Rattle.pattern_walk_spec.proofs.Sequences.{lowers-skips, lowers-refuses, lowers-walks, walks-by, walks-stops, walks-then, ready-after, placed-after}
+use Rattle.pattern_walk_laws.specs.Walk.{Walkable}
+use Rattle.params_spec.specs.Params.{shut, lowerParam, lowerParams}
+use Rattle.params_spec.specs.Calls.{paramsFrom, paramCount, paramsOf}
 use Rattle.param_lists.proofs.Listing.{params-none, params-more, Listed, list-taken, listed-behind}
 use Rattle.param_steps.specs.declared.owning.Owned.{Owned}
 use Rattle.param_steps.specs.Owning.{TellsParam}
-use Rattle.param_steps.specs.Shutting.{shutAnswer, shutBlocks}
+use Rattle.param_steps.specs.Shutting.{shutAnswer, shutBody}
 use Rattle.param_steps.proofs.Unreached.{shut-walks}
 use Rattle.params_laws.specs.Walking.{LocalsPlaced, ParamsWalkable}
 
 -- `lower_param`: the parameter p, whose local is l
-module _ (image bindings : List ℕ) (p : PatId) (l : LocalId) {c : Counts} {current : BasicBlockId} {t₀ : Lent} {v₀ : List ℕ} where
+module _ (image bindings : List ℕ) (p : PatId) (l : LocalId) {c : Counts} {current : BasicBlockId} {t₀ : Body} {v₀ : List ℕ} where
   -- its binding has no local
   pub param-refused : {e : MirLowerError} → TellsParam image bindings (p .0) (l .0) (Owned.Refused e) →
       Walks (λ ctx. lowerParam image bindings (p .0) (l .0) ctx current) c current OptBlock.None t₀ v₀ (Lowered.Refused e p) t₀ v₀
@@ -49,14 +51,14 @@ module _ (image bindings : List ℕ) (p : PatId) (l : LocalId) {c : Counts} {cur
       (lowers-skips (λ ctx. T .tells (out ctx current OptBlock.None) (shut (patternMatch image bindings (tree image (p .0)) ctx current OptBlock.None (localPlace l)))) (record { start = h; else = tt }))
 
   -- its pattern is walked, and the else of the answer x is shut
-  pub param-walked : Primed t₀ c → TellsParam image bindings (p .0) (l .0) Owned.Other → (x : Lowered) {r : Lowered} {bl s lo e bl₁ v : List ℕ} →
-      Walks (λ ctx. patternMatch image bindings (tree image (p .0)) ctx current OptBlock.None (localPlace l)) c current OptBlock.None t₀ v₀ x (lent bl s lo e) v →
-      r ≡ shutAnswer x → bl₁ ≡ shutBlocks x bl → Walks (λ ctx. lowerParam image bindings (p .0) (l .0) ctx current) c current OptBlock.None t₀ v₀ r (lent bl₁ s lo e) v
+  pub param-walked : Ready t₀ c → TellsParam image bindings (p .0) (l .0) Owned.Other → (x : Lowered) {r : Lowered} {t t₁ : Body} {v : List ℕ} →
+      Walks (λ ctx. patternMatch image bindings (tree image (p .0)) ctx current OptBlock.None (localPlace l)) c current OptBlock.None t₀ v₀ x t v →
+      r ≡ shutAnswer x → t₁ ≡ shutBody x t → Walks (λ ctx. lowerParam image bindings (p .0) (l .0) ctx current) c current OptBlock.None t₀ v₀ r t₁ v
   unfolding lowerParam
-  param-walked P T x W is after =
+  param-walked R T x W is after =
       walks-by
       (λ ctx. T .tells (out ctx current OptBlock.None) (shut (patternMatch image bindings (tree image (p .0)) ctx current OptBlock.None (localPlace l))))
-      (shut-walks P x W is after)
+      (shut-walks R x W is after)
 
 -- a walk that goes on without an else goes on as well where there was one
 any-own : (c : Counts) (els els₁ : OptBlock) → OwnElse c OptBlock.None els₁ → OwnElse c els els₁
@@ -68,28 +70,27 @@ any-onward : (c : Counts) (current : BasicBlockId) (els : OptBlock) (r : Lowered
 any-onward c current els (Lowered.Done c₁ then els₁) O = record { own = O .own; own-else = any-own c els els₁ (O .own-else); begins = O .begins }
 any-onward c current els (Lowered.Refused e p) O = tt
 
-any-else : {defined : Ctx → Walk Out} {c : Counts} {current : BasicBlockId} {els : OptBlock} {t₀ : Lent} {v₀ : List ℕ} {r : Lowered} {t : Lent} {v : List ℕ} →
+any-else : {defined : Ctx → Walk Out} {c : Counts} {current : BasicBlockId} {els : OptBlock} {t₀ : Body} {v₀ : List ℕ} {r : Lowered} {t : Body} {v : List ℕ} →
     Walks defined c current OptBlock.None t₀ v₀ r t v → Walks defined c current els t₀ v₀ r t v
 any-else {c = c} {current = current} {els = els} {r = r} W = record { answers = W .answers; leaves = W .leaves; onward = any-onward c current els r (W .onward) }
 
 -- The invariant of the loop: the walk may go on from where it is now with the parameters from the word k on, of which the first has the local l; and what they come to
 -- from there is what all come to from where it began, with the local `first`.
-pub record ParamsGoing (image words bindings : List ℕ) (first : ℕ) (c₀ : Counts) (b₀ : BasicBlockId) (t₀ : Lent) (v₀ : List ℕ) (c : Counts) (here : BasicBlockId) (t : Lent) (v : List ℕ) (l k left : ℕ) : Type 0 where
-  pub visits-sized : length v ≡ 512
-  pub primed : Primed t c
+pub record ParamsGoing (image words bindings : List ℕ) (first : ℕ) (c₀ : Counts) (b₀ : BasicBlockId) (t₀ : Body) (v₀ : List ℕ) (c : Counts) (here : BasicBlockId) (t : Body) (v : List ℕ) (l k left : ℕ) : Type 0 where
+  pub ready : Ready t c
   pub start : here .0 < c .blocks
   pub listed : Listed image words k left
   pub placed : LocalsPlaced image t c l left
-  pub rest : {r : Lowered} {t₁ : Lent} {v₁ : List ℕ} → Walks (λ ctx. lowerParams image bindings (paramsFrom words k left) l ctx here) c here OptBlock.None t v r t₁ v₁ →
+  pub rest : {r : Lowered} {t₁ : Body} {v₁ : List ℕ} → Walks (λ ctx. lowerParams image bindings (paramsFrom words k left) l ctx here) c here OptBlock.None t v r t₁ v₁ →
       Walks (λ ctx. lowerParams image bindings (paramsOf words) first ctx b₀) c₀ b₀ OptBlock.None t₀ v₀ r t₁ v₁
 
 -- it holds at the start
-pub params-begin : {image : List ℕ} {tables : Tables} {words bindings : List ℕ} {t : Lent} {v : List ℕ} {c : Counts} {current : BasicBlockId} {l : ℕ} →
-    ParamsWalkable image tables words bindings t v c current l → ParamsGoing image words bindings l c current t v c current t v l 0 (paramCount words)
+pub params-begin : {image : List ℕ} {tables : Tables} {words bindings : List ℕ} {t : Body} {v : List ℕ} {c : Counts} {current : BasicBlockId} {l : ℕ} →
+    ParamsWalkable image tables words bindings t c current l → ParamsGoing image words bindings l c current t v c current t v l 0 (paramCount words)
 params-begin {image = image} {words = words} A =
-    record { visits-sized = A .visits-sized; primed = A .primed; start = A .start; listed = list-taken image words (A .list); placed = A .placed; rest = λ W. W }
+    record { ready = A .ready; start = A .start; listed = list-taken image words (A .list); placed = A .placed; rest = λ W. W }
 
-module _ {image words bindings : List ℕ} {first : ℕ} {c₀ : Counts} {b₀ : BasicBlockId} {t₀ : Lent} {v₀ : List ℕ} {c : Counts} {here : BasicBlockId} {t : Lent} {v : List ℕ} {l k left : ℕ}
+module _ {image words bindings : List ℕ} {first : ℕ} {c₀ : Counts} {b₀ : BasicBlockId} {t₀ : Body} {v₀ : List ℕ} {c : Counts} {here : BasicBlockId} {t : Body} {v : List ℕ} {l k left : ℕ}
     (G : ParamsGoing image words bindings first c₀ b₀ t₀ v₀ c here t v l k left) where
   -- after the loop
   pub params-end : left ≡ 0 → Walks (λ ctx. lowerParams image bindings (paramsOf words) first ctx b₀) c₀ b₀ OptBlock.None t₀ v₀ (Lowered.Done c here OptBlock.None) t v
@@ -99,15 +100,14 @@ module _ {image words bindings : List ℕ} {first : ℕ} {c₀ : Counts} {b₀ :
   module _ (some : left ≡ 0 → ⊥) where
     -- the parameter at the word k may be walked, on its local
     pub param-walkable : {tables : Tables} → valid image ≡ true → Whole image tables → length bindings ≡ bindingCount image →
-        Walkable image tables bindings t v c here OptBlock.None (localPlace (record { 0 = l }))
+        Walkable image tables bindings t c here OptBlock.None (localPlace (record { 0 = l }))
     param-walkable valid-image whole sized =
         let same : l + 0 ≡ l = omega arith in
         record {
           image-valid = valid-image;
           whole = whole;
           locals-of-bindings = sized;
-          visits-sized = G .visits-sized;
-          primed = G .primed;
+          ready = G .ready;
           begins = record { start = G .start; else = tt };
           placed = rw same at (G .placed 0 (omega (arith, some)));
         }
@@ -115,35 +115,34 @@ module _ {image words bindings : List ℕ} {first : ℕ} {c₀ : Counts} {b₀ :
     -- the next local has a number
     pub local-small : l + 1 ≤ 512
     unfolding localPlace
-    local-small = omega (arith, G .placed (left - 1) (omega (arith, some)) .root, G .primed .local-count, some)
+    local-small = omega (arith, G .placed (left - 1) (omega (arith, some)) .root, G .ready .local-count, some)
 
     -- the parameters behind it
     abbrev behind : Out → Walk Out
     behind r = lowerParams image bindings (paramsFrom words (k + 2) (left - 1)) (l + 1) (r .ctx) (r .then)
 
-    from-first : {r : Lowered} {t₁ : Lent} {v₁ : List ℕ} → Walks (λ ctx. next (lowerParam image bindings (getD words k 0) l ctx here) behind) c here OptBlock.None t v r t₁ v₁ →
+    from-first : {r : Lowered} {t₁ : Body} {v₁ : List ℕ} → Walks (λ ctx. next (lowerParam image bindings (getD words k 0) l ctx here) behind) c here OptBlock.None t v r t₁ v₁ →
         Walks (λ ctx. lowerParams image bindings (paramsFrom words k left) l ctx here) c here OptBlock.None t v r t₁ v₁
     unfolding lowerParams
     from-first W = rw (params-more words k left (G .listed .fits) some) W
 
     -- the parameter is refused
-    pub param-stops : {e : MirLowerError} {q : PatId} {t₁ : Lent} {v₁ : List ℕ} →
+    pub param-stops : {e : MirLowerError} {q : PatId} {t₁ : Body} {v₁ : List ℕ} →
         Walks (λ ctx. lowerParam image bindings (getD words k 0) l ctx here) c here OptBlock.None t v (Lowered.Refused e q) t₁ v₁ →
         Walks (λ ctx. lowerParams image bindings (paramsOf words) first ctx b₀) c₀ b₀ OptBlock.None t₀ v₀ (Lowered.Refused e q) t₁ v₁
     param-stops W = G .rest (from-first (walks-stops behind W))
 
     -- one parameter less
-    pub params-again : {c₁ : Counts} {then : BasicBlockId} {other : OptBlock} {t₁ : Lent} {v₁ : List ℕ} → length v₁ ≡ length v →
+    pub params-again : {c₁ : Counts} {then : BasicBlockId} {other : OptBlock} {t₁ : Body} {v₁ : List ℕ} →
         Walks (λ ctx. lowerParam image bindings (getD words k 0) l ctx here) c here OptBlock.None t v (Lowered.Done c₁ then other) t₁ v₁ →
         ParamsGoing image words bindings first c₀ b₀ t₀ v₀ c₁ then t₁ v₁ (l + 1) (k + 2) (left - 1)
-    params-again same W =
+    params-again W =
         record {
-          visits-sized = same ∙ G .visits-sized;
-          primed = primed-after W (G .primed);
+          ready = ready-after W (G .ready);
           start = W .onward .begins .start;
           listed = listed-behind (G .listed) some;
           placed = λ i h.
               let at : l + (i + 1) ≡ l + 1 + i = omega arith in
-              rw at at (placed-after W (G .primed) (G .placed (i + 1) (omega (arith, some))));
-          rest = λ S. G .rest (from-first (walks-then W (G .primed) behind (any-else S)));
+              rw at at (placed-after W (G .ready) (G .placed (i + 1) (omega (arith, some))));
+          rest = λ S. G .rest (from-first (walks-then W (G .ready) behind (any-else S)));
         }

@@ -9,7 +9,6 @@ use lib.Dec.{eqb, leb}
 use lib.ListN.{length, take, getD}
 use Rattle.refusals.specs.declared.MirLowerError.{MirLowerError}
 use Rattle.row_tables.specs.Rows.{zeros, rowAt, stored, cleared}
-use Rattle.row_tables.proofs.Zeros.{length-zeros}
 use Rattle.image.specs.declared.PatId.{PatId}
 use Rattle.image.specs.declared.Tables.{Tables}
 use Rattle.image.specs.Lists.{allIn}
@@ -20,22 +19,24 @@ use Rattle.image.proofs.Bools.{and-left, and-right, all-true-at}
 use Rattle.mir.specs.declared.BasicBlockId.{BasicBlockId}
 use Rattle.mir.specs.declared.Counts.{Counts}
 use Rattle.mir.specs.Blocks.{isOpen}
-use Rattle.state.specs.State.{Body, State, body, decode, encode}
+use Rattle.state.specs.State.{Body, State, decode, encode}
 use Rattle.state.specs.Contracts.{Ready}
-use Rattle.check_body.specs.Bodies.{isBlock}
-use Rattle.lower.specs.declared.merging.OptBlock.{OptBlock}
-use Rattle.lower_calls.specs.Sizes.{Sized}
-use Rattle.lower_calls.proofs.Clearing.{Cleared, clears, sized-again, held, counted}
-use Rattle.lower_calls.proofs.Prologue.{taken-sized}
-use Rattle.lower_calls.proofs.Restoring.{put-back}
-use Rattle.walks.specs.declared.Lowered.{Lowered}
-use Rattle.walks.specs.Answers.{Lent, lent, bodyOf, ctxOf}
+use Rattle.body_row_rules.specs.Bodies.{isBlock, countsWithin}
+use Rattle.lower_spec.specs.declared.merging.OptBlock.{OptBlock}
+use Rattle.body_calls_spec.specs.Sizes.{Sized}
+use Rattle.body_calls_spec.proofs.Clearing.{Cleared, clears, held, counted}
+use Rattle.body_calls_spec.proofs.Prologue.{taken-sized}
+use Rattle.body_calls_spec.proofs.Restoring.{put-back}
+use Rattle.pattern_walk_spec.specs.declared.Lowered.{Lowered}
+use Rattle.pattern_walk_spec.specs.Answers.{ctxOf}
 use Rattle.handed.specs.Handed.{startHolds, bindingHolds, bindingsHold}
-use Rattle.match_calls.proofs.Starting.{no-visits, visits-cleared, row-found, primed-of}
-use Rattle.lowered_params.specs.declared.SelfParam.{SelfParam}
-use Rattle.lowered_params.specs.declared.ParamsCall.{ParamsCall}
-use Rattle.lowered_params.specs.Params.{lowerParamsAndBindings}
-use Rattle.lowered_params.specs.Calls.{ParamsCalled, walked, paramsOf, numbers, selfNamed, paramsHold, GivesParams}
+use Rattle.pattern_calls_spec.proofs.Starting.{no-visits, visits-cleared, row-found}
+use Rattle.body_tables.specs.Layout.{blockWidth, blockWords, withBlocks}
+use Rattle.body_opening.proofs.Replying.{few-counts}
+use Rattle.params_spec.specs.declared.SelfParam.{SelfParam}
+use Rattle.params_spec.specs.declared.ParamsCall.{ParamsCall}
+use Rattle.params_spec.specs.Params.{lowerParamsAndBindings}
+use Rattle.params_spec.specs.Calls.{ParamsCalled, walked, paramsOf, numbers, selfNamed, paramsHold, GivesParams}
 use Rattle.param_locals.specs.Looking.{ParamsTaken}
 use Rattle.param_lists.proofs.Listing.{taken-formed}
 use Rattle.params_laws.specs.Walking.{Startable, WalksParams}
@@ -87,29 +88,33 @@ module _ {image : List ℕ} {tables : Tables} {words : List ℕ} {self : SelfPar
   pub step-sized : Sized b c
   step-sized = taken-sized image b c (T .both)
 
+  -- the counts are within the limits
+  pub counts-asked : countsWithin c ≡ true
+  counts-asked = few-counts b c step-sized
+
   -- the block where the walk starts is there
   step-start : current .0 < c .blocks
   step-start = start-held image self bindings (b .blocks) visits c current (T .call)
 
   -- its row may be read
-  pub row-asked : (length (b .blocks) ≡ 6144) × (current .0 < 512)
-  row-asked = (step-sized .blocks, omega (arith, step-start, step-sized .block-count))
+  pub row-asked : current .0 < 512
+  row-asked = omega (arith, step-start, step-sized .block-count)
 
   -- there is room for the bindings' locals
   pub save-asked : length bindings ≤ 256
   save-asked = omega (arith, bindings-held image self bindings (b .blocks) visits c current (T .call), bindings-few image (T .both .valid-image))
 
-  -- bl, s, l, sc and e are the tables after zeros were written above the counts, and v₁ the visits'
-  module _ {bl s l sc e v₁ : List ℕ} (is : body bl s l sc e ≡ encode (decode b c)) (blank : v₁ ≡ cleared visits 0) where
-    -- what lies in them
-    step-cleared : Cleared b c (body bl s l sc e)
+  -- b₁ is the body after zeros were written above the counts, and v₁ lies in the visits' table
+  module _ {b₁ : Body} {v₁ : List ℕ} (is : b₁ ≡ encode (decode b c)) (blank : v₁ ≡ cleared visits 0) where
+    -- what lies in it
+    step-cleared : Cleared b c b₁
     step-cleared = clears step-sized is
 
     no-visit : v₁ ≡ zeros 512
     no-visit = visits-cleared visits (visits-held image self bindings (b .blocks) visits c current (T .call)) blank
 
     -- the walk may start
-    pub walk-asked : Startable image tables words self bindings (lent bl s l e) v₁ c current
+    pub walk-asked : Startable image tables words self bindings b₁ c current
     walk-asked =
         record {
           image-valid = T .both .valid-image;
@@ -117,53 +122,44 @@ module _ {image : List ℕ} {tables : Tables} {words : List ℕ} {self : SelfPar
           list = taken-formed image words self (T .list);
           receiver = self-held image self bindings (b .blocks) visits c current (T .call);
           locals-of-bindings = bindings-held image self bindings (b .blocks) visits c current (T .call);
-          visits-sized = ap length no-visit ∙ length-zeros 512;
-          primed = primed-of (lent bl s l e) sc c (step-cleared .ready);
+          ready = step-cleared .ready;
           start = step-start;
         }
 
-    -- after it, tables as long as those before: the row may be put back, and zeros written again
-    pub back-asked : {n : ℕ} → n ≡ length bl → (n ≡ 6144) × (current .0 < 512)
-    back-asked same = (same ∙ step-cleared .ready .blocks, row-asked .1)
-
-    pub clear-asked : {bl₂ s₂ l₂ e₂ : List ℕ} → length bl₂ ≡ length bl → length s₂ ≡ length s → length l₂ ≡ length l → length e₂ ≡ length e → Sized (body bl₂ s₂ l₂ sc e₂) c
-    clear-asked bls ss ls es = sized-again (step-cleared .ready) bls ss ls refl es
-
     -- the walk is accepted
-    pub lowered : {c′ : Counts} {then : BasicBlockId} {els : OptBlock} {t : Lent} {v′ m : List ℕ} {r : ParamsCall} → r ≡ ParamsCall.Lowered c′ then (record { 0 = c .locals }) →
-        WalksParams (λ ctx. lowerParamsAndBindings image self (paramsOf words) bindings ctx current) c current (lent bl s l e) v₁ (Lowered.Done c′ then els) t v′ m →
-        GivesParams bindings b visits c (walked (lowerParamsAndBindings image self (paramsOf words) bindings (ctxOf b c (zeros 512)) current))
-        r m (bodyOf t sc) v′
+    pub lowered : {c′ : Counts} {then : BasicBlockId} {els : OptBlock} {t : Body} {v′ m : List ℕ} {r : ParamsCall} → r ≡ ParamsCall.Lowered c′ then (record { 0 = c .locals }) →
+        WalksParams (λ ctx. lowerParamsAndBindings image self (paramsOf words) bindings ctx current) c current b₁ v₁ (Lowered.Done c′ then els) t v′ m →
+        GivesParams bindings b visits c (walked (lowerParamsAndBindings image self (paramsOf words) bindings (ctxOf b c (zeros 512)) current)) r m t v′
     lowered {c′ = c′} {then = then} {t = t} is-answer W =
-        let A = W .answers sc (zeros 512) (step-cleared .ready) (no-visit ∙ no-visits) in
+        let A = W .answers (zeros 512) (step-cleared .ready) (no-visit ∙ no-visits) in
         let ready = A .answers .goes .0 in
-        let after = bodyOf t sc in
         params-by
         (ap walked (A .answers .says ∙ ap (λ (st : State). lowerParamsAndBindings image self (paramsOf words) bindings (record { state = st; visits = zeros 512 }) current) (step-cleared .same)))
         (record {
-          reply = is-answer ∙ ap (λ (n : Counts). ParamsCall.Lowered n then (record { 0 = c .locals })) (sym (counted after c′ ready));
+          reply = is-answer ∙ ap (λ (n : Counts). ParamsCall.Lowered n then (record { 0 = c .locals })) (sym (counted t c′ ready));
           refusal = ap numbers is-answer;
-          tables = held after c′ ready;
-          reads = ap (decode after) (counted after c′ ready);
-          ready = subst (Ready after) (sym (counted after c′ ready)) ready;
+          tables = held t c′ ready;
+          reads = ap (decode t) (counted t c′ ready);
+          ready = subst (Ready t) (sym (counted t c′ ready)) ready;
           locals = refl;
           visits = A .holds;
         })
 
-    -- it is refused: the row of the block where it started is put back, zeros are written again, and the bindings' locals are put back
-    pub not-lowered : {err : MirLowerError} {q : PatId} {t : Lent} {v′ m v₃ m₃ row bl₃ : List ℕ} {b₃ : Body} (saved : List ℕ) →
-        WalksParams (λ ctx. lowerParamsAndBindings image self (paramsOf words) bindings ctx current) c current (lent bl s l e) v₁ (Lowered.Refused err q) t v′ m →
-        length (t .blocks) ≡ length bl → length v′ ≡ length v₁ → length m ≡ length bindings → row ≡ rowAt 12 (b .blocks) (current .0) → take (length bindings) saved ≡ bindings →
-        bl₃ ≡ stored (t .blocks) (12 * current .0) row → b₃ ≡ encode (decode (body bl₃ (t .statements) (t .locals) sc (t .entries)) c) → v₃ ≡ cleared v′ 0 → m₃ ≡ take (length m) saved →
+    -- it is refused: t is the body behind the walk, t₂ after the row of the block where it started was put back, and b₃ after zeros were written again; the bindings' locals
+    -- are put back
+    pub not-lowered : {err : MirLowerError} {q : PatId} {t t₂ b₃ : Body} {v′ m v₃ m₃ row : List ℕ} (saved : List ℕ) →
+        WalksParams (λ ctx. lowerParamsAndBindings image self (paramsOf words) bindings ctx current) c current b₁ v₁ (Lowered.Refused err q) t v′ m →
+        length (t .blocks) ≡ blockWords → length v′ ≡ 512 → length m ≡ length bindings → row ≡ rowAt blockWidth (b .blocks) (current .0) → take (length bindings) saved ≡ bindings →
+        t₂ ≡ withBlocks t (stored (t .blocks) (blockWidth * current .0) row) → b₃ ≡ encode (decode t₂ c) → v₃ ≡ cleared v′ 0 → m₃ ≡ take (length m) saved →
         GivesParams bindings b visits c (walked (lowerParamsAndBindings image self (paramsOf words) bindings (ctxOf b c (zeros 512)) current)) (ParamsCall.Refused err q) m₃ b₃ v₃
-    not-lowered {t = t} {v′ = v′} {row = row} saved W long seen many is-row kept back again blank₃ put =
+    not-lowered {t = t} {v′ = v′} saved W long seen many is-row kept back again blank₃ put =
         let C = step-cleared in
         let R = C .ready in
-        let A = W .answers sc (zeros 512) R (no-visit ∙ no-visits) in
-        let found = is-row ∙ row-found b c (body bl s l sc e) (current .0) C step-start in
-        let stored-row = back ∙ ap (stored (t .blocks) (12 * current .0)) found in
-        let rest = put-back c (current .0) (body bl s l sc e) (bodyOf t sc) step-start (R .block-count) (R .blocks) (long ∙ R .blocks) (A .answers .kept) in
-        let same = ap (λ (x : List ℕ). decode (body x (t .statements) (t .locals) sc (t .entries)) c) stored-row ∙ rest ∙ C .same in
+        let A = W .answers (zeros 512) R (no-visit ∙ no-visits) in
+        let found = is-row ∙ row-found b c b₁ (current .0) C step-start in
+        let stored-row = back ∙ ap (λ (x : List ℕ). withBlocks t (stored (t .blocks) (blockWidth * current .0) x)) found in
+        let rest = put-back c (current .0) b₁ t step-start (R .block-count) (R .blocks) long (A .answers .kept) in
+        let same = ap (λ (x : Body). decode x c) stored-row ∙ rest ∙ C .same in
         params-by
         (ap walked (A .answers .says ∙ ap (λ (st : State). lowerParamsAndBindings image self (paramsOf words) bindings (record { state = st; visits = zeros 512 }) current) (C .same)))
         (record {
@@ -173,5 +169,5 @@ module _ {image : List ℕ} {tables : Tables} {words : List ℕ} {self : SelfPar
           reads = tt;
           ready = tt;
           locals = put ∙ ap (λ (n : ℕ). take n saved) many ∙ kept;
-          visits = visits-cleared v′ (seen ∙ ap length no-visit ∙ length-zeros 512) blank₃;
+          visits = visits-cleared v′ seen blank₃;
         })

@@ -10,7 +10,6 @@ use lib.ListN.{length, getD, set, take, length-append, length-map, List·getD-ap
 use lib.Seq.{getD-append-add, getD-take}
 use Rattle.refusals.specs.declared.MirLowerError.{MirLowerError}
 use Rattle.refusals.specs.Refusals.{Result, ok, refused, andThen}
-use Rattle.row_tables.specs.Rows.{zeros}
 use Rattle.image.specs.Tables.{typeCount, patternCount, bindingCount}
 use Rattle.image.specs.Tree.{tree}
 use Rattle.image.specs.Types.{bindingOf}
@@ -20,16 +19,16 @@ use Rattle.mir.specs.declared.Counts.{Counts}
 use Rattle.mir.specs.Locals.{localTy, localLimit}
 use Rattle.mir.specs.Scopes.{entryLimit}
 use Rattle.state.specs.declared.Stepped.{Stepped}
-use Rattle.state.specs.State.{State, body, decode}
+use Rattle.state.specs.State.{Body, State, decode}
 use Rattle.state.specs.Steps.{nextLocal, newLocal, pushEntry, tryLocal, tryEntry}
+use Rattle.state.specs.Contracts.{Ready}
 use Rattle.state.proofs.Answering.{local-count}
-use Rattle.check_body.specs.Bodies.{isTypeWord}
+use Rattle.body_row_rules.specs.Bodies.{isTypeWord}
 use Rattle.pattern_matching.specs.Walking.{localPlace}
-use Rattle.walks.specs.Answers.{lent, Primed}
-use Rattle.match_calls.proofs.Starting.{word-named}
-use Rattle.lowered_params.specs.declared.SelfParam.{SelfParam}
-use Rattle.lowered_params.specs.Params.{Param, Declared, paramLocal, plainBinding, boundTo, declareSelf, declareParam, declareParams, declareBinding, declareBindings, declare, selfCount}
-use Rattle.lowered_params.specs.Calls.{paramsFrom, paramCount, paramsOf, paramsNamed, listFormed}
+use Rattle.pattern_calls_spec.proofs.Starting.{word-named}
+use Rattle.params_spec.specs.declared.SelfParam.{SelfParam}
+use Rattle.params_spec.specs.Params.{Param, Declared, paramLocal, plainBinding, boundTo, declareSelf, declareParam, declareParams, declareBinding, declareBindings, declare, selfCount}
+use Rattle.params_spec.specs.Calls.{paramsFrom, paramCount, paramsOf, paramsNamed, listFormed}
 use Rattle.param_locals.specs.Declaring.{declaredOf, Declares}
 use Rattle.param_lists.proofs.Listing.{list-taken}
 use Rattle.params_laws.specs.Walking.{LocalsPlaced}
@@ -198,21 +197,21 @@ unfolding isTypeWord
 type-named image word h = word-named image word (rw (lt-ltb word (typeCount image) h))
 
 -- after all locals were made, each parameter's is there, with its type
-pub declared-placed : (image words : List ℕ) (self : SelfParam) {c c₁ : Counts} {b s m₀ l₀ e₀ m₁ l₁ e₁ : List ℕ} → listFormed image words ≡ true → Primed (lent b s l₀ e₀) c →
-    Declares (declare image self (paramsOf words)) c m₀ l₀ e₀ (Stepped.Now c₁) m₁ l₁ e₁ → LocalsPlaced image (lent b s l₁ e₁) c₁ (c .locals + selfCount self) (paramCount words)
+pub declared-placed : (image words : List ℕ) (self : SelfParam) {c c₁ : Counts} {m₀ m₁ : List ℕ} {b₀ b₁ : Body} → listFormed image words ≡ true → Ready b₀ c →
+    Declares (declare image self (paramsOf words)) c m₀ b₀ (Stepped.Now c₁) m₁ b₁ → LocalsPlaced image b₁ c₁ (c .locals + selfCount self) (paramCount words)
 unfolding localPlace decode
-declared-placed image words self {c = c} {c₁ = c₁} {b = b} {s = s} {m₀ = m₀} {l₀ = l₀} {e₀ = e₀} {m₁ = m₁} {l₁ = l₁} {e₁ = e₁} list P D i h =
-    let A = D .answers 0 b s (zeros 32) P in
-    let before = local-count (body b s l₀ (zeros 32) e₀) c P in
-    let after = local-count (body b s l₁ (zeros 32) e₁) c₁ (A .goes .0) in
+declared-placed image words self {c = c} {c₁ = c₁} {m₀ = m₀} {b₀ = b₀} {b₁ = b₁} list R D i h =
+    let A = D .answers 0 R in
+    let before = local-count b₀ c R in
+    let after = local-count b₁ c₁ (A .goes .0) in
     let many : length (types (paramsOf words)) ≡ paramCount words = length-map (paramsOf words) (λ q. q .ty) ∙ params-length words 0 (paramCount words) in
-    let L = declare-behind image self (paramsOf words) (declaredOf (body b s l₀ (zeros 32) e₀) c m₀) (A .says) in
-    let W = param-word (take (c .locals) l₀) (selfTypes self) (types (paramsOf words)) (take (c₁ .locals) l₁) i L (omega arith) in
+    let L = declare-behind image self (paramsOf words) (declaredOf b₀ c m₀) (A .says) in
+    let W = param-word (take (c .locals) (b₀ .locals)) (selfTypes self) (types (paramsOf words)) (take (c₁ .locals) (b₁ .locals)) i L (omega arith) in
     let self-many = self-length self in
-    let at : c .locals + selfCount self + i ≡ length (take (c .locals) l₀) + length (selfTypes self) + i = omega arith in
+    let at : c .locals + selfCount self + i ≡ length (take (c .locals) (b₀ .locals)) + length (selfTypes self) + i = omega arith in
     let below : c .locals + selfCount self + i < c₁ .locals = omega (arith, W .0) in
-    let word : getD l₁ (c .locals + selfCount self + i) 0 ≡ getD (types (paramsOf words)) i 0 =
-    sym (getD-take (c₁ .locals) l₁ (c .locals + selfCount self + i) 0 below) ∙ ap (λ (n : ℕ). getD (take (c₁ .locals) l₁) n 0) at ∙ W .1
+    let word : getD (b₁ .locals) (c .locals + selfCount self + i) 0 ≡ getD (types (paramsOf words)) i 0 =
+    sym (getD-take (c₁ .locals) (b₁ .locals) (c .locals + selfCount self + i) 0 below) ∙ ap (λ (n : ℕ). getD (take (c₁ .locals) (b₁ .locals)) n 0) at ∙ W .1
     in
     record {
       root = below;

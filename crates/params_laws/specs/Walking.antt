@@ -12,38 +12,36 @@ use Rattle.mir.specs.declared.Counts.{Counts}
 use Rattle.state.specs.State.{Body}
 use Rattle.state.specs.Contracts.{Ready, Answers}
 use Rattle.pattern_matching.specs.Walking.{Ctx, Walk, ok, refused, localPlace}
-use Rattle.walks.specs.declared.Lowered.{Lowered}
-use Rattle.walks.specs.Answers.{Lent, bodyOf, Primed, Placed, ctxOf, loweredCounts, Holds}
-use Rattle.lowered_params.specs.declared.SelfParam.{SelfParam}
-use Rattle.lowered_params.specs.Params.{ParamsOut}
-use Rattle.lowered_params.specs.Calls.{paramCount, listFormed, selfNamed}
+use Rattle.pattern_walk_spec.specs.declared.Lowered.{Lowered}
+use Rattle.pattern_walk_spec.specs.Answers.{Placed, ctxOf, loweredCounts, Holds}
+use Rattle.params_spec.specs.declared.SelfParam.{SelfParam}
+use Rattle.params_spec.specs.Params.{ParamsOut}
+use Rattle.params_spec.specs.Calls.{paramCount, listFormed, selfNamed}
 
--- what the lowering of self and the parameters asks for: a valid image, a list and a self that are taken, a local's word for each binding, the visits' table, and a
--- body and a block where it may go on
-pub record Startable (image : List ℕ) (tables : Tables) (words : List ℕ) (self : SelfParam) (bindings : List ℕ) (t : Lent) (visits : List ℕ) (c : Counts) (current : BasicBlockId) : Type 0 where
+-- what the lowering of self and the parameters asks for: a valid image, a list and a self that are taken, a local's word for each binding, and a body and
+-- a block where it may go on
+pub record Startable (image : List ℕ) (tables : Tables) (words : List ℕ) (self : SelfParam) (bindings : List ℕ) (b : Body) (c : Counts) (current : BasicBlockId) : Type 0 where
   pub image-valid : valid image ≡ true
   pub whole : Whole image tables
   pub list : listFormed image words ≡ true
   pub receiver : selfNamed image self ≡ true
   pub locals-of-bindings : length bindings ≡ bindingCount image
-  pub visits-sized : length visits ≡ 512
-  pub primed : Primed t c
+  pub ready : Ready b c
   pub start : current .0 < c .blocks
 
 -- so many locals from l on are there, each with a type
-abbrev pub LocalsPlaced : List ℕ → Lent → Counts → ℕ → ℕ → Type 0
-LocalsPlaced image t c l n = (i : ℕ) → i < n → Placed image t c (localPlace (record { 0 = l + i }))
+abbrev pub LocalsPlaced : List ℕ → Body → Counts → ℕ → ℕ → Type 0
+LocalsPlaced image b c l n = (i : ℕ) → i < n → Placed image b c (localPlace (record { 0 = l + i }))
 
 -- what the lowering of the parameters asks for, where the local of the first is l
-pub record ParamsWalkable (image : List ℕ) (tables : Tables) (words bindings : List ℕ) (t : Lent) (visits : List ℕ) (c : Counts) (current : BasicBlockId) (l : ℕ) : Type 0 where
+pub record ParamsWalkable (image : List ℕ) (tables : Tables) (words bindings : List ℕ) (b : Body) (c : Counts) (current : BasicBlockId) (l : ℕ) : Type 0 where
   pub image-valid : valid image ≡ true
   pub whole : Whole image tables
   pub list : listFormed image words ≡ true
   pub locals-of-bindings : length bindings ≡ bindingCount image
-  pub visits-sized : length visits ≡ 512
-  pub primed : Primed t c
+  pub ready : Ready b c
   pub start : current .0 < c .blocks
-  pub placed : LocalsPlaced image t c l (paramCount words)
+  pub placed : LocalsPlaced image b c l (paramCount words)
 
 -- an answer, with the tables and the bindings' locals at exit, as the definitions have it
 abbrev pub paramsWalk : Lowered → Body → List ℕ → List ℕ → Walk ParamsOut
@@ -56,6 +54,6 @@ pub record ParamsWalked (defined : Ctx → Walk ParamsOut) (c : Counts) (current
   pub holds : Holds v visits′
   pub answers : Answers b c (current .0) b′ (loweredCounts r) (paramsWalk r b′ visits′ m) (defined (ctxOf b c visits))
 
--- What the lowering of self and the parameters promises: t₀ lies in the tables before and t after, v₀ and v in the visits', and m in the bindings' after.
-pub record WalksParams (defined : Ctx → Walk ParamsOut) (c : Counts) (current : BasicBlockId) (t₀ : Lent) (v₀ : List ℕ) (r : Lowered) (t : Lent) (v m : List ℕ) : Type 0 where
-  pub answers : (scopes visits : List ℕ) → Ready (bodyOf t₀ scopes) c → Holds v₀ visits → ParamsWalked defined c current (bodyOf t₀ scopes) visits r (bodyOf t scopes) v m
+-- What the lowering of self and the parameters promises: the body b₀ before and b after, v₀ and v in the visits' table, and m in the bindings' after.
+pub record WalksParams (defined : Ctx → Walk ParamsOut) (c : Counts) (current : BasicBlockId) (b₀ : Body) (v₀ : List ℕ) (r : Lowered) (b : Body) (v m : List ℕ) : Type 0 where
+  pub answers : (visits : List ℕ) → Ready b₀ c → Holds v₀ visits → ParamsWalked defined c current b₀ visits r b v m

@@ -12,10 +12,10 @@ use Rattle.mir.specs.declared.Counts.{Counts}
 use Rattle.state.specs.State.{Body}
 use Rattle.read_image.specs.declared.Read.{Read}
 use Rattle.read_image.specs.Read.{Reads}
-use Rattle.lower_calls.proofs.Prologue.{read-refused}
+use Rattle.body_calls_spec.proofs.Prologue.{read-refused}
 use Rattle.listing_text.specs.Listing.{refusalText}
-use Rattle.lowered_params.specs.declared.SelfParam.{SelfParam}
-use Rattle.lowered_params.specs.Calls.{paramsCall}
+use Rattle.params_spec.specs.declared.SelfParam.{SelfParam}
+use Rattle.params_spec.specs.Calls.{paramsCall}
 use Rattle.params_text.specs.Texts.{callText}
 use Rattle.params_start.specs.declared.CallWords.{CallWords}
 use Rattle.params_start.specs.Started.{callWords, manyOf, Starts, startCall}

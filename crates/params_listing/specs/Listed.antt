@@ -7,7 +7,7 @@ use lib.ListN.{length, drop}
 use Rattle.refusals.specs.Refusals.{namesNothing}
 use Rattle.image.specs.Valid.{valid}
 use Rattle.listing_text.specs.Listing.{refusalText}
-use Rattle.lowered_params.specs.declared.SelfParam.{SelfParam}
+use Rattle.params_spec.specs.declared.SelfParam.{SelfParam}
 use Rattle.params_text.specs.Texts.{callText}
 use Rattle.params_start.specs.Started.{callWords, manyOf, startCall}
 

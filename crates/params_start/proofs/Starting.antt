@@ -7,7 +7,7 @@ use native.Mathlib.Nat.{zero-add}
 use native.Mathlib.Omega.{arith}
 use borrow.Author.Tests.{eq-eqb, ne-eqb, le-leb, lt-leb, leb-true}
 use lib.Dec.{eqb, leb}
-use lib.ListN.{length, getD, set, take, drop, replicate, length-replicate, getD-replicate, drop-of-length-le}
+use lib.ListN.{length, getD, set, take, replicate, length-replicate, getD-replicate, drop-of-length-le}
 use Rattle.row_tables.specs.Rows.{zeros, joined, encode as encodeRows, stored, cleared}
 use Rattle.row_tables.proofs.Loops.{Storing, store-more, store-end}
 use Rattle.image.specs.declared.BindingId.{BindingId}
@@ -16,13 +16,13 @@ use Rattle.image.specs.Tables.{Whole}
 use Rattle.image.specs.Valid.{valid}
 use Rattle.mir.specs.declared.Counts.{Counts}
 use Rattle.state.specs.State.{Body, body, encode, padded, countsOf}
-use Rattle.match_calls.proofs.Starting.{visits-cleared}
-use Rattle.listing_start.specs.Sizes.{TablesSized}
+use Rattle.body_tables.specs.Layout.{bodyWords, bodyOf}
+use Rattle.pattern_calls_spec.proofs.Starting.{visits-cleared}
 use Rattle.listing_start.proofs.Limits.{limits}
-use Rattle.listing_start.proofs.Filling.{all-zeros, open-block}
-use Rattle.lowered_params.specs.declared.SelfParam.{SelfParam}
-use Rattle.lowered_params.specs.Params.{selfCount}
-use Rattle.lowered_params.specs.Calls.{paramsCall}
+use Rattle.listing_start.proofs.Filling.{open-block, body-cleared}
+use Rattle.params_spec.specs.declared.SelfParam.{SelfParam}
+use Rattle.params_spec.specs.Params.{selfCount}
+use Rattle.params_spec.specs.Calls.{paramsCall}
 use Rattle.params_start.specs.Started.{startState, receiver, callWords, unbound, manyOf, Starts, startCall}
 
 -- the first of a list of one number
@@ -58,17 +58,11 @@ scope-zeros true = refl
 scope-zeros false = refl
 
 module _ (opened : ℕ) where
-  -- `start_params`: the tables at exit
-  pub body-started : {bl s l sc e bl₁ s₁ l₁ sc₁ e₁ : List ℕ} → TablesSized (body bl s l sc e) → bl₁ ≡ cleared bl 0 → s₁ ≡ cleared s 0 → l₁ ≡ cleared l 0 → sc₁ ≡ cleared sc 0 → e₁ ≡ cleared e 0 →
-      body bl₁ s₁ l₁ sc₁ e₁ ≡ encode (startState opened)
+  -- `start_params`: the body at exit
+  pub body-started : (w : List ℕ) {w₁ : List ℕ} → length w ≡ bodyWords → w₁ ≡ cleared w 0 → bodyOf w₁ ≡ encode (startState opened)
   unfolding encode startState encodeRows joined padded
-  body-started {bl = bl} {s = s} {l = l} {sc = sc} {e = e} S bls ss ls scs es = λ i. record {
-    blocks = (bls ∙ all-zeros bl (S .blocks) ∙ sym open-block) i;
-    statements = (ss ∙ all-zeros s (S .statements)) i;
-    locals = (ls ∙ all-zeros l (S .locals)) i;
-    scopes = (scs ∙ all-zeros sc (S .scopes) ∙ sym (scope-zeros (eqb opened 0))) i;
-    entries = (es ∙ all-zeros e (S .entries)) i;
-  }
+  body-started w size is =
+      body-cleared w size is ∙ λ i. body (sym open-block i) (zeros 50176) (zeros 512) (sym (scope-zeros (eqb opened 0)) i) (zeros 1024)
 
   -- and the counts, with no scope or with one
   pub counts-none : opened ≡ 0 → record { blocks = 1; statements = 0; locals = 0; scopes = 0; entries = 0 } ≡ countsOf (startState opened)

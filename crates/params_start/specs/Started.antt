@@ -9,9 +9,9 @@ use Rattle.row_tables.specs.Rows.{zeros}
 use Rattle.image.specs.Tables.{bindingCount}
 use Rattle.mir.specs.declared.Counts.{Counts}
 use Rattle.state.specs.State.{Body, State, encode, countsOf}
-use Rattle.lowered_params.specs.declared.SelfParam.{SelfParam}
-use Rattle.lowered_params.specs.Params.{selfCount}
-use Rattle.lowered_params.specs.Calls.{ParamsCalled, paramsCall}
+use Rattle.params_spec.specs.declared.SelfParam.{SelfParam}
+use Rattle.params_spec.specs.Params.{selfCount}
+use Rattle.params_spec.specs.Calls.{ParamsCalled, paramsCall}
 use Rattle.params_start.specs.declared.CallWords.{CallWords}
 
 -- block 0 opened, no local, and a scope or none

@@ -1,14 +1,15 @@
-// What a call on parameters starts from: the words of its self, the bindings' locals, and the tables.
+// What a call on parameters starts from: the words of its self, the bindings' locals, and the body.
+use body_tables::BODY_WORDS;
 use image::BindingId;
-use lowered_params::SelfParam;
 use mir::Counts;
+use params_spec::SelfParam;
 use row_tables::clear_from;
 ghost use Prim.Native.Nat.{_≤_};
 ghost use mathlib.Core.Path.{_≡_};
 ghost use lib.ListN.{length, replicate};
-ghost use Rattle.state.specs.State.{body, encode, countsOf};
-ghost use Rattle.listing_start.specs.Sizes.{TablesSized};
+ghost use Rattle.state.specs.State.{encode, countsOf};
 ghost use Rattle.params_start.specs.Started.{startState, receiver, callWords, manyOf};
+ghost use Rattle.body_tables.specs.Layout.{bodyOf};
 
 // What the first four words of a call say: how many scopes are open, and self.
 pub struct CallWords {
@@ -17,13 +18,13 @@ pub struct CallWords {
 }
 
 // Self, by a word that is 0 for none, its binding and its type.
-fn receiver_of(own: u16, binding: u16, ty: u16) -> SelfParam
-    ensures { λ r. ⌜ r ≡ receiver own binding ty ⌝ }
+fn receiver_of(own: u16, binding: BindingId, ty: u16) -> SelfParam
+    ensures { λ r. ⌜ r ≡ receiver own (binding .0) ty ⌝ }
 {
     if own == 0 {
         return SelfParam::None;
     }
-    SelfParam::Some(BindingId(binding), ty)
+    SelfParam::Some(binding, ty)
 }
 
 // The words for the opened scopes, for self or none, and of self's binding and type.
@@ -33,7 +34,7 @@ pub fn call_words(words: &[u16]) -> CallWords
 {
     CallWords {
         opened: words[0],
-        receiver: receiver_of(words[1], words[2], words[3]),
+        receiver: receiver_of(words[1], BindingId(words[2]), words[3]),
     }
 }
 
@@ -64,22 +65,10 @@ pub fn unbind(bindings: &mut [u16])
 }
 
 // Block 0 is open, there is no local, and a scope is open or none.
-pub fn start_params(
-    blocks: &mut [u16],
-    statements: &mut [u16],
-    locals: &mut [u16],
-    scopes: &mut [u16],
-    entries: &mut [u16],
-    opened: u16,
-) -> Counts
-    requires { ⌜ TablesSized (body (now blocks) (now statements) (now locals) (now scopes) (now entries)) ⌝ }
-    ensures { λ r. ⌜ (r ≡ countsOf (startState opened)) × (body (now (blocks .exit)) (now (statements .exit)) (now (locals .exit)) (now (scopes .exit)) (now (entries .exit)) ≡ encode (startState opened)) ⌝ }
+pub fn start_params(body: &mut [u16; BODY_WORDS], opened: u16) -> Counts
+    ensures { λ r. ⌜ (r ≡ countsOf (startState opened)) × (bodyOf (now (body .exit)) ≡ encode (startState opened)) ⌝ }
 {
-    clear_from(blocks, 0);
-    clear_from(statements, 0);
-    clear_from(locals, 0);
-    clear_from(scopes, 0);
-    clear_from(entries, 0);
+    clear_from(body, 0);
     if opened == 0 {
         return Counts {
             blocks: 1,

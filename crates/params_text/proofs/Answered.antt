@@ -1,34 +1,35 @@
--- The text of what a call of `lower_params_and_bindings` answers: of the tables after it, or of its refusal. Assumes nothing.
-use Prim.Native.Nat.{ℕ, _+_, _≤_}
+-- The text of what a call of `lower_params_and_bindings` answers: of the body after it, or of its refusal. Assumes nothing.
+use Prim.Native.Nat.{ℕ, _+_, _-_, _≤_}
 use mathlib.Core.Path.{_≡_, refl, sym, ap, subst, _∙_}
-use mathlib.Core.List.{List, [], _++_}
+use mathlib.Core.List.{List, _++_}
 use native.Mathlib.Omega.{arith}
-use lib.ListN.{take}
+use lib.ListN.{take, drop}
+use lib.Seq.{take-take}
 use Rattle.refusals.specs.declared.MirLowerError.{MirLowerError}
 use Rattle.refusals.specs.Refusals.{breaksARule, namesNothing, refusalAt}
 use Rattle.image.specs.declared.PatId.{PatId}
 use Rattle.place.specs.declared.LocalId.{LocalId}
 use Rattle.mir.specs.declared.BasicBlockId.{BasicBlockId}
 use Rattle.mir.specs.declared.Counts.{Counts}
-use Rattle.state.specs.State.{Body, State, body, decode, countsOf}
+use Rattle.state.specs.State.{Body, State, decode, countsOf}
 use Rattle.state.specs.Contracts.{Ready}
-use Rattle.lower.specs.declared.merging.OptBlock.{OptBlock}
+use Rattle.lower_spec.specs.declared.merging.OptBlock.{OptBlock}
 use Rattle.views.specs.Views.{mirOf}
+use Rattle.body_tables.specs.Layout.{entriesAt, bodyOf}
 use Rattle.listing_text.specs.Listing.{listing, refusalText}
 use Rattle.pattern_matching.specs.Walking.{ok, refused}
-use Rattle.lowered_params.specs.declared.ParamsCall.{ParamsCall}
-use Rattle.lowered_params.specs.Calls.{ParamsCalled, badImage, badCall, walked, answer, bindingsAfter, Reads, ReadyAfter, GivesParams}
+use Rattle.params_spec.specs.declared.ParamsCall.{ParamsCall}
+use Rattle.params_spec.specs.Calls.{ParamsCalled, badImage, badCall, walked, answer, bindingsAfter, Reads, ReadyAfter, GivesParams}
 use Rattle.params_text.specs.Texts.{linesText, walkText, callText, answerText, Listable}
 
 -- the text of a state, with the parameters' and the bindings' locals
 stateText : BasicBlockId → ℕ → ℕ → List ℕ → State → List ℕ
 stateText then first many bindings st = listing then OptBlock.None (mirOf st) ++ linesText first many bindings (st .entries)
 
--- the listing takes neither the scopes nor the entries
+-- the text of a body's state
 state-same : (b : Body) (c : Counts) (then : BasicBlockId) (first many : ℕ) (bindings : List ℕ) →
-    listing then OptBlock.None (mirOf (decode (body (b .blocks) (b .statements) (b .locals) [] []) c)) ++ linesText first many bindings (take (c .entries) (b .entries))
-    ≡ stateText then first many bindings (decode b c)
-unfolding mirOf decode stateText
+    listing then OptBlock.None (mirOf (decode b c)) ++ linesText first many bindings (take (c .entries) (b .entries)) ≡ stateText then first many bindings (decode b c)
+unfolding decode stateText
 state-same b c then first many bindings = refl
 
 -- an accepted call
@@ -82,10 +83,10 @@ bad-image-text c many badCall is = absurd (let z : _≡_ {A = ℕ} 0 1 = cc in o
 bad-image-text c many (walked (ok r)) is = absurd (let z : _≡_ {A = ℕ} 0 1 = cc in omega arith)
 bad-image-text c many (walked (refused e p)) is = absurd (let z : _≡_ {A = ℕ} 0 1 = cc in omega arith)
 
--- of a call that answered r, with the tables b′ and the bindings' locals m at exit
+-- of a call that answered r, with the body b′ and the bindings' locals m at exit
 module _ {bindings : List ℕ} {b : Body} {v : List ℕ} {c : Counts} {defined : ParamsCalled} {m : List ℕ} {b′ : Body} {v′ : List ℕ} (many : ℕ) where
   -- the text is what the definition prints
-  pub answered : (r : ParamsCall) → GivesParams bindings b v c defined r m b′ v′ → answerText (b′ .blocks) (b′ .statements) (b′ .locals) (b′ .entries) m many r ≡ callText (c .locals) many defined
+  pub answered : (r : ParamsCall) → GivesParams bindings b v c defined r m b′ v′ → answerText b′ m many r ≡ callText (c .locals) many defined
   unfolding answerText
   answered (ParamsCall.Lowered c′ then first) G =
       state-same b′ c′ then (first .0) many m ∙ accepted-text c many defined b′ bindings (G .reply) (G .reads) (G .locals)
@@ -93,35 +94,41 @@ module _ {bindings : List ℕ} {b : Body} {v : List ℕ} {c : Counts} {defined :
   answered ParamsCall.BadCall G = bad-call-text c many defined (G .reply)
   answered ParamsCall.BadImage G = bad-image-text c many defined (G .reply)
 
-  -- and the tables can be listed
-  pub listable : c .locals + many ≤ 65535 → (r : ParamsCall) → GivesParams bindings b v c defined r m b′ v′ → Listable (b′ .blocks) (b′ .statements) (b′ .locals) (b′ .entries) many r
+  -- and the body can be listed
+  pub listable : c .locals + many ≤ 65535 → (r : ParamsCall) → GivesParams bindings b v c defined r m b′ v′ → Listable many r
   listable few (ParamsCall.Lowered c′ then first) G =
       let (R, begins) = accepted-ready c defined b′ (G .reply) (G .ready) in
-      ((R .blocks, R .statements, R .locals, R .block-count, R .statement-count, R .local-count), R .entries, R .entry-count, omega (arith, few, begins))
+      ((R .block-count, R .statement-count, R .local-count), R .entry-count, omega (arith, few, begins))
   listable few (ParamsCall.Refused e p) G = tt
   listable few ParamsCall.BadCall G = tt
   listable few ParamsCall.BadImage G = tt
 
+-- the entries in use, where they lie among the words
+pub entries-part : (w : List ℕ) (n : ℕ) → n ≤ 1024 → take (entriesAt + n - entriesAt) (drop entriesAt w) ≡ take n (bodyOf w .entries)
+unfolding bodyOf
+entries-part w n h =
+    let e : entriesAt + n - entriesAt ≡ n = omega arith in
+    ap (λ (k : ℕ). take k (drop entriesAt w)) e ∙ sym (take-take n 1024 (drop entriesAt w) h)
+
 -- the ways through `put_params_answer`
-module _ (blocks statements locals entries bindings : List ℕ) (many : ℕ) {answer : ParamsCall} where
-  pub listing-asked : {c : Counts} {then : BasicBlockId} {first : LocalId} → answer ≡ ParamsCall.Lowered c then first →
-      Listable blocks statements locals entries many answer → Listable blocks statements locals entries many (ParamsCall.Lowered c then first)
-  listing-asked is L = subst (Listable blocks statements locals entries many) is L
+module _ (b : Body) (bindings : List ℕ) (many : ℕ) {answer : ParamsCall} where
+  pub listing-asked : {c : Counts} {then : BasicBlockId} {first : LocalId} → answer ≡ ParamsCall.Lowered c then first → Listable many answer →
+      Listable many (ParamsCall.Lowered c then first)
+  listing-asked is L = subst (Listable many) is L
 
   pub lists : {c : Counts} {then : BasicBlockId} {first : LocalId} → answer ≡ ParamsCall.Lowered c then first →
-      listing then OptBlock.None (mirOf (decode (body blocks statements locals [] []) c)) ++ linesText (first .0) many bindings (take (c .entries) entries)
-      ≡ answerText blocks statements locals entries bindings many answer
+      listing then OptBlock.None (mirOf (decode b c)) ++ linesText (first .0) many bindings (take (c .entries) (b .entries)) ≡ answerText b bindings many answer
   unfolding answerText
-  lists is = sym (ap (answerText blocks statements locals entries bindings many) is)
+  lists is = sym (ap (answerText b bindings many) is)
 
-  pub refuses : {e : MirLowerError} {p : PatId} → answer ≡ ParamsCall.Refused e p → refusalText (refusalAt e (p .0)) ≡ answerText blocks statements locals entries bindings many answer
+  pub refuses : {e : MirLowerError} {p : PatId} → answer ≡ ParamsCall.Refused e p → refusalText (refusalAt e (p .0)) ≡ answerText b bindings many answer
   unfolding answerText
-  refuses is = sym (ap (answerText blocks statements locals entries bindings many) is)
+  refuses is = sym (ap (answerText b bindings many) is)
 
-  pub refuses-call : answer ≡ ParamsCall.BadCall → refusalText namesNothing ≡ answerText blocks statements locals entries bindings many answer
+  pub refuses-call : answer ≡ ParamsCall.BadCall → refusalText namesNothing ≡ answerText b bindings many answer
   unfolding answerText
-  refuses-call is = sym (ap (answerText blocks statements locals entries bindings many) is)
+  refuses-call is = sym (ap (answerText b bindings many) is)
 
-  pub refuses-image : answer ≡ ParamsCall.BadImage → refusalText breaksARule ≡ answerText blocks statements locals entries bindings many answer
+  pub refuses-image : answer ≡ ParamsCall.BadImage → refusalText breaksARule ≡ answerText b bindings many answer
   unfolding answerText
-  refuses-image is = sym (ap (answerText blocks statements locals entries bindings many) is)
+  refuses-image is = sym (ap (answerText b bindings many) is)

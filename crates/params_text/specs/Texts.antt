@@ -1,23 +1,22 @@
 -- The text of what a call of `lower_params_and_bindings` answers: the listing, and the locals of the parameters, of the bindings and in the scopes. Assumes nothing: these
 -- are definitions.
 use Prim.Native.Nat.{ℕ, _+_, _≤_}
-use mathlib.Core.Path.{_≡_}
 use mathlib.Core.Bool.{cond}
 use mathlib.Core.List.{List, [], _∷_, _++_}
 use lib.Dec.{eqb}
-use lib.ListN.{length, take}
+use lib.ListN.{take}
 use Rattle.refusals.specs.Refusals.{breaksARule, namesNothing, refusalAt}
 use Rattle.image.specs.Lists.{upFrom}
-use Rattle.state.specs.State.{body, decode}
-use Rattle.lower.specs.declared.merging.OptBlock.{OptBlock}
+use Rattle.state.specs.State.{Body, decode}
+use Rattle.lower_spec.specs.declared.merging.OptBlock.{OptBlock}
 use Rattle.views.specs.Views.{mirOf}
 use Rattle.listing_text.specs.Words.{space, dash, newline}
 use Rattle.listing_text.specs.Numbers.{decimal}
 use Rattle.listing_text.specs.Listing.{listing, refusalText}
 use Rattle.pattern_matching.specs.Walking.{Walk, ok, refused}
-use Rattle.lowered_params.specs.declared.ParamsCall.{ParamsCall}
-use Rattle.lowered_params.specs.Params.{ParamsOut}
-use Rattle.lowered_params.specs.Calls.{ParamsCalled, badImage, badCall, walked}
+use Rattle.params_spec.specs.declared.ParamsCall.{ParamsCall}
+use Rattle.params_spec.specs.Params.{ParamsOut}
+use Rattle.params_spec.specs.Calls.{ParamsCalled, badImage, badCall, walked}
 
 -- "params"
 unfoldable pub paramsWord : List ℕ
@@ -58,19 +57,18 @@ callText first many badImage = refusalText breaksARule
 callText first many badCall = refusalText namesNothing
 callText first many (walked w) = walkText first many w
 
--- the text of an answer, where these are the tables and the bindings' locals
-unfoldable pub answerText : List ℕ → List ℕ → List ℕ → List ℕ → List ℕ → ℕ → ParamsCall → List ℕ
-answerText blocks statements locals entries bindings many (ParamsCall.Lowered c then first) =
-    listing then OptBlock.None (mirOf (decode (body blocks statements locals [] []) c)) ++ linesText (first .0) many bindings (take (c .entries) entries)
-answerText blocks statements locals entries bindings many (ParamsCall.Refused e p) = refusalText (refusalAt e (p .0))
-answerText blocks statements locals entries bindings many ParamsCall.BadCall = refusalText namesNothing
-answerText blocks statements locals entries bindings many ParamsCall.BadImage = refusalText breaksARule
+-- the text of an answer, where these are the body and the bindings' locals
+unfoldable pub answerText : Body → List ℕ → ℕ → ParamsCall → List ℕ
+answerText b bindings many (ParamsCall.Lowered c then first) =
+    listing then OptBlock.None (mirOf (decode b c)) ++ linesText (first .0) many bindings (take (c .entries) (b .entries))
+answerText b bindings many (ParamsCall.Refused e p) = refusalText (refusalAt e (p .0))
+answerText b bindings many ParamsCall.BadCall = refusalText namesNothing
+answerText b bindings many ParamsCall.BadImage = refusalText breaksARule
 
--- the tables of an accepted call can be listed: they have their sizes, the counts are within the limits, and so are the parameters' locals
-abbrev pub Listable : List ℕ → List ℕ → List ℕ → List ℕ → ℕ → ParamsCall → Type 0
-Listable blocks statements locals entries many (ParamsCall.Lowered c then first) =
-    ((length blocks ≡ 6144) × (length statements ≡ 50176) × (length locals ≡ 512) × (c .blocks ≤ 512) × (c .statements ≤ 1024) × (c .locals ≤ 512))
-    × (length entries ≡ 1024) × (c .entries ≤ 1024) × (first .0 + many ≤ 65535)
-Listable blocks statements locals entries many (ParamsCall.Refused e p) = Unit
-Listable blocks statements locals entries many ParamsCall.BadCall = Unit
-Listable blocks statements locals entries many ParamsCall.BadImage = Unit
+-- the body of an accepted call can be listed: the counts are within the limits, and so are the parameters' locals
+abbrev pub Listable : ℕ → ParamsCall → Type 0
+Listable many (ParamsCall.Lowered c then first) =
+    ((c .blocks ≤ 512) × (c .statements ≤ 1024) × (c .locals ≤ 512)) × (c .entries ≤ 1024) × (first .0 + many ≤ 65535)
+Listable many (ParamsCall.Refused e p) = Unit
+Listable many ParamsCall.BadCall = Unit
+Listable many ParamsCall.BadImage = Unit

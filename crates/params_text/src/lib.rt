@@ -1,4 +1,5 @@
 // The text of what a call of `lower_params_and_bindings` answers.
+use body_tables::ENTRIES;
 use image_text::number_of;
 use image_text::reason_of;
 use listing_body::put_listing;
@@ -6,10 +7,14 @@ use listing_text::numbers::put_numbered;
 use listing_text::pen::Pen;
 use listing_text::pen::put;
 use listing_text::put_refusal;
-use lower::merging::OptBlock;
-use lowered_params::ParamsCall;
+use lower_spec::merging::OptBlock;
+use params_spec::ParamsCall;
+use place::LocalId;
+ghost use mathlib.Core.Path.{_≡_};
 ghost use Prim.Native.Nat.{_+_, _≤_};
+ghost use lib.ListN.{length};
 ghost use Rattle.image.specs.Lists.{upFrom};
+ghost use Rattle.body_tables.specs.Layout.{bodyWords, bodyOf};
 ghost use Rattle.listing_text.specs.Writing.{Wrote};
 ghost use Rattle.params_text.specs.Texts.{wordText, wordsText, lineText, linesText, answerText, Listable};
 
@@ -36,15 +41,15 @@ fn put_words(out: &mut [u8], pen: Pen, words: &[u16]) -> Pen
     written
 }
 
-// So many locals, one after the other.
-fn put_run(out: &mut [u8], pen: Pen, first: u16, count: u16) -> Pen
-    requires { ⌜ first + count ≤ 65535 ⌝ }
-    ensures { λ r. ⌜ Wrote (now (out .entry)) pen (wordsText (upFrom first count)) r (now (out .exit)) ⌝ }
+// So many locals, one after the other, from the first on.
+fn put_run(out: &mut [u8], pen: Pen, first: LocalId, count: u16) -> Pen
+    requires { ⌜ first .0 + count ≤ 65535 ⌝ }
+    ensures { λ r. ⌜ Wrote (now (out .entry)) pen (wordsText (upFrom (first .0) count)) r (now (out .exit)) ⌝ }
 {
     let mut written = put(out, pen, b"");
     let mut i = 0u16;
     while i < count {
-        written = put_word(out, written, first + i);
+        written = put_word(out, written, first.0 + i);
         i += 1;
     }
     written
@@ -63,13 +68,13 @@ fn put_list(out: &mut [u8], pen: Pen, name: &[u8], words: &[u16]) -> Pen
 fn put_lines(
     out: &mut [u8],
     pen: Pen,
-    first: u16,
+    first: LocalId,
     many: u16,
     bindings: &[u16],
     entries: &[u16],
 ) -> Pen
-    requires { ⌜ first + many ≤ 65535 ⌝ }
-    ensures { λ r. ⌜ Wrote (now (out .entry)) pen (linesText first many (now (bindings .entry)) (now (entries .entry))) r (now (out .exit)) ⌝ }
+    requires { ⌜ first .0 + many ≤ 65535 ⌝ }
+    ensures { λ r. ⌜ Wrote (now (out .entry)) pen (linesText (first .0) many (now (bindings .entry)) (now (entries .entry))) r (now (out .exit)) ⌝ }
 {
     let begun = put(out, pen, b"params");
     let run = put_run(out, begun, first, many);
@@ -78,35 +83,23 @@ fn put_lines(
     put_list(out, bound, b"entries", entries)
 }
 
-// The listing of the tables after a call that was accepted and the three lines behind it, or the refusal.
+// The listing of the body after a call that was accepted and the three lines behind it, or the refusal.
 pub fn put_params_answer(
     out: &mut [u8],
     pen: Pen,
-    blocks: &[u16],
-    statements: &[u16],
-    locals: &[u16],
-    entries: &[u16],
+    body: &[u16],
     bindings: &[u16],
     many: u16,
     answer: ParamsCall,
 ) -> Pen
-    requires { ⌜ Listable (now blocks) (now statements) (now locals) (now entries) many answer ⌝ }
-    ensures { λ r. ⌜ Wrote (now (out .entry)) pen (answerText (now (blocks .entry)) (now (statements .entry)) (now (locals .entry)) (now (entries .entry)) (now (bindings .entry)) many answer) r (now (out .exit)) ⌝ }
+    requires { ⌜ (length (now body) ≡ bodyWords) × Listable many answer ⌝ }
+    ensures { λ r. ⌜ Wrote (now (out .entry)) pen (answerText (bodyOf (now (body .entry))) (now (bindings .entry)) many answer) r (now (out .exit)) ⌝ }
 {
     match answer {
         ParamsCall::Lowered(c, then, first) => {
-            let listed = put_listing(
-                out,
-                pen,
-                blocks,
-                statements,
-                locals,
-                c,
-                then,
-                OptBlock::None,
-            );
-            let count = c.entries as usize;
-            put_lines(out, listed, first.0, many, bindings, &entries[..count])
+            let listed = put_listing(out, pen, body, c, then, OptBlock::None);
+            let end = ENTRIES + (c.entries as usize);
+            put_lines(out, listed, first, many, bindings, &body[ENTRIES..end])
         }
         ParamsCall::Refused(e, p) => put_refusal(out, pen, number_of(e), p.0, reason_of(e)),
         ParamsCall::BadCall => put_refusal(out, pen, 2, 65535, 0),

@@ -1,6 +1,6 @@
 // What the walk over an Or's alternatives decides by value.
-use lower::merging::OptBlock;
-use walks::Lowered;
+use lower_spec::merging::OptBlock;
+use pattern_walk_spec::Lowered;
 ghost use mathlib.Core.Path.{_≡_};
 ghost use Rattle.pattern_alternatives.specs.Alternatives.{withElse};
 

@@ -19,13 +19,14 @@ use Rattle.place.specs.Places.{onward, Projects}
 use Rattle.mir.specs.declared.Counts.{Counts}
 use Rattle.mir.specs.declared.BasicBlockId.{BasicBlockId}
 use Rattle.state.proofs.Answering.{kept-refl}
-use Rattle.lower.specs.declared.merging.OptBlock.{OptBlock}
+use Rattle.lower_spec.specs.declared.merging.OptBlock.{OptBlock}
 use Rattle.pattern_matching.specs.declared.MatchingMode.{MatchingMode}
 use Rattle.pattern_matching.specs.Walking.{Out, Walk, Lowering, step, visited, project, derefed, entered}
-use Rattle.walks.specs.declared.Lowered.{Lowered}
-use Rattle.walks.specs.Answers.{Lent, bodyOf, Placed, ctxOf, visitWord, Holds, Walks}
-use Rattle.walks.proofs.Following.{refuses, answers-by}
+use Rattle.pattern_walk_spec.specs.declared.Lowered.{Lowered}
+use Rattle.pattern_walk_spec.specs.Answers.{Placed, ctxOf, visitWord, Holds, Walks}
+use Rattle.pattern_walk_spec.proofs.Following.{refuses, answers-by}
 use Rattle.pattern_entering.specs.Entering.{oneMore, projectedResult, derefsOf}
+use Rattle.state.specs.State.{Body}
 
 -- `visit`, v being the table before
 module _ (v : List ℕ) (p : ℕ) where
@@ -146,7 +147,7 @@ derefs-reach place (suc n) {to = to} e = go (project place ProjectionElem.Deref)
     go (refused x) q d later = let z : _≡_ {A = ℕ} 0 1 = cc in absurd (omega arith)
 
 -- what is known of a place's root, of a place that was reached from it
-pub reached-placed : {image : List ℕ} {t : Lent} {c : Counts} {place to : Place} → Reached place to → Placed image t c place → Placed image t c to
+pub reached-placed : {image : List ℕ} {t : Body} {c : Counts} {place to : Place} → Reached place to → Placed image t c place → Placed image t c to
 reached-placed R P = record { root = rw (R .local) (P .root); named = rw (R .local) (P .named); within = R .within (P .within) }
 
 -- the visits' table v after p is visited
@@ -154,38 +155,38 @@ abbrev pub visitedIn : List ℕ → PatId → List ℕ
 visitedIn v p = set v (p .0) (oneMore (getD v (p .0) 0))
 
 -- a pattern is entered: v is the visits' table before, and p is visited first
-module _ (p : PatId) (derefs : ℕ) (lowering : Lowering) (mode : MatchingMode) (c : Counts) (current : BasicBlockId) (els : OptBlock) (place : Place) (t : Lent) (v : List ℕ) where
+module _ (p : PatId) (derefs : ℕ) (lowering : Lowering) (mode : MatchingMode) (c : Counts) (current : BasicBlockId) (els : OptBlock) (place : Place) (t : Body) (v : List ℕ) where
   -- what lowering it promises
-  abbrev pub Enters : Lowered → Lent → List ℕ → Type 0
+  abbrev pub Enters : Lowered → Body → List ℕ → Type 0
   Enters = Walks (λ ctx. entered (p .0) derefs lowering mode ctx current els place) c current els t v
 
   -- there is no room for its derefs
   pub enter-stops : refused MirLowerError.Limit ≡ derefsOf place derefs → Enters (Lowered.Refused MirLowerError.Limit p) t (visitedIn v p)
   unfolding entered
   enter-stops full = record {
-    answers = λ scopes visits R H. record {
+    answers = λ visits R H. record {
       visits′ = set visits (p .0) (getD visits (p .0) 0 + 1);
       holds = visit-holds v visits (p .0) H;
       answers = refuses
-          (ap (λ (r : Result Place). step (p .0) r (lowering mode (visited (ctxOf (bodyOf t scopes) c visits) (p .0)) current els)) full
-          ∙ sym (derefed-by (p .0) place (lowering mode (visited (ctxOf (bodyOf t scopes) c visits) (p .0)) current els) derefs));
+          (ap (λ (r : Result Place). step (p .0) r (lowering mode (visited (ctxOf t c visits) (p .0)) current els)) full
+          ∙ sym (derefed-by (p .0) place (lowering mode (visited (ctxOf t c visits) (p .0)) current els) derefs));
     };
-    leaves = λ P. (tt, kept-refl c (current .0) (bodyOf t (zeros 32)));
+    leaves = λ P. (tt, kept-refl c (current .0) t);
     onward = tt;
   }
 
   -- it is lowered at the place behind them
-  pub enter-goes : {to : Place} {r : Lowered} {t₁ : Lent} {v₁ : List ℕ} → ok to ≡ derefsOf place derefs → Walks (λ ctx. lowering mode ctx current els to) c current els t (visitedIn v p) r t₁ v₁ → Enters r t₁ v₁
+  pub enter-goes : {to : Place} {r : Lowered} {t₁ : Body} {v₁ : List ℕ} → ok to ≡ derefsOf place derefs → Walks (λ ctx. lowering mode ctx current els to) c current els t (visitedIn v p) r t₁ v₁ → Enters r t₁ v₁
   unfolding entered visited
   enter-goes there W = record {
-    answers = λ scopes visits R H.
-        let F = W .answers scopes (set visits (p .0) (getD visits (p .0) 0 + 1)) R (visit-holds v visits (p .0) H) in
+    answers = λ visits R H.
+        let F = W .answers (set visits (p .0) (getD visits (p .0) 0 + 1)) R (visit-holds v visits (p .0) H) in
         record {
           visits′ = F .visits′;
           holds = F .holds;
           answers = answers-by
-              (ap (λ (r : Result Place). step (p .0) r (lowering mode (visited (ctxOf (bodyOf t scopes) c visits) (p .0)) current els)) there
-              ∙ sym (derefed-by (p .0) place (lowering mode (visited (ctxOf (bodyOf t scopes) c visits) (p .0)) current els) derefs))
+              (ap (λ (r : Result Place). step (p .0) r (lowering mode (visited (ctxOf t c visits) (p .0)) current els)) there
+              ∙ sym (derefed-by (p .0) place (lowering mode (visited (ctxOf t c visits) (p .0)) current els) derefs))
               (F .answers);
         };
     leaves = W .leaves;

@@ -9,9 +9,12 @@ ghost use Prim.Native.Nat.{_<_};
 ghost use lib.ListN.{length, getD, set};
 ghost use Rattle.pattern_entering.specs.Entering.{oneMore, projectedResult, derefsOf};
 
+// The words of the visits' table: one for each pattern that an image may have.
+pub const VISIT_WORDS: usize = 512;
+
 // A pattern is visited once more; a word of the table holds at most 65535.
 pub fn visit(visits: &mut [u16], p: PatId)
-    requires { ⌜ p .0 < length (now visits) ⌝ }
+    requires { ⌜ (length (now visits) ≡ 512) × (p .0 < 512) ⌝ }
     ensures { λ _. ⌜ now (visits .exit) ≡ set (now (visits .entry)) (p .0) (oneMore (getD (now (visits .entry)) (p .0) 0)) ⌝ }
 {
     let at = p.0 as usize;

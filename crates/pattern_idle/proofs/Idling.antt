@@ -20,24 +20,25 @@ use Rattle.image.proofs.Bools.{and-left, and-right}
 use Rattle.place.specs.declared.Place.{Place}
 use Rattle.mir.specs.declared.BasicBlockId.{BasicBlockId}
 use Rattle.mir.specs.declared.Counts.{Counts}
-use Rattle.lower.specs.declared.merging.OptBlock.{OptBlock}
+use Rattle.lower_spec.specs.declared.merging.OptBlock.{OptBlock}
 use Rattle.pattern_matching.specs.declared.MatchingMode.{MatchingMode}
 use Rattle.pattern_matching.specs.Modes.{isCheck}
 use Rattle.pattern_matching.specs.Walking.{Ctx, Lowering, out}
 use Rattle.pattern_matching.specs.Tests.{literal, litBy, constantPath}
 use Rattle.pattern_matching.specs.Patterns.{rangePattern, pathPattern, bindPattern, patternMatchInner}
-use Rattle.walks.specs.declared.Lowered.{Lowered}
-use Rattle.walks.specs.Answers.{Lent, Begins}
+use Rattle.pattern_walk_spec.specs.declared.Lowered.{Lowered}
+use Rattle.pattern_walk_spec.specs.Answers.{Begins}
 use Rattle.pattern_entering.proofs.Visiting.{visitedIn}
 use Rattle.pattern_tests.specs.Testing.{isLiteral}
 use Rattle.pattern_switching.proofs.Cutting.{not-in-check}
 use Rattle.pattern_nodes.specs.Leaves.{leafPattern}
 use Rattle.pattern_nodes.specs.Nodes.{kindPattern}
-use Rattle.walking.specs.Walk.{Inner}
-use Rattle.walking.proofs.Looking.{walks-skips}
-use Rattle.walking.proofs.Entering.{inner-goes}
-use Rattle.walking.proofs.Descending.{behind-none}
+use Rattle.pattern_walk_laws.specs.Walk.{Inner}
+use Rattle.pattern_walk_laws.proofs.Looking.{walks-skips}
+use Rattle.pattern_walk_laws.proofs.Entering.{inner-goes}
+use Rattle.pattern_walk_laws.proofs.Descending.{behind-none}
 use Rattle.pattern_idle.specs.Idle.{idleInCheck, namesConstant, idleBeyondCheck, nothingToDo}
+use Rattle.state.specs.State.{Body}
 
 -- what a lowering does where there is nothing to do
 abbrev Idle : Lowering → MatchingMode → Type 0
@@ -143,7 +144,7 @@ idle-kind image bindings p row mode e = go mode (isCheck mode) refl (and-right (
     go m false z i = idle-beyond image bindings p row m z (patKind (row .kind)) i
 
 -- The theorem: a pattern at which there is nothing to do is lowered by its visit alone.
-pub idle-walks : (image bindings : List ℕ) (q : PatId) (mode : MatchingMode) (c : Counts) (current : BasicBlockId) (els : OptBlock) (t : Lent) (v : List ℕ) {v₁ : List ℕ} →
+pub idle-walks : (image bindings : List ℕ) (q : PatId) (mode : MatchingMode) (c : Counts) (current : BasicBlockId) (els : OptBlock) (t : Body) (v : List ℕ) {v₁ : List ℕ} →
     valid image ≡ true → q .0 < patternCount image → Begins c current els → v₁ ≡ visitedIn v q → nothingToDo image mode (patAt image (q .0)) ≡ true →
     (place : Place) → Inner image bindings q mode c current els place t v (Lowered.Done c current els) t v₁
 unfolding nothingToDo

@@ -9,18 +9,18 @@ use Rattle.refusals.specs.declared.MirLowerError.{MirLowerError}
 use Rattle.place.specs.declared.Place.{Place}
 use Rattle.mir.specs.declared.BasicBlockId.{BasicBlockId}
 use Rattle.mir.specs.declared.Counts.{Counts}
-use Rattle.lower.specs.declared.merging.OptBlock.{OptBlock}
+use Rattle.lower_spec.specs.declared.merging.OptBlock.{OptBlock}
 use Rattle.pattern_matching.specs.declared.MatchingMode.{MatchingMode}
 use Rattle.pattern_matching.specs.Modes.{isCheck}
 use Rattle.pattern_matching.specs.Walking.{Ctx, Out, Walk, refused, out, inCheck}
 use Rattle.pattern_matching.specs.Tests.{patternMatchBinding}
 use Rattle.pattern_nodes.specs.Modes.{bound}
-use Rattle.pattern_parts.specs.Parts.{Fills}
 use Rattle.pattern_switching.proofs.Cutting.{in-check, not-in-check}
-use Rattle.walks.specs.declared.Lowered.{Lowered}
-use Rattle.walks.specs.Answers.{Lent, Begins, Lowers}
-use Rattle.walks.proofs.Sequences.{lowers-skips, lowers-refuses, lowers-by}
+use Rattle.pattern_walk_spec.specs.declared.Lowered.{Lowered}
+use Rattle.pattern_walk_spec.specs.Answers.{Begins, Lowers}
+use Rattle.pattern_walk_spec.proofs.Sequences.{lowers-skips, lowers-refuses, lowers-by}
 use Rattle.pattern_leaves.specs.Modes.{otherPath}
+use Rattle.state.specs.State.{Body}
 
 -- `other_path`, as the code answers it
 module _ (c : Counts) (p : PatId) (current : BasicBlockId) (els : OptBlock) where
@@ -36,28 +36,28 @@ module _ (c : Counts) (p : PatId) (current : BasicBlockId) (els : OptBlock) wher
   other-done MatchingMode.Bind e = refl
   other-done MatchingMode.Assign e = refl
 
-  -- and what it promises, where t lies in the tables
-  pub other-lowers : (t : Lent) (mode : MatchingMode) → Begins c current els →
+  -- and what it promises, of the body t
+  pub other-lowers : (t : Body) (mode : MatchingMode) → Begins c current els →
       Lowers (λ ctx. inCheck mode (refused MirLowerError.NotSupported (p .0)) (out ctx current els)) c current els t (otherPath c mode p current els) t
   unfolding otherPath
   other-lowers t MatchingMode.Check h = lowers-refuses (λ ctx. refl)
   other-lowers t MatchingMode.Bind h = lowers-skips (λ ctx. refl) h
   other-lowers t MatchingMode.Assign h = lowers-skips (λ ctx. refl) h
 
--- `bind`; s₀ and e₀ are the tables at entry
-module _ (bindings s₀ e₀ : List ℕ) (c : Counts) (mode : MatchingMode) (p : PatId) (b : ℕ) (how : BindingMode) (current : BasicBlockId) (els : OptBlock) (place : Place) where
-  abbrev Bound : Lowered → List ℕ → List ℕ → Type 0
-  Bound = Fills (λ ctx. bound bindings (p .0) b how mode ctx current els place) c current els s₀ e₀
+-- `bind`; t is the body at entry
+module _ (bindings : List ℕ) (t : Body) (c : Counts) (mode : MatchingMode) (p : PatId) (b : ℕ) (how : BindingMode) (current : BasicBlockId) (els : OptBlock) (place : Place) where
+  abbrev Bound : Lowered → Body → Type 0
+  Bound = Lowers (λ ctx. bound bindings (p .0) b how mode ctx current els place) c current els t
 
   abbrev filled : Ctx → Walk Out
   filled ctx = patternMatchBinding bindings (p .0) (p .0) b how ctx current els place
 
   -- nothing is bound in Check
-  pub bind-skips : isCheck mode ≡ true → Begins c current els → Bound (Lowered.Done c current els) s₀ e₀
+  pub bind-skips : isCheck mode ≡ true → Begins c current els → Bound (Lowered.Done c current els) t
   unfolding bound
-  bind-skips check h bl lo P = lowers-skips (λ ctx. in-check mode (out ctx current els) (filled ctx) check) h
+  bind-skips check h = lowers-skips (λ ctx. in-check mode (out ctx current els) (filled ctx) check) h
 
   -- the binding is filled beyond it
-  pub bind-fills : {r : Lowered} {s e : List ℕ} → isCheck mode ≡ false → Fills filled c current els s₀ e₀ r s e → Bound r s e
+  pub bind-fills : {r : Lowered} {t′ : Body} → isCheck mode ≡ false → Lowers filled c current els t r t′ → Bound r t′
   unfolding bound
-  bind-fills beyond F bl lo P = lowers-by (λ ctx. not-in-check mode (out ctx current els) (filled ctx) beyond) (F bl lo P)
+  bind-fills beyond L = lowers-by (λ ctx. not-in-check mode (out ctx current els) (filled ctx) beyond) L

@@ -22,18 +22,18 @@ use Rattle.image.proofs.Bools.{and-left, and-right}
 use Rattle.place.specs.declared.Place.{Place}
 use Rattle.mir.specs.declared.BasicBlockId.{BasicBlockId}
 use Rattle.mir.specs.declared.Counts.{Counts}
-use Rattle.lower.specs.declared.merging.OptBlock.{OptBlock}
+use Rattle.lower_spec.specs.declared.merging.OptBlock.{OptBlock}
 use Rattle.pattern_matching.specs.declared.MatchingMode.{MatchingMode}
 use Rattle.pattern_matching.specs.Walking.{Lowering}
 use Rattle.pattern_matching.specs.Tests.{constantPath, localPath}
 use Rattle.pattern_matching.specs.Patterns.{refusing, passing, pathPattern}
 use Rattle.pattern_nodes.specs.Leaves.{pathLeaf, leafPattern}
-use Rattle.pattern_parts.specs.Parts.{Assigns}
-use Rattle.walks.specs.declared.Lowered.{Lowered}
-use Rattle.walks.specs.Answers.{Lent, lent, Begins, Lowers}
-use Rattle.walks.proofs.Sequences.{lowers-skips, lowers-refuses, lowers-by}
+use Rattle.pattern_walk_spec.specs.declared.Lowered.{Lowered}
+use Rattle.pattern_walk_spec.specs.Answers.{Begins, Lowers}
+use Rattle.pattern_walk_spec.proofs.Sequences.{lowers-skips, lowers-refuses, lowers-by}
 use Rattle.pattern_leaves.specs.Modes.{otherPath}
 use Rattle.pattern_leaves.proofs.Checking.{other-lowers}
+use Rattle.state.specs.State.{Body}
 
 -- what holds of a path's word
 module _ (image : List ℕ) (b : ℕ) {kind : PathKind} (holds : pathHolds kind image b ≡ true) where
@@ -55,9 +55,9 @@ module _ (image : List ℕ) (b : ℕ) {kind : PathKind} (holds : pathHolds kind 
     unfolding operandOf
     path-constant = ap operandKind (eqb-true (operandAt image b .kind) 8 (and-right (operandHolds image b) (eqb (operandAt image b .kind) 8) both))
 
--- `path_leaf`; t lies in the tables at entry
-module _ (image bindings : List ℕ) (t : Lent) (c : Counts) (mode : MatchingMode) (p : PatId) (ty b : ℕ) (current : BasicBlockId) (els : OptBlock) (place : Place) where
-  abbrev Path : PathKind → Lowered → Lent → Type 0
+-- `path_leaf`; t is the body at entry
+module _ (image bindings : List ℕ) (t : Body) (c : Counts) (mode : MatchingMode) (p : PatId) (ty b : ℕ) (current : BasicBlockId) (els : OptBlock) (place : Place) where
+  abbrev Path : PathKind → Lowered → Body → Type 0
   Path kind = Lowers (λ ctx. pathLeaf kind image bindings (p .0) ty b mode ctx current els place) c current els t
 
   -- a path that names nothing, or a variant
@@ -69,8 +69,13 @@ module _ (image bindings : List ℕ) (t : Lent) (c : Counts) (mode : MatchingMod
   unfolding pathLeaf
   path-variant is = lowers-refuses (λ ctx. rw is refl)
 
+  -- a local
+  pub path-local : {kind : PathKind} {r : Lowered} {t′ : Body} → kind ≡ PathKind.Local → Lowers (λ ctx. localPath bindings (p .0) b mode ctx current els place) c current els t r t′ → Path kind r t′
+  unfolding pathLeaf pathPattern
+  path-local is L = rw is L
+
   -- a constant
-  pub path-compared : {kind : PathKind} {r : Lowered} {t′ : Lent} → kind ≡ PathKind.Constant → Lowers (λ ctx. constantPath image (p .0) ty (operandOf image b) mode ctx current els place) c current els t r t′ → Path kind r t′
+  pub path-compared : {kind : PathKind} {r : Lowered} {t′ : Body} → kind ≡ PathKind.Constant → Lowers (λ ctx. constantPath image (p .0) ty (operandOf image b) mode ctx current els place) c current els t r t′ → Path kind r t′
   unfolding pathLeaf pathPattern
   path-compared is L = rw is L
 
@@ -82,13 +87,6 @@ module _ (image bindings : List ℕ) (t : Lent) (c : Counts) (mode : MatchingMod
   pub path-unknown : {kind : PathKind} {r : Lowered} → kind ≡ PathKind.Unknown → Begins c current els → r ≡ otherPath c mode p current els → Path kind r t
   unfolding pathLeaf pathPattern
   path-unknown is h same = rw (is, same) (other-lowers c p current els t mode h)
-
--- a local: bl, lo and e are the tables that it leaves alone
-pub path-local : (image bindings bl lo e : List ℕ) {s₀ s : List ℕ} {c : Counts} (mode : MatchingMode) (p : PatId) (ty b : ℕ) {current : BasicBlockId} {els : OptBlock} (place : Place) {kind : PathKind} {r : Lowered} →
-    kind ≡ PathKind.Local → Assigns (λ ctx. localPath bindings (p .0) b mode ctx current els place) c current els s₀ r s →
-    Lowers (λ ctx. pathLeaf kind image bindings (p .0) ty b mode ctx current els place) c current els (lent bl s₀ lo e) r (lent bl s lo e)
-unfolding pathLeaf pathPattern
-path-local image bindings bl lo e mode p ty b place is A = rw is (A bl lo e)
 
 -- what holds of a row, by the kind that is read
 module _ (image : List ℕ) (row : PatRow) {kind : PatKind} (read : kind ≡ patKind (row .kind)) (holds : patternShapeHolds (patKind (row .kind)) image row ≡ true) where
@@ -112,14 +110,14 @@ module _ (image : List ℕ) (row : PatRow) {kind : PatKind} (read : kind ≡ pat
   unfolding patternShapeHolds
   literal-holds is = rw is at by-kind
 
--- `pattern_match_leaf`, by the kind that is read; t lies in the tables at entry
-module _ (image bindings : List ℕ) (t : Lent) (c : Counts) (mode : MatchingMode) (p : PatId) (row : PatRow) (current : BasicBlockId) (els : OptBlock) (place : Place)
+-- `pattern_match_leaf`, by the kind that is read; t is the body at entry
+module _ (image bindings : List ℕ) (t : Body) (c : Counts) (mode : MatchingMode) (p : PatId) (row : PatRow) (current : BasicBlockId) (els : OptBlock) (place : Place)
     {kind : PatKind} (read : kind ≡ patKind (row .kind)) where
-  abbrev Leaf : Lowered → Lent → Type 0
+  abbrev Leaf : Lowered → Body → Type 0
   Leaf = Lowers (λ ctx. leafPattern (patKind (row .kind)) image bindings (p .0) row mode ctx current els place) c current els t
 
   -- a pattern that is lowered as `defined`
-  pub leaf-lowers : (defined : Lowering) {r : Lowered} {t′ : Lent} → defined ≡ leafPattern kind image bindings (p .0) row → Lowers (λ ctx. defined mode ctx current els place) c current els t r t′ → Leaf r t′
+  pub leaf-lowers : (defined : Lowering) {r : Lowered} {t′ : Body} → defined ≡ leafPattern kind image bindings (p .0) row → Lowers (λ ctx. defined mode ctx current els place) c current els t r t′ → Leaf r t′
   leaf-lowers defined is L = lowers-by (λ ctx. ap (λ (f : Lowering). f mode ctx current els place) (is ∙ ap (λ (k : PatKind). leafPattern k image bindings (p .0) row) read)) L
 
   -- one that is refused
@@ -131,7 +129,7 @@ module _ (image bindings : List ℕ) (t : Lent) (c : Counts) (mode : MatchingMod
   leaf-passed is h = leaf-lowers passing is (lowers-skips (λ ctx. refl) h)
 
   -- a path, by what it names
-  pub leaf-path : {path : PathKind} {r : Lowered} {t′ : Lent} → kind ≡ PatKind.Path → path ≡ pathKind (row .a) →
+  pub leaf-path : {path : PathKind} {r : Lowered} {t′ : Body} → kind ≡ PatKind.Path → path ≡ pathKind (row .a) →
       Lowers (λ ctx. pathLeaf path image bindings (p .0) (row .ty) (row .b) mode ctx current els place) c current els t r t′ → Leaf r t′
   unfolding leafPattern
   leaf-path {path = path} is named L = leaf-lowers (pathLeaf path image bindings (p .0) (row .ty) (row .b)) (rw is (ap (λ (k : PathKind). pathLeaf k image bindings (p .0) (row .ty) (row .b)) named)) L

@@ -15,7 +15,7 @@ use Rattle.image.specs.Types.{shapeBy, tyOf}
 use Rattle.place.specs.declared.Place.{Place}
 use Rattle.mir.specs.declared.BasicBlockId.{BasicBlockId}
 use Rattle.mir.specs.declared.Counts.{Counts}
-use Rattle.lower.specs.declared.merging.OptBlock.{OptBlock}
+use Rattle.lower_spec.specs.declared.merging.OptBlock.{OptBlock}
 use Rattle.pattern_matching.specs.declared.MatchingMode.{MatchingMode}
 use Rattle.pattern_matching.specs.Modes.{isCheck}
 use Rattle.pattern_matching.specs.Walking.{Ctx, Out, Walk, refused, out, inCheck}
@@ -26,15 +26,16 @@ use Rattle.pattern_nodes.specs.Modes.{enumTest, sliceTest}
 use Rattle.pattern_tests.specs.Testing.{hasRest, lengthTestBy}
 use Rattle.pattern_switching.proofs.Cutting.{in-check, not-in-check}
 use Rattle.pattern_tests.proofs.Cutting.{length-test-by}
-use Rattle.walks.specs.declared.Lowered.{Lowered}
-use Rattle.walks.specs.Answers.{Lent, Begins, Lowers}
-use Rattle.walks.proofs.Sequences.{lowers-skips, lowers-refuses, lowers-by}
+use Rattle.pattern_walk_spec.specs.declared.Lowered.{Lowered}
+use Rattle.pattern_walk_spec.specs.Answers.{Begins, Lowers}
+use Rattle.pattern_walk_spec.proofs.Sequences.{lowers-skips, lowers-refuses, lowers-by}
 use Rattle.pattern_rows.specs.declared.Sequence.{Sequence}
 use Rattle.pattern_rows.specs.Rows.{sequenceBy}
+use Rattle.state.specs.State.{Body}
 
--- `enum_test`; t lies in the tables at entry
-module _ (image : List ℕ) (t : Lent) (c : Counts) (mode : MatchingMode) (p : PatId) (v : ℕ) (current : BasicBlockId) (els : OptBlock) (place : Place) where
-  abbrev Tested : Lowered → Lent → Type 0
+-- `enum_test`; t is the body at entry
+module _ (image : List ℕ) (t : Body) (c : Counts) (mode : MatchingMode) (p : PatId) (v : ℕ) (current : BasicBlockId) (els : OptBlock) (place : Place) where
+  abbrev Tested : Lowered → Body → Type 0
   Tested = Lowers (λ ctx. enumTest image (p .0) v mode ctx current els place) c current els t
 
   abbrev tests : Ctx → Walk Out
@@ -46,7 +47,7 @@ module _ (image : List ℕ) (t : Lent) (c : Counts) (mode : MatchingMode) (p : P
   enum-skips beyond h = lowers-skips (λ ctx. not-in-check mode (tests ctx) (out ctx current els) beyond) h
 
   -- the variant is
-  pub enum-tests : {r : Lowered} {t′ : Lent} → isCheck mode ≡ true → Lowers tests c current els t r t′ → Tested r t′
+  pub enum-tests : {r : Lowered} {t′ : Body} → isCheck mode ≡ true → Lowers tests c current els t r t′ → Tested r t′
   unfolding enumTest
   enum-tests check L = lowers-by (λ ctx. in-check mode (tests ctx) (out ctx current els) check) L
 
@@ -101,13 +102,13 @@ has-rest image rest = by-word (eqb rest 65535)
     by-word true = refl
     by-word false = sym (rest-by (tree image rest))
 
--- `slice_test`, by the type that is read; t lies in the tables at entry
-module _ (image : List ℕ) (t : Lent) (c : Counts) (mode : MatchingMode) (p : PatId) (ty n rest : ℕ) (current : BasicBlockId) (els : OptBlock) (place : Place)
+-- `slice_test`, by the type that is read; t is the body at entry
+module _ (image : List ℕ) (t : Body) (c : Counts) (mode : MatchingMode) (p : PatId) (ty n rest : ℕ) (current : BasicBlockId) (els : OptBlock) (place : Place)
     {row : TypeRow} {kind : TypeKind} (at : row ≡ typeAt image ty) (read : kind ≡ typeKind (row .kind)) where
   abbrev restIs : RestOf
   restIs = restOf (tree? (tree image) rest)
 
-  abbrev Sliced : Lowered → Lent → Type 0
+  abbrev Sliced : Lowered → Body → Type 0
   Sliced = Lowers (λ ctx. sliceTest (tyOf image ty .shape) image (p .0) n restIs mode ctx current els place) c current els t
 
   abbrev measured : Ctx → Walk Out
@@ -134,7 +135,7 @@ module _ (image : List ℕ) (t : Lent) (c : Counts) (mode : MatchingMode) (p : P
   slice-skips is beyond h = lowers-skips (λ ctx. not-in-check mode (measured ctx) (out ctx current els) beyond ∙ by-sequence is ctx) h
 
   -- and in Check
-  pub slice-tests : {b : Bool} {r : Lowered} {t′ : Lent} → Sequence.Slice ≡ sequenceBy kind → isCheck mode ≡ true → b ≡ hasRest restIs →
+  pub slice-tests : {b : Bool} {r : Lowered} {t′ : Body} → Sequence.Slice ≡ sequenceBy kind → isCheck mode ≡ true → b ≡ hasRest restIs →
       Lowers (λ ctx. lengthTestBy b image (p .0) n ctx current els place) c current els t r t′ → Sliced r t′
   slice-tests is check has L =
       lowers-by (λ ctx.

@@ -1,4 +1,5 @@
 // The patterns that have no subpattern, by their kinds.
+use body_tables::BODY_WORDS;
 use image::BindingId;
 use image::PatId;
 use image::Tables;
@@ -7,7 +8,7 @@ use image::kinds::PathKind;
 use image::kinds::pat_kind;
 use image::kinds::path_kind;
 use image::rows::PatRow;
-use lower::merging::OptBlock;
+use lower_spec::merging::OptBlock;
 use mir::BasicBlockId;
 use mir::Counts;
 use pattern_matching::MatchingMode;
@@ -16,9 +17,9 @@ use pattern_parts::bindings::local_path;
 use pattern_ranges::pattern_match_range;
 use pattern_tests::consts::constant_path;
 use pattern_tests::consts::pattern_match_lit;
+use pattern_walk_spec::Lowered;
 use place::Place;
 use refusals::MirLowerError;
-use walks::Lowered;
 ghost use mathlib.Core.Path.{_≡_};
 ghost use mathlib.Core.Bool.{true};
 ghost use Prim.Native.Nat.{_<_};
@@ -27,9 +28,11 @@ ghost use Rattle.image.specs.Tables.{Whole, typeCount, bindingCount};
 ghost use Rattle.image.specs.Kinds.{patKind, pathKind};
 ghost use Rattle.image.specs.Patterns.{pathHolds, patternShapeHolds};
 ghost use Rattle.image.specs.Valid.{valid};
-ghost use Rattle.walks.specs.Answers.{lent, Primed, Begins, Lowers};
+ghost use Rattle.pattern_walk_spec.specs.Answers.{Begins, Lowers};
 ghost use Rattle.pattern_nodes.specs.Leaves.{isLeaf, pathLeaf, leafPattern};
 ghost use Rattle.pattern_leaves.specs.Modes.{otherPath};
+ghost use Rattle.body_tables.specs.Layout.{bodyOf};
+ghost use Rattle.state.specs.Contracts.{Ready};
 
 // A pattern of this kind has no subpattern; a path is told by what it names, and one that names a variant is none.
 pub fn is_leaf(kind: PatKind, path: PathKind) -> bool
@@ -69,10 +72,7 @@ fn path_leaf(
     image: &[u8],
     tables: Tables,
     bindings: &[u16],
-    blocks: &mut [u16],
-    statements: &mut [u16],
-    locals: &mut [u16],
-    entries: &mut [u16],
+    body: &mut [u16; BODY_WORDS],
     counts: Counts,
     mode: MatchingMode,
     p: PatId,
@@ -84,15 +84,15 @@ fn path_leaf(
     place: Place,
 ) -> Lowered
     requires { ⌜ Whole (now image) tables × (pathHolds kind (now image) b ≡ true) × (length (now bindings) ≡ bindingCount (now image)) ⌝ }
-    requires { ⌜ Primed (lent (now blocks) (now statements) (now locals) (now entries)) counts × Begins counts current els ⌝ }
-    ensures { λ r. ⌜ Lowers (λ ctx. pathLeaf kind (now (image .entry)) (now (bindings .entry)) (p .0) ty b mode ctx current els place) counts current els (lent (now (blocks .entry)) (now (statements .entry)) (now (locals .entry)) (now (entries .entry))) r (lent (now (blocks .exit)) (now (statements .exit)) (now (locals .exit)) (now (entries .exit))) ⌝ }
+    requires { ⌜ Ready (bodyOf (now body)) counts × Begins counts current els ⌝ }
+    ensures { λ r. ⌜ Lowers (λ ctx. pathLeaf kind (now (image .entry)) (now (bindings .entry)) (p .0) ty b mode ctx current els place) counts current els (bodyOf (now (body .entry))) r (bodyOf (now (body .exit))) ⌝ }
 {
     match kind {
         PathKind::Unresolved => Lowered::Refused(MirLowerError::UnresolvedName, p),
         PathKind::Variant => Lowered::Refused(MirLowerError::IncompletePattern, p),
         PathKind::Local => local_path(
             bindings,
-            statements,
+            body,
             counts,
             mode,
             p,
@@ -104,10 +104,7 @@ fn path_leaf(
         PathKind::Constant => constant_path(
             image,
             tables,
-            blocks,
-            statements,
-            locals,
-            entries,
+            body,
             counts,
             mode,
             p,
@@ -143,10 +140,7 @@ pub fn pattern_match_leaf(
     image: &[u8],
     tables: Tables,
     bindings: &[u16],
-    blocks: &mut [u16],
-    statements: &mut [u16],
-    locals: &mut [u16],
-    entries: &mut [u16],
+    body: &mut [u16; BODY_WORDS],
     counts: Counts,
     mode: MatchingMode,
     p: PatId,
@@ -156,8 +150,8 @@ pub fn pattern_match_leaf(
     place: Place,
 ) -> Lowered
     requires { ⌜ (valid (now image) ≡ true) × Whole (now image) tables × (row .ty < typeCount (now image)) × (patternShapeHolds (patKind (row .kind)) (now image) row ≡ true) × (length (now bindings) ≡ bindingCount (now image)) ⌝ }
-    requires { ⌜ Primed (lent (now blocks) (now statements) (now locals) (now entries)) counts × Begins counts current els ⌝ }
-    ensures { λ r. ⌜ Lowers (λ ctx. leafPattern (patKind (row .kind)) (now (image .entry)) (now (bindings .entry)) (p .0) row mode ctx current els place) counts current els (lent (now (blocks .entry)) (now (statements .entry)) (now (locals .entry)) (now (entries .entry))) r (lent (now (blocks .exit)) (now (statements .exit)) (now (locals .exit)) (now (entries .exit))) ⌝ }
+    requires { ⌜ Ready (bodyOf (now body)) counts × Begins counts current els ⌝ }
+    ensures { λ r. ⌜ Lowers (λ ctx. leafPattern (patKind (row .kind)) (now (image .entry)) (now (bindings .entry)) (p .0) row mode ctx current els place) counts current els (bodyOf (now (body .entry))) r (bodyOf (now (body .exit))) ⌝ }
 {
     match pat_kind(row.kind) {
         PatKind::Missing => Lowered::Refused(MirLowerError::IncompletePattern, p),
@@ -170,10 +164,7 @@ pub fn pattern_match_leaf(
         PatKind::Range => pattern_match_range(
             image,
             tables,
-            blocks,
-            statements,
-            locals,
-            entries,
+            body,
             counts,
             mode,
             p,
@@ -190,10 +181,7 @@ pub fn pattern_match_leaf(
             image,
             tables,
             bindings,
-            blocks,
-            statements,
-            locals,
-            entries,
+            body,
             counts,
             mode,
             p,
@@ -207,10 +195,7 @@ pub fn pattern_match_leaf(
         PatKind::Lit => pattern_match_lit(
             image,
             tables,
-            blocks,
-            statements,
-            locals,
-            entries,
+            body,
             counts,
             mode,
             p,

@@ -1,17 +1,18 @@
 // What a pattern with subpatterns does itself: an enum's and a slice's test in Check, a binding and the end of alternatives beyond it.
+use body_tables::BODY_WORDS;
+use body_tables::blocks::set_goto;
+use body_tables::blocks::set_terminator;
 use image::BindingId;
 use image::PatId;
 use image::Tables;
 use image::kinds::BindingMode;
 use image::kinds::type_kind;
 use image::rows::type_at;
-use lower::merging::OptBlock;
+use lower_spec::merging::OptBlock;
 use mir::BasicBlockId;
 use mir::Counts;
 use mir::blocks::NewBlock;
 use mir::blocks::Terminator;
-use mir::blocks::set_goto;
-use mir::blocks::set_terminator;
 use pattern_matching::MatchingMode;
 use pattern_matching::is_check;
 use pattern_parts::bindings::pattern_match_binding;
@@ -20,9 +21,9 @@ use pattern_rows::sequence_of;
 use pattern_switching::else_block;
 use pattern_tests::discriminants::discriminant_test;
 use pattern_tests::lengths::length_test;
+use pattern_walk_spec::Lowered;
 use place::Place;
 use refusals::MirLowerError;
-use walks::Lowered;
 ghost use mathlib.Core.Path.{_≡_};
 ghost use mathlib.Core.Bool.{true};
 ghost use Prim.Native.Nat.{_<_, _≤_};
@@ -32,19 +33,16 @@ ghost use Rattle.image.specs.Types.{tyOf};
 ghost use Rattle.image.specs.Tree.{tree, tree?};
 ghost use Rattle.pattern_matching.specs.Patterns.{restOf};
 ghost use Rattle.image.specs.Valid.{valid};
-ghost use Rattle.pattern_parts.specs.Parts.{Fills};
-ghost use Rattle.walks.specs.Answers.{lent, Primed, Begins, Lowers};
+ghost use Rattle.pattern_walk_spec.specs.Answers.{Begins, Lowers, Ends};
 ghost use Rattle.pattern_nodes.specs.Modes.{enumTest, sliceTest, bound, alternativesLeft};
-ghost use Rattle.pattern_leaves.specs.Modes.{Ends};
+ghost use Rattle.body_tables.specs.Layout.{bodyOf};
+ghost use Rattle.state.specs.Contracts.{Ready};
 
 // In Check what lies at the place is tested to have the variant v.
 pub fn enum_test(
     image: &[u8],
     tables: Tables,
-    blocks: &mut [u16],
-    statements: &mut [u16],
-    locals: &mut [u16],
-    entries: &mut [u16],
+    body: &mut [u16; BODY_WORDS],
     counts: Counts,
     mode: MatchingMode,
     p: PatId,
@@ -54,36 +52,20 @@ pub fn enum_test(
     place: Place,
 ) -> Lowered
     requires { ⌜ (valid (now image) ≡ true) × Whole (now image) tables × (v < variantCount (now image)) ⌝ }
-    requires { ⌜ Primed (lent (now blocks) (now statements) (now locals) (now entries)) counts × Begins counts current els ⌝ }
-    ensures { λ r. ⌜ Lowers (λ ctx. enumTest (now (image .entry)) (p .0) v mode ctx current els place) counts current els (lent (now (blocks .entry)) (now (statements .entry)) (now (locals .entry)) (now (entries .entry))) r (lent (now (blocks .exit)) (now (statements .exit)) (now (locals .exit)) (now (entries .exit))) ⌝ }
+    requires { ⌜ Ready (bodyOf (now body)) counts × Begins counts current els ⌝ }
+    ensures { λ r. ⌜ Lowers (λ ctx. enumTest (now (image .entry)) (p .0) v mode ctx current els place) counts current els (bodyOf (now (body .entry))) r (bodyOf (now (body .exit))) ⌝ }
 {
     if !is_check(mode) {
         return Lowered::Done(counts, current, els);
     }
-    discriminant_test(
-        image,
-        tables,
-        blocks,
-        statements,
-        locals,
-        entries,
-        counts,
-        p,
-        v,
-        current,
-        els,
-        place,
-    )
+    discriminant_test(image, tables, body, counts, p, v, current, els, place)
 }
 
 // A Slice pattern of the type ty, which has n items besides the pattern `rest`, if there is one: in Check a slice's length is tested, an array's never; any other type is refused.
 pub fn slice_test(
     image: &[u8],
     tables: Tables,
-    blocks: &mut [u16],
-    statements: &mut [u16],
-    locals: &mut [u16],
-    entries: &mut [u16],
+    body: &mut [u16; BODY_WORDS],
     counts: Counts,
     mode: MatchingMode,
     p: PatId,
@@ -95,8 +77,8 @@ pub fn slice_test(
     place: Place,
 ) -> Lowered
     requires { ⌜ Whole (now image) tables × (ty < typeCount (now image)) ⌝ }
-    requires { ⌜ Primed (lent (now blocks) (now statements) (now locals) (now entries)) counts × Begins counts current els ⌝ }
-    ensures { λ r. ⌜ Lowers (λ ctx. sliceTest (tyOf (now (image .entry)) ty .shape) (now (image .entry)) (p .0) n (restOf (tree? (tree (now (image .entry))) rest)) mode ctx current els place) counts current els (lent (now (blocks .entry)) (now (statements .entry)) (now (locals .entry)) (now (entries .entry))) r (lent (now (blocks .exit)) (now (statements .exit)) (now (locals .exit)) (now (entries .exit))) ⌝ }
+    requires { ⌜ Ready (bodyOf (now body)) counts × Begins counts current els ⌝ }
+    ensures { λ r. ⌜ Lowers (λ ctx. sliceTest (tyOf (now (image .entry)) ty .shape) (now (image .entry)) (p .0) n (restOf (tree? (tree (now (image .entry))) rest)) mode ctx current els place) counts current els (bodyOf (now (body .entry))) r (bodyOf (now (body .exit))) ⌝ }
 {
     match sequence_of(type_kind(type_at(image, tables, ty).kind)) {
         Sequence::Other => Lowered::Refused(MirLowerError::TypeError(2), p),
@@ -108,10 +90,7 @@ pub fn slice_test(
             length_test(
                 image,
                 tables,
-                blocks,
-                statements,
-                locals,
-                entries,
+                body,
                 counts,
                 p,
                 n,
@@ -127,8 +106,7 @@ pub fn slice_test(
 // Beyond Check the binding b is filled.
 pub fn bind(
     bindings: &[u16],
-    statements: &mut [u16],
-    entries: &mut [u16],
+    body: &mut [u16; BODY_WORDS],
     counts: Counts,
     mode: MatchingMode,
     p: PatId,
@@ -138,31 +116,19 @@ pub fn bind(
     els: OptBlock,
     place: Place,
 ) -> Lowered
-    requires { ⌜ (b .0 < length (now bindings)) × (length (now statements) ≡ 50176) × (length (now entries) ≡ 1024) × Begins counts current els ⌝ }
-    ensures { λ r. ⌜ Fills (λ ctx. bound (now (bindings .entry)) (p .0) (b .0) how mode ctx current els place) counts current els (now (statements .entry)) (now (entries .entry)) r (now (statements .exit)) (now (entries .exit)) ⌝ }
+    requires { ⌜ (b .0 < length (now bindings)) × Ready (bodyOf (now body)) counts × Begins counts current els ⌝ }
+    ensures { λ r. ⌜ Lowers (λ ctx. bound (now (bindings .entry)) (p .0) (b .0) how mode ctx current els place) counts current els (bodyOf (now (body .entry))) r (bodyOf (now (body .exit))) ⌝ }
 {
     if is_check(mode) {
         return Lowered::Done(counts, current, els);
     }
-    pattern_match_binding(
-        bindings,
-        statements,
-        entries,
-        counts,
-        p,
-        p,
-        b,
-        how,
-        current,
-        els,
-        place,
-    )
+    pattern_match_binding(bindings, body, counts, p, p, b, how, current, els, place)
 }
 
 // All alternatives can fail, and `left` is where the last of them does not match: it goes on at the else in Check, and cannot be reached beyond it. What matched
 // goes on at `join`.
 pub fn alternatives_end(
-    blocks: &mut [u16],
+    body: &mut [u16; BODY_WORDS],
     counts: Counts,
     mode: MatchingMode,
     p: PatId,
@@ -170,17 +136,17 @@ pub fn alternatives_end(
     join: BasicBlockId,
     els: OptBlock,
 ) -> Lowered
-    requires { ⌜ (length (now blocks) ≡ 6144) × (counts .blocks ≤ 512) × Begins counts left els × (join .0 < counts .blocks) ⌝ }
-    ensures { λ r. ⌜ Ends (λ ctx. alternativesLeft (p .0) mode ctx left join els) counts left join els (now (blocks .entry)) r (now (blocks .exit)) ⌝ }
+    requires { ⌜ (counts .blocks ≤ 512) × Begins counts left els × (join .0 < counts .blocks) ⌝ }
+    ensures { λ r. ⌜ Ends (λ ctx. alternativesLeft (p .0) mode ctx left join els) counts left join els (bodyOf (now (body .entry))) r (bodyOf (now (body .exit))) ⌝ }
 {
     if !is_check(mode) {
-        set_terminator(blocks, left, Terminator::Unreachable);
+        set_terminator(body, left, Terminator::Unreachable);
         return Lowered::Done(counts, join, els);
     }
     match else_block(counts, els) {
         NewBlock::Full => Lowered::Refused(MirLowerError::Limit, p),
         NewBlock::Block(c1, other) => {
-            set_goto(blocks, left, other);
+            set_goto(body, left, other);
             Lowered::Done(c1, join, OptBlock::Some(other))
         }
     }

@@ -15,8 +15,8 @@ use Rattle.mir.specs.declared.BasicBlockId.{BasicBlockId}
 use Rattle.mir.specs.declared.blocks.Terminator.{Terminator}
 use Rattle.mir.specs.declared.rvalues.BinOp.{BinOp}
 use Rattle.state.specs.Steps.{nextBlock, tryBlock, setTerminator}
-use Rattle.lower.specs.declared.merging.OptBlock.{OptBlock}
-use Rattle.lower.specs.Merging.{setGoto}
+use Rattle.lower_spec.specs.declared.merging.OptBlock.{OptBlock}
+use Rattle.lower_spec.specs.Merging.{setGoto}
 use Rattle.pattern_matching.specs.declared.MatchingMode.{MatchingMode}
 use Rattle.pattern_matching.specs.Walking.{Ctx, Out, Walk, ok, refused, Lowering, next, step, out, withState, localPlace, elseState, elseBlock, entered, inCheck}
 use Rattle.pattern_matching.specs.Tests.{litBy, constantPath, rangeEnd?, patternMatchBinding, localPath}

@@ -18,8 +18,8 @@ use Rattle.mir.specs.declared.rvalues.PlaceRvalue.{PlaceRvalue}
 use Rattle.mir.specs.Rvalues.{placeRvalueRow}
 use Rattle.state.specs.State.{State}
 use Rattle.state.specs.Steps.{nextBlock, nextLocal, tryBlock, tryStatement, setTerminator}
-use Rattle.lower.specs.declared.merging.OptBlock.{OptBlock}
-use Rattle.lower.specs.Temps.{temp}
+use Rattle.lower_spec.specs.declared.merging.OptBlock.{OptBlock}
+use Rattle.lower_spec.specs.Temps.{temp}
 use Rattle.pattern_matching.specs.Walking.{Ctx, Out, Walk, refused, Lowering, next, step, out, withState, project, localPlace, elseState, elseBlock, inCheck}
 use Rattle.pattern_matching.specs.Tests.{usizeWord, compare, patternMatchBinding}
 use Rattle.pattern_matching.specs.Variants.{patternMatchAdt}

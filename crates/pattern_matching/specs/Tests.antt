@@ -18,8 +18,8 @@ use Rattle.mir.specs.Rvalues.{placeRvalueRow, constantRow, binaryRow}
 use Rattle.state.specs.State.{State}
 use Rattle.state.specs.Steps.{nextBlock, nextLocal, tryBlock, tryStatement, setTerminator}
 use Rattle.literals.specs.Literals.{lowerLiteralToOperand, lowerConstToOperand, lowerLiteralOrConstToOperand}
-use Rattle.lower.specs.declared.merging.OptBlock.{OptBlock}
-use Rattle.lower.specs.Temps.{temp, bindingLocal, pushStorageLiveForLocal}
+use Rattle.lower_spec.specs.declared.merging.OptBlock.{OptBlock}
+use Rattle.lower_spec.specs.Temps.{temp, bindingLocal, pushStorageLiveForLocal}
 use Rattle.pattern_matching.specs.declared.MatchingMode.{MatchingMode}
 use Rattle.pattern_matching.specs.Walking.{Ctx, Out, Walk, refused, Lowering, step, out, withState, elseState, elseBlock, inCheck}
 

@@ -14,7 +14,7 @@ use Rattle.place.specs.Places.{onward}
 use Rattle.mir.specs.declared.BasicBlockId.{BasicBlockId}
 use Rattle.state.specs.State.{State}
 use Rattle.state.specs.Steps.{nextBlock, tryBlock}
-use Rattle.lower.specs.declared.merging.OptBlock.{OptBlock}
+use Rattle.lower_spec.specs.declared.merging.OptBlock.{OptBlock}
 use Rattle.pattern_matching.specs.declared.MatchingMode.{MatchingMode}
 
 -- what the walk carries along: the body and its scopes, and how often each pattern was visited, by its number

@@ -9,8 +9,8 @@ use Rattle.image.specs.Tree.{tree, trees}
 use Rattle.place.specs.declared.Place.{Place}
 use Rattle.mir.specs.declared.BasicBlockId.{BasicBlockId}
 use Rattle.state.specs.Steps.{nextBlock, tryBlock}
-use Rattle.lower.specs.declared.merging.OptBlock.{OptBlock}
-use Rattle.lower.specs.Merging.{setGoto}
+use Rattle.lower_spec.specs.declared.merging.OptBlock.{OptBlock}
+use Rattle.lower_spec.specs.Merging.{setGoto}
 use Rattle.pattern_matching.specs.declared.MatchingMode.{MatchingMode}
 use Rattle.pattern_matching.specs.Walking.{Ctx, Out, Walk, ok, refused, next, step, out, withState}
 use Rattle.pattern_matching.specs.Patterns.{Alternatives, behind, alternative, alternatives, alternativesEnd, orPattern, patternMatchInner, lowerings}

@@ -5,7 +5,7 @@ use Rattle.image.specs.declared.kinds.BindingMode.{BindingMode}
 use Rattle.image.specs.Types.{Shape, integer, bool, char, str, tuple, adt, reference, array, slice, unknown}
 use Rattle.refusals.specs.declared.MirLowerError.{MirLowerError}
 use Rattle.mir.specs.declared.BasicBlockId.{BasicBlockId}
-use Rattle.lower.specs.declared.merging.OptBlock.{OptBlock}
+use Rattle.lower_spec.specs.declared.merging.OptBlock.{OptBlock}
 use Rattle.pattern_matching.specs.declared.MatchingMode.{MatchingMode}
 use Rattle.pattern_matching.specs.Walking.{Ctx, Out, Walk, refused, Lowering, out, inCheck}
 use Rattle.pattern_matching.specs.Tests.{patternMatchBinding}

@@ -8,7 +8,7 @@ use Rattle.image.specs.Types.{tyOf}
 use Rattle.image.specs.Tree.{tree, tree?, word?, target}
 use Rattle.place.specs.declared.Place.{Place}
 use Rattle.mir.specs.declared.BasicBlockId.{BasicBlockId}
-use Rattle.lower.specs.declared.merging.OptBlock.{OptBlock}
+use Rattle.lower_spec.specs.declared.merging.OptBlock.{OptBlock}
 use Rattle.pattern_matching.specs.declared.MatchingMode.{MatchingMode}
 use Rattle.pattern_matching.specs.Walking.{Ctx, Out, Walk, Lowering, next}
 use Rattle.pattern_matching.specs.Variants.{patternMatchAdt, tuplePattern, refPattern, variantPattern}

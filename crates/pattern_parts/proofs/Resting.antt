@@ -22,16 +22,17 @@ use Rattle.image.proofs.Trees.{tree-node}
 use Rattle.place.specs.declared.Place.{Place}
 use Rattle.mir.specs.declared.BasicBlockId.{BasicBlockId}
 use Rattle.mir.specs.declared.Counts.{Counts}
-use Rattle.lower.specs.declared.merging.OptBlock.{OptBlock}
+use Rattle.state.specs.State.{Body}
+use Rattle.lower_spec.specs.declared.merging.OptBlock.{OptBlock}
 use Rattle.pattern_matching.specs.declared.MatchingMode.{MatchingMode}
 use Rattle.pattern_matching.specs.Modes.{isCheck}
 use Rattle.pattern_matching.specs.Walking.{Ctx, Out, Walk, out}
 use Rattle.pattern_matching.specs.Slices.{RestOf, restBound}
 use Rattle.pattern_matching.specs.Patterns.{restBy, restOf}
-use Rattle.walks.specs.declared.Lowered.{Lowered}
-use Rattle.walks.specs.Answers.{Begins}
-use Rattle.walks.proofs.Sequences.{lowers-skips, lowers-by}
-use Rattle.pattern_parts.specs.Parts.{isBind, restFilled, Fills}
+use Rattle.pattern_walk_spec.specs.declared.Lowered.{Lowered}
+use Rattle.pattern_walk_spec.specs.Answers.{Begins, Lowers}
+use Rattle.pattern_walk_spec.proofs.Sequences.{lowers-skips, lowers-by}
+use Rattle.pattern_parts.specs.Parts.{isBind, restFilled}
 
 -- a rest that is there
 pub rest-there : (rest n : ℕ) → eqb rest 65535 || ltb rest n ≡ true → (rest ≡ 65535 → ⊥) → rest < n
@@ -97,22 +98,22 @@ module _ (image : List ℕ) (rest : ℕ) (v : valid image ≡ true) (there : res
   unfolding restOf tree? node
   rest-is present = rw (ne-eqb rest 65535 present, tree-node image rest v there, at) (node-rest (patKind (patAt image rest .kind)) (tree image) image _ (patAt image rest))
 
--- `rest_bound`: s₀ and e₀ are the tables at entry
-module _ (image bindings s₀ e₀ : List ℕ) (c : Counts) (mode : MatchingMode) (p : PatId) (rest front end : ℕ) (current : BasicBlockId) (els : OptBlock) (place : Place) where
+-- `rest_bound`: b₀ is the body at entry
+module _ (image bindings : List ℕ) (b₀ : Body) (c : Counts) (mode : MatchingMode) (p : PatId) (rest front end : ℕ) (current : BasicBlockId) (els : OptBlock) (place : Place) where
   abbrev by : RestOf → Ctx → Walk Out
   by x ctx = restBound x bindings (p .0) front end mode ctx current els place
 
-  abbrev Bound : Lowered → List ℕ → List ℕ → Type 0
-  Bound = Fills (by (restOf (tree? (tree image) rest))) c current els s₀ e₀
+  abbrev Bound : Lowered → Body → Type 0
+  Bound = Lowers (by (restOf (tree? (tree image) rest))) c current els b₀
 
   -- there is no rest
-  pub rest-none : Begins c current els → rest ≡ 65535 → Bound (Lowered.Done c current els) s₀ e₀
+  pub rest-none : Begins c current els → rest ≡ 65535 → Bound (Lowered.Done c current els) b₀
   unfolding restOf tree? restBound
-  rest-none start e bl lo P = lowers-skips (λ ctx. rw (eq-eqb rest 65535 e) refl) start
+  rest-none start e = lowers-skips (λ ctx. rw (eq-eqb rest 65535 e) refl) start
 
   -- in Check
-  pub rest-in-check : Begins c current els → isCheck mode ≡ true → Bound (Lowered.Done c current els) s₀ e₀
-  rest-in-check start e bl lo P = lowers-skips (λ ctx. same mode e (restOf (tree? (tree image) rest)) ctx) start
+  pub rest-in-check : Begins c current els → isCheck mode ≡ true → Bound (Lowered.Done c current els) b₀
+  rest-in-check start e = lowers-skips (λ ctx. same mode e (restOf (tree? (tree image) rest)) ctx) start
     where
       same : (mode : MatchingMode) → isCheck mode ≡ true → (x : RestOf) (ctx : Ctx) → out ctx current els ≡ restBound x bindings (p .0) front end mode ctx current els place
       same MatchingMode.Check e RestOf.none ctx = unfold restBound in refl
@@ -123,15 +124,15 @@ module _ (image bindings s₀ e₀ : List ℕ) (c : Counts) (mode : MatchingMode
 
   module _ (v : valid image ≡ true) (there : rest < patternCount image) (present : rest ≡ 65535 → ⊥) {row : PatRow} (at : row ≡ patAt image rest) where
     -- a rest that does not bind
-    pub rest-ignored : Begins c current els → isBind (patKind (row .kind)) ≡ false → Bound (Lowered.Done c current els) s₀ e₀
+    pub rest-ignored : Begins c current els → isBind (patKind (row .kind)) ≡ false → Bound (Lowered.Done c current els) b₀
     unfolding restBound
-    rest-ignored start e bl lo P = lowers-skips (λ ctx. rw (rest-is image rest v there at present, e) refl) start
+    rest-ignored start e = lowers-skips (λ ctx. rw (rest-is image rest v there at present, e) refl) start
 
     -- beyond Check, a rest that binds
-    pub rest-binds : {how : BindingMode} {r : Lowered} {s e : List ℕ} → isCheck mode ≡ false → isBind (patKind (row .kind)) ≡ true → how ≡ bindingMode (row .c) →
-        Fills (λ ctx. restFilled bindings (p .0) rest (row .a) how front end ctx current els place) c current els s₀ e₀ r s e → Bound r s e
-    rest-binds {how = how} beyond e same F bl lo P =
-        lowers-by (λ ctx. filled mode beyond how ctx ∙ ap (λ (x : RestOf). by x ctx) (ap (RestOf.binds rest (row .a)) same ∙ sym is)) (F bl lo P)
+    pub rest-binds : {how : BindingMode} {r : Lowered} {b₁ : Body} → isCheck mode ≡ false → isBind (patKind (row .kind)) ≡ true → how ≡ bindingMode (row .c) →
+        Lowers (λ ctx. restFilled bindings (p .0) rest (row .a) how front end ctx current els place) c current els b₀ r b₁ → Bound r b₁
+    rest-binds {how = how} beyond e same F =
+        lowers-by (λ ctx. filled mode beyond how ctx ∙ ap (λ (x : RestOf). by x ctx) (ap (RestOf.binds rest (row .a)) same ∙ sym is)) F
       where
         is : restOf (tree? (tree image) rest) ≡ RestOf.binds rest (row .a) (bindingMode (row .c))
         is = rest-is image rest v there at present ∙ rw e refl

@@ -1,4 +1,4 @@
--- What a walk does besides testing, cut where the code is cut, and what the functions promise. Assumes nothing: these are definitions.
+-- What a walk does besides testing, cut where the code is cut. Assumes nothing: these are definitions.
 use Prim.Native.Nat.{ℕ}
 use mathlib.Core.Bool.{Bool, true, false, cond}
 use mathlib.Core.Option.{Option, none, some}
@@ -17,12 +17,9 @@ use Rattle.place.specs.declared.Place.{Place}
 use Rattle.place.specs.declared.elems.ProjectionElem.{ProjectionElem}
 use Rattle.place.specs.declared.place_ty.PlaceTy.{PlaceTy}
 use Rattle.mir.specs.declared.BasicBlockId.{BasicBlockId}
-use Rattle.mir.specs.declared.Counts.{Counts}
-use Rattle.lower.specs.declared.merging.OptBlock.{OptBlock}
+use Rattle.lower_spec.specs.declared.merging.OptBlock.{OptBlock}
 use Rattle.pattern_matching.specs.Walking.{Ctx, Out, Walk, step, project}
 use Rattle.pattern_matching.specs.Tests.{patternMatchBinding}
-use Rattle.walks.specs.declared.Lowered.{Lowered}
-use Rattle.walks.specs.Answers.{lent, Primed, Lowers}
 use Rattle.pattern_parts.specs.declared.adts.NeededTy.{NeededTy}
 use Rattle.pattern_parts.specs.declared.adts.TupleAt.{TupleAt}
 use Rattle.pattern_parts.specs.declared.adts.ReferenceAt.{ReferenceAt}
@@ -133,14 +130,3 @@ isBind PatKind.Unknown = false
 unfoldable pub restFilled : List ℕ → ℕ → ℕ → ℕ → BindingMode → ℕ → ℕ → Ctx → BasicBlockId → OptBlock → Place → Walk Out
 restFilled bindings p q b how front end ctx current els place =
     step p (project place (ProjectionElem.Subslice front end)) (λ part. patternMatchBinding bindings p q b how ctx current els part)
-
--- what a step of the walk that touches the statements alone promises, whatever lies in the other tables
-abbrev pub Assigns : (Ctx → Walk Out) → Counts → BasicBlockId → OptBlock → List ℕ → Lowered → List ℕ → Type 0
-Assigns defined c current els statements₀ r statements =
-    (blocks locals entries : List ℕ) → Lowers defined c current els (lent blocks statements₀ locals entries) r (lent blocks statements locals entries)
-
--- the same for one that touches the statements and the entries, where the tables are ready
-abbrev pub Fills : (Ctx → Walk Out) → Counts → BasicBlockId → OptBlock → List ℕ → List ℕ → Lowered → List ℕ → List ℕ → Type 0
-Fills defined c current els statements₀ entries₀ r statements entries =
-    (blocks locals : List ℕ) → Primed (lent blocks statements₀ locals entries₀) c →
-    Lowers defined c current els (lent blocks statements₀ locals entries₀) r (lent blocks statements locals entries)

@@ -1,4 +1,6 @@
 // The type at a place, as tuples, references and variants need it.
+use body_tables::BODY_WORDS;
+use body_tables::locals::local_word;
 use image::Tables;
 use image::kinds::AdtKind;
 use image::kinds::TypeKind;
@@ -6,7 +8,7 @@ use image::kinds::adt_kind;
 use image::kinds::type_kind;
 use image::rows::list_at;
 use image::rows::type_at;
-use mir::locals::local_ty;
+use mir::locals::word_ty;
 use place::Place;
 use place::place_ty::PlaceTy;
 use place::place_ty::multi_projection_ty;
@@ -14,13 +16,14 @@ use refusals::MirLowerError;
 ghost use mathlib.Core.Path.{_≡_};
 ghost use mathlib.Core.Bool.{true};
 ghost use Prim.Native.Nat.{_+_, _*_, _<_, _≤_};
-ghost use lib.ListN.{length, getD};
+ghost use lib.ListN.{getD};
 ghost use Rattle.image.specs.Tables.{Whole, listCount};
 ghost use Rattle.image.specs.Lists.{upFrom};
 ghost use Rattle.image.specs.Valid.{valid};
 ghost use Rattle.place.specs.Places.{projectionOf};
 ghost use Rattle.place.specs.PlaceTypes.{multiProjectionTy, Named};
 ghost use Rattle.mir.specs.Locals.{localTy};
+ghost use Rattle.body_tables.specs.Layout.{bodyOf};
 ghost use Rattle.pattern_matching.specs.Variants.{shapeOf};
 ghost use Rattle.pattern_parts.specs.Parts.{neededTy, tupleAt, tupleResult, referenceAt, referenceResult, adtHas, adtAt, adtResult, fieldsThere};
 
@@ -50,12 +53,12 @@ pub enum AdtAt {
 }
 
 // The type at the end of a place.
-pub fn place_ty(image: &[u8], tables: Tables, locals: &[u16], place: Place) -> PlaceTy
-    requires { ⌜ (valid (now image) ≡ true) × Whole (now image) tables × (length (now locals) ≡ 512) × (place .local .0 < 512) × (place .len ≤ 16) ⌝ }
-    requires { ⌜ Named (now image) (localTy (getD (now locals) (place .local .0) 0)) ⌝ }
-    ensures { λ r. ⌜ (r ≡ multiProjectionTy (now (image .entry)) (localTy (getD (now (locals .entry)) (place .local .0) 0)) (projectionOf place)) × Named (now (image .entry)) r ⌝ }
+pub fn place_ty(image: &[u8], tables: Tables, body: &[u16; BODY_WORDS], place: Place) -> PlaceTy
+    requires { ⌜ (valid (now image) ≡ true) × Whole (now image) tables × (place .local .0 < 512) × (place .len ≤ 16) ⌝ }
+    requires { ⌜ Named (now image) (localTy (getD (bodyOf (now body) .locals) (place .local .0) 0)) ⌝ }
+    ensures { λ r. ⌜ (r ≡ multiProjectionTy (now (image .entry)) (localTy (getD (bodyOf (now (body .entry)) .locals) (place .local .0) 0)) (projectionOf place)) × Named (now (image .entry)) r ⌝ }
 {
-    multi_projection_ty(image, tables, local_ty(locals, place.local), place)
+    multi_projection_ty(image, tables, word_ty(local_word(body, place.local)), place)
 }
 
 fn needed_ty(ty: PlaceTy) -> NeededTy

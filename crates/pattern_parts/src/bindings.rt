@@ -1,4 +1,8 @@
 // What bindings are filled with.
+use body_assignments::push_assignment;
+use body_lowering::temps::binding_local;
+use body_lowering::temps::push_storage_live_for_local;
+use body_tables::BODY_WORDS;
 use image::BindingId;
 use image::PatId;
 use image::Tables;
@@ -7,23 +11,20 @@ use image::kinds::PatKind;
 use image::kinds::binding_mode;
 use image::kinds::pat_kind;
 use image::rows::pat_at;
-use lower::merging::OptBlock;
-use lower::temps::BoundLocal;
-use lower::temps::binding_local;
-use lower::temps::push_storage_live_for_local;
+use lower_spec::merging::OptBlock;
+use lower_spec::temps::BoundLocal;
 use mir::BasicBlockId;
 use mir::Counts;
 use mir::rvalues::PlaceRvalue;
-use mir::rvalues::push_assignment;
 use mir::scopes::Counted;
 use pattern_matching::MatchingMode;
 use pattern_matching::is_check;
+use pattern_walk_spec::Lowered;
 use place::Place;
 use place::elems::ProjectionElem;
 use place::project;
 use refusals::MirLowerError;
 use state::Stepped;
-use walks::Lowered;
 ghost use mathlib.Core.Path.{_≡_};
 ghost use mathlib.Core.Bool.{true, _||_};
 ghost use Prim.Native.Nat.{_<_};
@@ -35,8 +36,10 @@ ghost use Rattle.image.specs.Tree.{tree, tree?};
 ghost use Rattle.pattern_matching.specs.Tests.{bindingRvalue, patternMatchBinding, localPath};
 ghost use Rattle.pattern_matching.specs.Slices.{restBound};
 ghost use Rattle.pattern_matching.specs.Patterns.{restOf};
-ghost use Rattle.walks.specs.Answers.{Begins};
-ghost use Rattle.pattern_parts.specs.Parts.{isBind, restFilled, Assigns, Fills};
+ghost use Rattle.pattern_walk_spec.specs.Answers.{Begins, Lowers};
+ghost use Rattle.pattern_parts.specs.Parts.{isBind, restFilled};
+ghost use Rattle.state.specs.Contracts.{Ready};
+ghost use Rattle.body_tables.specs.Layout.{bodyOf};
 
 fn binding_rvalue(how: BindingMode) -> PlaceRvalue
     ensures { λ r. ⌜ r ≡ bindingRvalue how ⌝ }
@@ -52,8 +55,7 @@ fn binding_rvalue(how: BindingMode) -> PlaceRvalue
 // The local of the binding b, which is looked up for the pattern q, is made live and filled, while p is visited.
 pub fn pattern_match_binding(
     bindings: &[u16],
-    statements: &mut [u16],
-    entries: &mut [u16],
+    body: &mut [u16; BODY_WORDS],
     counts: Counts,
     p: PatId,
     q: PatId,
@@ -63,21 +65,15 @@ pub fn pattern_match_binding(
     els: OptBlock,
     place: Place,
 ) -> Lowered
-    requires { ⌜ (b .0 < length (now bindings)) × (length (now statements) ≡ 50176) × (length (now entries) ≡ 1024) × Begins counts current els ⌝ }
-    ensures { λ r. ⌜ Fills (λ ctx. patternMatchBinding (now (bindings .entry)) (p .0) (q .0) (b .0) how ctx current els place) counts current els (now (statements .entry)) (now (entries .entry)) r (now (statements .exit)) (now (entries .exit)) ⌝ }
+    requires { ⌜ (b .0 < length (now bindings)) × Ready (bodyOf (now body)) counts × Begins counts current els ⌝ }
+    ensures { λ r. ⌜ Lowers (λ ctx. patternMatchBinding (now (bindings .entry)) (p .0) (q .0) (b .0) how ctx current els place) counts current els (bodyOf (now (body .entry))) r (bodyOf (now (body .exit))) ⌝ }
 {
     match binding_local(bindings, b) {
         BoundLocal::Refused(e) => Lowered::Refused(e, q),
-        BoundLocal::Local(l) => match push_storage_live_for_local(
-            statements,
-            entries,
-            counts,
-            l,
-            current,
-        ) {
+        BoundLocal::Local(l) => match push_storage_live_for_local(body, counts, l, current) {
             Stepped::Refused(e) => Lowered::Refused(e, p),
             Stepped::Now(c1) => match push_assignment(
-                statements,
+                body,
                 c1,
                 current,
                 l,
@@ -94,7 +90,7 @@ pub fn pattern_match_binding(
 // A path that names the local of the binding b: assigned to in Assign, refused in Check, and nothing in Bind.
 pub fn local_path(
     bindings: &[u16],
-    statements: &mut [u16],
+    body: &mut [u16; BODY_WORDS],
     counts: Counts,
     mode: MatchingMode,
     p: PatId,
@@ -103,8 +99,8 @@ pub fn local_path(
     els: OptBlock,
     place: Place,
 ) -> Lowered
-    requires { ⌜ (b .0 < length (now bindings)) × (length (now statements) ≡ 50176) × Begins counts current els ⌝ }
-    ensures { λ r. ⌜ Assigns (λ ctx. localPath (now (bindings .entry)) (p .0) (b .0) mode ctx current els place) counts current els (now (statements .entry)) r (now (statements .exit)) ⌝ }
+    requires { ⌜ (b .0 < length (now bindings)) × Begins counts current els ⌝ }
+    ensures { λ r. ⌜ Lowers (λ ctx. localPath (now (bindings .entry)) (p .0) (b .0) mode ctx current els place) counts current els (bodyOf (now (body .entry))) r (bodyOf (now (body .exit))) ⌝ }
 {
     match mode {
         MatchingMode::Check => Lowered::Refused(MirLowerError::NotSupported, p),
@@ -112,7 +108,7 @@ pub fn local_path(
         MatchingMode::Assign => match binding_local(bindings, b) {
             BoundLocal::Refused(e) => Lowered::Refused(e, p),
             BoundLocal::Local(l) => match push_assignment(
-                statements,
+                body,
                 counts,
                 current,
                 l,
@@ -154,8 +150,7 @@ pub fn is_bind(kind: PatKind) -> bool
 // A rest is filled: the pattern `rest`, which binds b, with what lies between so many items in front and so many at the end.
 fn fill_rest(
     bindings: &[u16],
-    statements: &mut [u16],
-    entries: &mut [u16],
+    body: &mut [u16; BODY_WORDS],
     counts: Counts,
     p: PatId,
     rest: PatId,
@@ -167,8 +162,8 @@ fn fill_rest(
     els: OptBlock,
     place: Place,
 ) -> Lowered
-    requires { ⌜ (b .0 < length (now bindings)) × (end < 8192) × (length (now statements) ≡ 50176) × (length (now entries) ≡ 1024) × Begins counts current els ⌝ }
-    ensures { λ r. ⌜ Fills (λ ctx. restFilled (now (bindings .entry)) (p .0) (rest .0) (b .0) how front end ctx current els place) counts current els (now (statements .entry)) (now (entries .entry)) r (now (statements .exit)) (now (entries .exit)) ⌝ }
+    requires { ⌜ (b .0 < length (now bindings)) × (end < 8192) × Ready (bodyOf (now body)) counts × Begins counts current els ⌝ }
+    ensures { λ r. ⌜ Lowers (λ ctx. restFilled (now (bindings .entry)) (p .0) (rest .0) (b .0) how front end ctx current els place) counts current els (bodyOf (now (body .entry))) r (bodyOf (now (body .exit))) ⌝ }
 {
     let part = project(place, ProjectionElem::Subslice(front, end));
     if !part.ok {
@@ -176,8 +171,7 @@ fn fill_rest(
     }
     pattern_match_binding(
         bindings,
-        statements,
-        entries,
+        body,
         counts,
         p,
         rest,
@@ -194,8 +188,7 @@ pub fn rest_bound(
     image: &[u8],
     tables: Tables,
     bindings: &[u16],
-    statements: &mut [u16],
-    entries: &mut [u16],
+    body: &mut [u16; BODY_WORDS],
     counts: Counts,
     mode: MatchingMode,
     p: PatId,
@@ -207,8 +200,8 @@ pub fn rest_bound(
     place: Place,
 ) -> Lowered
     requires { ⌜ (valid (now image) ≡ true) × Whole (now image) tables × (eqb rest 65535 || ltb rest (patternCount (now image)) ≡ true) × (length (now bindings) ≡ bindingCount (now image)) × (end < 8192) ⌝ }
-    requires { ⌜ (length (now statements) ≡ 50176) × (length (now entries) ≡ 1024) × Begins counts current els ⌝ }
-    ensures { λ r. ⌜ Fills (λ ctx. restBound (restOf (tree? (tree (now (image .entry))) rest)) (now (bindings .entry)) (p .0) front end mode ctx current els place) counts current els (now (statements .entry)) (now (entries .entry)) r (now (statements .exit)) (now (entries .exit)) ⌝ }
+    requires { ⌜ Ready (bodyOf (now body)) counts × Begins counts current els ⌝ }
+    ensures { λ r. ⌜ Lowers (λ ctx. restBound (restOf (tree? (tree (now (image .entry))) rest)) (now (bindings .entry)) (p .0) front end mode ctx current els place) counts current els (bodyOf (now (body .entry))) r (bodyOf (now (body .exit))) ⌝ }
 {
     if rest == 65535 {
         return Lowered::Done(counts, current, els);
@@ -222,8 +215,7 @@ pub fn rest_bound(
     }
     fill_rest(
         bindings,
-        statements,
-        entries,
+        body,
         counts,
         p,
         PatId(rest),

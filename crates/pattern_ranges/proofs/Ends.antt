@@ -20,23 +20,24 @@ use Rattle.mir.specs.declared.rvalues.Constant.{Constant}
 use Rattle.mir.specs.declared.rvalues.BinOp.{BinOp}
 use Rattle.mir.specs.declared.rvalues.Left.{Left}
 use Rattle.mir.specs.Blocks.{newBlock}
-use Rattle.state.specs.State.{State}
+use Rattle.state.specs.State.{Body, State}
 use Rattle.state.specs.declared.Stepped.{Stepped}
 use Rattle.literals.specs.Literals.{lowerLiteralOrConstToOperand}
-use Rattle.lower.specs.declared.merging.OptBlock.{OptBlock}
+use Rattle.lower_spec.specs.declared.merging.OptBlock.{OptBlock}
 use Rattle.pattern_matching.specs.declared.MatchingMode.{MatchingMode}
 use Rattle.pattern_matching.specs.Modes.{isCheck}
 use Rattle.pattern_matching.specs.Walking.{Ctx, Out, Walk, next, step, out, elseState, elseBlock}
 use Rattle.pattern_matching.specs.Tests.{rangeEnd, rangeEnd?}
 use Rattle.pattern_matching.specs.Patterns.{endOp, rangePattern}
-use Rattle.walks.specs.declared.Lowered.{Lowered}
-use Rattle.walks.specs.Answers.{Lent, Primed, Begins, Lowers}
-use Rattle.walks.proofs.Sequences.{lowers-skips, lowers-refuses, lowers-by, lowers-stops, lowers-then}
+use Rattle.pattern_walk_spec.specs.declared.Lowered.{Lowered}
+use Rattle.pattern_walk_spec.specs.Answers.{Begins, Lowers}
+use Rattle.pattern_walk_spec.proofs.Sequences.{lowers-skips, lowers-refuses, lowers-by, lowers-stops, lowers-then}
 use Rattle.pattern_switching.specs.Switching.{elseMade, compareStep, Steps}
 use Rattle.pattern_ranges.specs.Ranges.{rangeTest}
 use Rattle.pattern_switching.proofs.Branching.{loweredBy, else-full, else-then-full, else-then-made, else-then-ends, grown-to, elseThen}
 use Rattle.pattern_switching.proofs.Cutting.{in-check, not-in-check, compare-cut}
 use Rattle.state.specs.Steps.{nextBlock, tryBlock}
+use Rattle.state.specs.Contracts.{Ready}
 
 module _ (image : List ℕ) (p : PatId) (constant : Constant) (place : Place) (current : BasicBlockId) (els : OptBlock) (ctx : Ctx) where
   -- one end of a range: an else is made before the block that goes on
@@ -44,9 +45,9 @@ module _ (image : List ℕ) (p : PatId) (constant : Constant) (place : Place) (c
   unfolding rangeTest
   range-cut op = λ i. step (p .0) (elseState (ctx .state) els) (λ st₁. step (p .0) (tryBlock st₁) (λ st₂. compare-cut image (p .0) op (Left.Constant constant) place ctx st₂ current (nextBlock st₁) (elseBlock (ctx .state) els) i))
 
--- `range_test`; t lies in the tables at entry
-module _ (image : List ℕ) (t : Lent) (c : Counts) (p : PatId) (op : BinOp) (constant : Constant) (current : BasicBlockId) (els : OptBlock) (place : Place) where
-  abbrev Tests : Lowered → Lent → Type 0
+-- `range_test`; t is the body at entry
+module _ (image : List ℕ) (t : Body) (c : Counts) (p : PatId) (op : BinOp) (constant : Constant) (current : BasicBlockId) (els : OptBlock) (place : Place) where
+  abbrev Tests : Lowered → Body → Type 0
   Tests = Lowers (λ ctx. rangeTest image (p .0) op constant ctx current els place) c current els t
 
   abbrev ends : State → BasicBlockId → BasicBlockId → Result State
@@ -62,7 +63,7 @@ module _ (image : List ℕ) (t : Lent) (c : Counts) (p : PatId) (op : BinOp) (co
     range-then-full full = lowers-by (λ ctx. range-cut image p constant place current els ctx op) (else-then-full p ends els t c current made full)
 
     -- both are made, and the place is compared
-    pub range-ends : {c₂ : Counts} {on : BasicBlockId} {t′ : Lent} (r : Stepped) → NewBlock.Block c₂ on ≡ newBlock c₁ → Primed t c → Begins c current els → Steps (λ st. ends st on other) c₂ current t r t′ →
+    pub range-ends : {c₂ : Counts} {on : BasicBlockId} {t′ : Body} (r : Stepped) → NewBlock.Block c₂ on ≡ newBlock c₁ → Ready t c → Begins c current els → Steps (λ st. ends st on other) c₂ current t r t′ →
         Tests (loweredBy p on other r) t′
     range-ends {on = on} r is P h E =
         lowers-by (λ ctx. range-cut image p constant place current els ctx op)
@@ -73,8 +74,8 @@ pub range-holds : (image : List ℕ) (o : ℕ) → (o ≡ 65535 → ⊥) → ope
 range-holds image o there h = rw (ne-eqb o 65535 there) at h
 
 -- `range_end`, of the operand that begins at the word o
-module _ (image : List ℕ) (t : Lent) (c : Counts) (p : PatId) (ty : ℕ) (op : BinOp) (o : ℕ) (current : BasicBlockId) (els : OptBlock) (place : Place) where
-  abbrev Ended : Lowered → Lent → Type 0
+module _ (image : List ℕ) (t : Body) (c : Counts) (p : PatId) (ty : ℕ) (op : BinOp) (o : ℕ) (current : BasicBlockId) (els : OptBlock) (place : Place) where
+  abbrev Ended : Lowered → Body → Type 0
   Ended = Lowers (λ ctx. rangeEnd? image (p .0) ty op (operand? image o) ctx current els place) c current els t
 
   -- it is absent
@@ -94,13 +95,13 @@ module _ (image : List ℕ) (t : Lent) (c : Counts) (p : PatId) (ty : ℕ) (op :
     end-refused is = lowers-refuses (tests is)
 
     -- the operand's constant is compared
-    pub end-tests : {constant : Constant} {r : Lowered} {t′ : Lent} → done constant ≡ lowerLiteralOrConstToOperand image ty (operandOf image o) →
+    pub end-tests : {constant : Constant} {r : Lowered} {t′ : Body} → done constant ≡ lowerLiteralOrConstToOperand image ty (operandOf image o) →
         Lowers (λ ctx. rangeTest image (p .0) op constant ctx current els place) c current els t r t′ → Ended r t′
     end-tests is L = lowers-by (tests is) L
 
 -- `pattern_match_range`, of the operands that begin at the words start and end
-module _ (image : List ℕ) (t : Lent) (c : Counts) (mode : MatchingMode) (p : PatId) (ty start end : ℕ) (halfOpen : Bool) (current : BasicBlockId) (els : OptBlock) (place : Place) where
-  abbrev Range : Lowered → Lent → Type 0
+module _ (image : List ℕ) (t : Body) (c : Counts) (mode : MatchingMode) (p : PatId) (ty start end : ℕ) (halfOpen : Bool) (current : BasicBlockId) (els : OptBlock) (place : Place) where
+  abbrev Range : Lowered → Body → Type 0
   Range = Lowers (λ ctx. rangePattern image (p .0) ty (operand? image start) (operand? image end) halfOpen mode ctx current els place) c current els t
 
   abbrev first : Ctx → Walk Out
@@ -120,10 +121,10 @@ module _ (image : List ℕ) (t : Lent) (c : Counts) (mode : MatchingMode) (p : P
     both ctx = in-check mode (next (first ctx) second) (out ctx current els) check
 
     -- the start is refused
-    pub range-stops : {err : MirLowerError} {q : PatId} {t′ : Lent} → Lowers first c current els t (Lowered.Refused err q) t′ → Range (Lowered.Refused err q) t′
+    pub range-stops : {err : MirLowerError} {q : PatId} {t′ : Body} → Lowers first c current els t (Lowered.Refused err q) t′ → Range (Lowered.Refused err q) t′
     range-stops L = lowers-by both (lowers-stops second L)
 
     -- the start, and then the end
-    pub range-both : {c₁ : Counts} {on : BasicBlockId} {els₁ : OptBlock} {t₁ t₂ : Lent} {r : Lowered} → Primed t c → Lowers first c current els t (Lowered.Done c₁ on els₁) t₁ →
+    pub range-both : {c₁ : Counts} {on : BasicBlockId} {els₁ : OptBlock} {t₁ t₂ : Body} {r : Lowered} → Ready t c → Lowers first c current els t (Lowered.Done c₁ on els₁) t₁ →
         {op : BinOp} → op ≡ endOp halfOpen → Lowers (λ ctx. rangeEnd? image (p .0) ty op (operand? image end) ctx on els₁ place) c₁ on els₁ t₁ r t₂ → Range r t₂
     range-both P L is S = lowers-by both (lowers-then second P L (rw is at S))

@@ -7,7 +7,7 @@ use Rattle.mir.specs.declared.rvalues.BinOp.{BinOp}
 use Rattle.mir.specs.declared.rvalues.Constant.{Constant}
 use Rattle.mir.specs.declared.rvalues.Left.{Left}
 use Rattle.state.specs.Steps.{nextBlock, tryBlock}
-use Rattle.lower.specs.declared.merging.OptBlock.{OptBlock}
+use Rattle.lower_spec.specs.declared.merging.OptBlock.{OptBlock}
 use Rattle.pattern_matching.specs.Walking.{Ctx, Out, Walk, step, elseState, elseBlock}
 use Rattle.pattern_matching.specs.Tests.{compare}
 

@@ -1,9 +1,10 @@
 // Ranges: each end is a test, the start before the end.
+use body_tables::BODY_WORDS;
 use image::PatId;
 use image::Tables;
 use literals::LoweredOperand;
 use literals::lower_literal_or_const_to_operand;
-use lower::merging::OptBlock;
+use lower_spec::merging::OptBlock;
 use mir::BasicBlockId;
 use mir::Counts;
 use mir::blocks::NewBlock;
@@ -15,10 +16,10 @@ use pattern_matching::MatchingMode;
 use pattern_matching::is_check;
 use pattern_switching::compare;
 use pattern_switching::else_block;
+use pattern_walk_spec::Lowered;
 use place::Place;
 use refusals::MirLowerError;
 use state::Stepped;
-use walks::Lowered;
 ghost use mathlib.Core.Path.{_≡_};
 ghost use mathlib.Core.Bool.{true};
 ghost use Prim.Native.Nat.{_<_};
@@ -29,17 +30,16 @@ ghost use Rattle.image.specs.Tree.{operand?};
 ghost use Rattle.image.specs.Valid.{valid};
 ghost use Rattle.pattern_matching.specs.Tests.{rangeEnd?};
 ghost use Rattle.pattern_matching.specs.Patterns.{endOp, rangePattern};
-ghost use Rattle.walks.specs.Answers.{lent, Primed, Begins, Lowers};
+ghost use Rattle.pattern_walk_spec.specs.Answers.{Begins, Lowers};
 ghost use Rattle.pattern_ranges.specs.Ranges.{rangeTest};
+ghost use Rattle.body_tables.specs.Layout.{bodyOf};
+ghost use Rattle.state.specs.Contracts.{Ready};
 
 // A place is compared with one end; an else is made before the block that goes on.
 fn range_test(
     image: &[u8],
     tables: Tables,
-    blocks: &mut [u16],
-    statements: &mut [u16],
-    locals: &mut [u16],
-    entries: &mut [u16],
+    body: &mut [u16; BODY_WORDS],
     counts: Counts,
     p: PatId,
     op: BinOp,
@@ -48,32 +48,29 @@ fn range_test(
     els: OptBlock,
     place: Place,
 ) -> Lowered
-    requires { ⌜ Whole (now image) tables × Primed (lent (now blocks) (now statements) (now locals) (now entries)) counts × Begins counts current els ⌝ }
-    ensures { λ r. ⌜ Lowers (λ ctx. rangeTest (now (image .entry)) (p .0) op constant ctx current els place) counts current els (lent (now (blocks .entry)) (now (statements .entry)) (now (locals .entry)) (now (entries .entry))) r (lent (now (blocks .exit)) (now (statements .exit)) (now (locals .exit)) (now (entries .exit))) ⌝ }
+    requires { ⌜ Whole (now image) tables × Ready (bodyOf (now body)) counts × Begins counts current els ⌝ }
+    ensures { λ r. ⌜ Lowers (λ ctx. rangeTest (now (image .entry)) (p .0) op constant ctx current els place) counts current els (bodyOf (now (body .entry))) r (bodyOf (now (body .exit))) ⌝ }
 {
-    match else_block(counts, els) {
-        NewBlock::Full => Lowered::Refused(MirLowerError::Limit, p),
-        NewBlock::Block(c1, other) => match new_basic_block(c1) {
-            NewBlock::Full => Lowered::Refused(MirLowerError::Limit, p),
-            NewBlock::Block(c2, then) => match compare(
-                image,
-                tables,
-                blocks,
-                statements,
-                locals,
-                entries,
-                c2,
-                op,
-                Left::Constant(constant),
-                place,
-                current,
-                then,
-                other,
-            ) {
-                Stepped::Refused(e) => Lowered::Refused(e, p),
-                Stepped::Now(c3) => Lowered::Done(c3, then, OptBlock::Some(other)),
-            },
-        },
+    let NewBlock::Block(c1, other) = else_block(counts, els) else {
+        return Lowered::Refused(MirLowerError::Limit, p);
+    };
+    let NewBlock::Block(c2, then) = new_basic_block(c1) else {
+        return Lowered::Refused(MirLowerError::Limit, p);
+    };
+    match compare(
+        image,
+        tables,
+        body,
+        c2,
+        op,
+        Left::Constant(constant),
+        place,
+        current,
+        then,
+        other,
+    ) {
+        Stepped::Refused(e) => Lowered::Refused(e, p),
+        Stepped::Now(c3) => Lowered::Done(c3, then, OptBlock::Some(other)),
     }
 }
 
@@ -81,10 +78,7 @@ fn range_test(
 fn range_end(
     image: &[u8],
     tables: Tables,
-    blocks: &mut [u16],
-    statements: &mut [u16],
-    locals: &mut [u16],
-    entries: &mut [u16],
+    body: &mut [u16; BODY_WORDS],
     counts: Counts,
     p: PatId,
     ty: u16,
@@ -95,8 +89,8 @@ fn range_end(
     place: Place,
 ) -> Lowered
     requires { ⌜ (valid (now image) ≡ true) × Whole (now image) tables × (ty < typeCount (now image)) × (operandOrAbsent (now image) o ≡ true) ⌝ }
-    requires { ⌜ Primed (lent (now blocks) (now statements) (now locals) (now entries)) counts × Begins counts current els ⌝ }
-    ensures { λ r. ⌜ Lowers (λ ctx. rangeEnd? (now (image .entry)) (p .0) ty op (operand? (now (image .entry)) o) ctx current els place) counts current els (lent (now (blocks .entry)) (now (statements .entry)) (now (locals .entry)) (now (entries .entry))) r (lent (now (blocks .exit)) (now (statements .exit)) (now (locals .exit)) (now (entries .exit))) ⌝ }
+    requires { ⌜ Ready (bodyOf (now body)) counts × Begins counts current els ⌝ }
+    ensures { λ r. ⌜ Lowers (λ ctx. rangeEnd? (now (image .entry)) (p .0) ty op (operand? (now (image .entry)) o) ctx current els place) counts current els (bodyOf (now (body .entry))) r (bodyOf (now (body .exit))) ⌝ }
 {
     if o == 65535 {
         return Lowered::Done(counts, current, els);
@@ -106,10 +100,7 @@ fn range_end(
         LoweredOperand::Constant(constant) => range_test(
             image,
             tables,
-            blocks,
-            statements,
-            locals,
-            entries,
+            body,
             counts,
             p,
             op,
@@ -135,10 +126,7 @@ fn end_op(half_open: u16) -> BinOp
 pub fn pattern_match_range(
     image: &[u8],
     tables: Tables,
-    blocks: &mut [u16],
-    statements: &mut [u16],
-    locals: &mut [u16],
-    entries: &mut [u16],
+    body: &mut [u16; BODY_WORDS],
     counts: Counts,
     mode: MatchingMode,
     p: PatId,
@@ -151,8 +139,8 @@ pub fn pattern_match_range(
     place: Place,
 ) -> Lowered
     requires { ⌜ (valid (now image) ≡ true) × Whole (now image) tables × (ty < typeCount (now image)) × (operandOrAbsent (now image) start ≡ true) × (operandOrAbsent (now image) end ≡ true) ⌝ }
-    requires { ⌜ Primed (lent (now blocks) (now statements) (now locals) (now entries)) counts × Begins counts current els ⌝ }
-    ensures { λ r. ⌜ Lowers (λ ctx. rangePattern (now (image .entry)) (p .0) ty (operand? (now (image .entry)) start) (operand? (now (image .entry)) end) (isSet half_open) mode ctx current els place) counts current els (lent (now (blocks .entry)) (now (statements .entry)) (now (locals .entry)) (now (entries .entry))) r (lent (now (blocks .exit)) (now (statements .exit)) (now (locals .exit)) (now (entries .exit))) ⌝ }
+    requires { ⌜ Ready (bodyOf (now body)) counts × Begins counts current els ⌝ }
+    ensures { λ r. ⌜ Lowers (λ ctx. rangePattern (now (image .entry)) (p .0) ty (operand? (now (image .entry)) start) (operand? (now (image .entry)) end) (isSet half_open) mode ctx current els place) counts current els (bodyOf (now (body .entry))) r (bodyOf (now (body .exit))) ⌝ }
 {
     if !is_check(mode) {
         return Lowered::Done(counts, current, els);
@@ -160,10 +148,7 @@ pub fn pattern_match_range(
     match range_end(
         image,
         tables,
-        blocks,
-        statements,
-        locals,
-        entries,
+        body,
         counts,
         p,
         ty,
@@ -177,10 +162,7 @@ pub fn pattern_match_range(
         Lowered::Done(c1, then, other) => range_end(
             image,
             tables,
-            blocks,
-            statements,
-            locals,
-            entries,
+            body,
             c1,
             p,
             ty,

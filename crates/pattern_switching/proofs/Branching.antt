@@ -7,7 +7,6 @@ use native.Mathlib.Nat.{le-refl, le-trans}
 use Rattle.refusals.specs.declared.MirLowerError.{MirLowerError}
 use Rattle.refusals.specs.Refusals.{Result}
 use Rattle.image.specs.declared.PatId.{PatId}
-use Rattle.row_tables.specs.Rows.{zeros}
 use Rattle.mir.specs.declared.BasicBlockId.{BasicBlockId}
 use Rattle.mir.specs.declared.Counts.{Counts}
 use Rattle.mir.specs.declared.blocks.NewBlock.{NewBlock}
@@ -17,25 +16,21 @@ use Rattle.state.specs.Steps.{nextBlock, tryBlock}
 use Rattle.state.specs.Contracts.{Ready, Grown, Answers, steppedResult, steppedCounts}
 use Rattle.state.specs.declared.Stepped.{Stepped}
 use Rattle.state.proofs.Answering.{grown-refl, grown-trans, next-block}
-use Rattle.state.proofs.Calls.{blockCounts, blockResult, block-number, new-block-answers}
-use Rattle.lower.specs.declared.merging.OptBlock.{OptBlock}
+use Rattle.state.proofs.Calls.{blockCounts, blockResult, block-number}
+use Rattle.body_tables.proofs.Building as building
+use Rattle.lower_spec.specs.declared.merging.OptBlock.{OptBlock}
 use Rattle.pattern_matching.specs.Walking.{Ctx, Out, Walk, step, out, withState, elseState, elseBlock}
-use Rattle.walks.specs.declared.Lowered.{Lowered}
-use Rattle.walks.specs.Answers.{Lent, bodyOf, Primed, Begins, ctxOf, walkOf, loweredCounts, Onward, OnwardBy, Lowers}
-use Rattle.walks.proofs.Following.{step-then, step-stops, stays, answers-by, onward-trans, onward-refl, onward-grown, block-made, block-onward}
+use Rattle.pattern_walk_spec.specs.declared.Lowered.{Lowered}
+use Rattle.pattern_walk_spec.specs.Answers.{Begins, ctxOf, walkOf, loweredCounts, Onward, OnwardBy, Lowers}
+use Rattle.pattern_walk_spec.proofs.Following.{step-then, step-stops, stays, answers-by, onward-trans, onward-refl, onward-grown, block-made, block-onward}
 use Rattle.pattern_switching.specs.Switching.{elseMade, Steps}
 
--- `new_basic_block`: what it answers
-block-answers : (t : Lent) (scopes : List ℕ) (c : Counts) (current : ℕ) {r : NewBlock} → r ≡ newBlock c → Ready (bodyOf t scopes) c →
-    Answers (bodyOf t scopes) c current (bodyOf t scopes) (blockCounts r) (blockResult r (bodyOf t scopes)) (tryBlock (decode (bodyOf t scopes) c))
-block-answers t scopes c current is R = new-block-answers (t .blocks) (t .statements) (t .locals) scopes (t .entries) c current is R
-
 -- `else_block`: what it answers, which block it is, and that a walk has it as its else
-pub else-answers : (t : Lent) (scopes : List ℕ) (c : Counts) (current : ℕ) (els : OptBlock) {r : NewBlock} → r ≡ elseMade c els → Ready (bodyOf t scopes) c →
-    Answers (bodyOf t scopes) c current (bodyOf t scopes) (blockCounts r) (blockResult r (bodyOf t scopes)) (elseState (decode (bodyOf t scopes) c) els)
+pub else-answers : (t : Body) (c : Counts) (current : ℕ) (els : OptBlock) {r : NewBlock} → r ≡ elseMade c els → Ready t c →
+    Answers t c current t (blockCounts r) (blockResult r t) (elseState (decode t c) els)
 unfolding elseMade elseState
-else-answers t scopes c current (OptBlock.Some b) is R = rw is (stays _ R)
-else-answers t scopes c current OptBlock.None is R = block-answers t scopes c current is R
+else-answers t c current (OptBlock.Some b) is R = rw is (stays _ R)
+else-answers t c current OptBlock.None is R = building.block-made t c current is R
 
 pub else-number : (c : Counts) (els : OptBlock) {c₁ : Counts} {m : BasicBlockId} → NewBlock.Block c₁ m ≡ elseMade c els → (b : Body) → m ≡ elseBlock (decode b c) els
 unfolding elseMade elseBlock
@@ -54,18 +49,18 @@ else-onward c OptBlock.None is h =
     (new .0, record { own = inl refl; own-else = inr (rw (block-made c is .1) (le-refl (c .blocks))); begins = record { start = onward-grown (new .0) h .begins .start; else = new .1 .begins .start } })
 
 -- both blocks are made, the one that goes on before the else, or the else before it
-pub then-else-made : {t : Lent} {c c₁ c₂ : Counts} {current on other : BasicBlockId} {els : OptBlock} → NewBlock.Block c₁ on ≡ newBlock c → NewBlock.Block c₂ other ≡ elseMade c₁ els → Primed t c → Begins c current els →
-    Primed t c₂ × (current .0 < c₂ .blocks)
+pub then-else-made : {t : Body} {c c₁ c₂ : Counts} {current on other : BasicBlockId} {els : OptBlock} → NewBlock.Block c₁ on ≡ newBlock c → NewBlock.Block c₂ other ≡ elseMade c₁ els → Ready t c → Begins c current els →
+    Ready t c₂ × (current .0 < c₂ .blocks)
 then-else-made {t = t} {c = c} {c₁ = c₁} {current = current} {els = els} is made P h =
-    let F = block-answers t (zeros 32) c (current .0) is P in
-    let S = else-answers t (zeros 32) c₁ (current .0) els made (F .goes .0) in
+    let F = building.block-made t c (current .0) is P in
+    let S = else-answers t c₁ (current .0) els made (F .goes .0) in
     (S .goes .0, le-trans (h .start) (le-trans (F .goes .1 .blocks) (S .goes .1 .blocks)))
 
-pub else-then-made : {t : Lent} {c c₁ c₂ : Counts} {current on other : BasicBlockId} {els : OptBlock} → NewBlock.Block c₁ other ≡ elseMade c els → NewBlock.Block c₂ on ≡ newBlock c₁ → Primed t c → Begins c current els →
-    Primed t c₂ × (current .0 < c₂ .blocks)
+pub else-then-made : {t : Body} {c c₁ c₂ : Counts} {current on other : BasicBlockId} {els : OptBlock} → NewBlock.Block c₁ other ≡ elseMade c els → NewBlock.Block c₂ on ≡ newBlock c₁ → Ready t c → Begins c current els →
+    Ready t c₂ × (current .0 < c₂ .blocks)
 else-then-made {t = t} {c = c} {c₁ = c₁} {current = current} {els = els} made is P h =
-    let F = else-answers t (zeros 32) c (current .0) els made P in
-    let S = block-answers t (zeros 32) c₁ (current .0) is (F .goes .0) in
+    let F = else-answers t c (current .0) els made P in
+    let S = building.block-made t c₁ (current .0) is (F .goes .0) in
     (S .goes .0, le-trans (h .start) (le-trans (F .goes .1 .blocks) (S .goes .1 .blocks)))
 
 -- an answer by how a step ended
@@ -77,8 +72,8 @@ abbrev pub GrownTo : Counts → Stepped → Type 0
 GrownTo c (Stepped.Now c′) = Grown c c′
 GrownTo c (Stepped.Refused e) = Unit
 
-pub grown-to : {t t′ : Lent} {c : Counts} {current : BasicBlockId} (defined : State → Result State) (r : Stepped) → Primed t c → Steps defined c current t r t′ → GrownTo c r
-grown-to defined (Stepped.Now c′) P E = E (zeros 32) P .goes .1
+pub grown-to : {t t′ : Body} {c : Counts} {current : BasicBlockId} (defined : State → Result State) (r : Stepped) → Ready t c → Steps defined c current t r t′ → GrownTo c r
+grown-to defined (Stepped.Now c′) P E = E P .goes .1
 grown-to defined (Stepped.Refused e) P E = tt
 
 -- the test's end is a step from the state, the block that goes on and the else
@@ -116,37 +111,37 @@ module _ (p : PatId) (end : State → BasicBlockId → BasicBlockId → Result S
   end-onward c c₂ current then other (Stepped.Now c₃) G O grown = onward-trans G O (onward-grown grown (O .begins))
   end-onward c c₂ current then other (Stepped.Refused e) G O grown = tt
 
-  -- t lies in the tables at entry
-  module _ (t : Lent) (c : Counts) (current : BasicBlockId) where
+  -- t is the body at entry
+  module _ (t : Body) (c : Counts) (current : BasicBlockId) where
     -- there is no room for the block that goes on, or for the else
     pub then-full : NewBlock.Full ≡ newBlock c → Lowers thenElse c current els t (Lowered.Refused MirLowerError.Limit p) t
     then-full full =
         record {
-          answers = λ scopes visits R.
-              let b = bodyOf t scopes in
-              step-stops (p .0) (behindThen (ctxOf b c visits) (nextBlock (decode b c))) (block-answers t scopes c (current .0) full R);
+          answers = λ visits R.
+              let b = t in
+              step-stops (p .0) (behindThen (ctxOf b c visits) (nextBlock (decode b c))) (building.block-made t c (current .0) full R);
           onward = tt;
         }
 
     pub else-full : NewBlock.Full ≡ elseMade c els → Lowers elseThen c current els t (Lowered.Refused MirLowerError.Limit p) t
     else-full full =
         record {
-          answers = λ scopes visits R.
-              let b = bodyOf t scopes in
-              step-stops (p .0) (behindElse (ctxOf b c visits) (elseBlock (decode b c) els)) (else-answers t scopes c (current .0) els full R);
+          answers = λ visits R.
+              let b = t in
+              step-stops (p .0) (behindElse (ctxOf b c visits) (elseBlock (decode b c) els)) (else-answers t c (current .0) els full R);
           onward = tt;
         }
 
     -- the block that goes on is there
     module _ {c₁ : Counts} {then : BasicBlockId} (is : NewBlock.Block c₁ then ≡ newBlock c) where
       -- what follows it
-      then-answers : (r : Lowered) (t′ : Lent) (scopes visits : List ℕ) → Ready (bodyOf t scopes) c →
-          (Ready (bodyOf t scopes) c₁ → Answers (bodyOf t scopes) c₁ (current .0) (bodyOf t′ scopes) (loweredCounts r) (walkOf r (bodyOf t′ scopes) visits) (behindThen (ctxOf (bodyOf t scopes) c visits) then (decode (bodyOf t scopes) c₁))) →
-          Answers (bodyOf t scopes) c (current .0) (bodyOf t′ scopes) (loweredCounts r) (walkOf r (bodyOf t′ scopes) visits) (thenElse (ctxOf (bodyOf t scopes) c visits))
-      then-answers r t′ scopes visits R follows =
-          let b = bodyOf t scopes in
+      then-answers : (r : Lowered) (t′ : Body) (visits : List ℕ) → Ready t c →
+          (Ready t c₁ → Answers t c₁ (current .0) t′ (loweredCounts r) (walkOf r t′ visits) (behindThen (ctxOf t c visits) then (decode t c₁))) →
+          Answers t c (current .0) t′ (loweredCounts r) (walkOf r t′ visits) (thenElse (ctxOf t c visits))
+      then-answers r t′ visits R follows =
+          let b = t in
           let ctx = ctxOf b c visits in
-          let F = block-answers t scopes c (current .0) is R in
+          let F = building.block-made t c (current .0) is R in
           answers-by (ap (λ (m : BasicBlockId). step (p .0) (tryBlock (decode b c)) (behindThen ctx m)) (block-number c is ∙ next-block b c))
           (step-then (p .0) (behindThen ctx then) F (inl refl) (follows (F .goes .0)))
 
@@ -154,40 +149,40 @@ module _ (p : PatId) (end : State → BasicBlockId → BasicBlockId → Result S
       pub then-else-full : NewBlock.Full ≡ elseMade c₁ els → Lowers thenElse c current els t (Lowered.Refused MirLowerError.Limit p) t
       then-else-full full =
           record {
-            answers = λ scopes visits R.
-                let b = bodyOf t scopes in
-                then-answers (Lowered.Refused MirLowerError.Limit p) t scopes visits R (λ Q. step-stops (p .0) (ended (ctxOf b c visits) then (elseBlock (decode b c₁) els)) (else-answers t scopes c₁ (current .0) els full Q));
+            answers = λ visits R.
+                let b = t in
+                then-answers (Lowered.Refused MirLowerError.Limit p) t visits R (λ Q. step-stops (p .0) (ended (ctxOf b c visits) then (elseBlock (decode b c₁) els)) (else-answers t c₁ (current .0) els full Q));
             onward = tt;
           }
 
       module _ {c₂ : Counts} {other : BasicBlockId} (made : NewBlock.Block c₂ other ≡ elseMade c₁ els) where
         -- and the test ends
-        pub then-else-ends : {t′ : Lent} (r : Stepped) → Begins c current els → GrownTo c₂ r → Steps (λ st. end st then other) c₂ current t r t′ →
+        pub then-else-ends : {t′ : Body} (r : Stepped) → Begins c current els → GrownTo c₂ r → Steps (λ st. end st then other) c₂ current t r t′ →
             Lowers thenElse c current els t (loweredBy p then other r) t′
         then-else-ends {t′ = t′} r h grown E =
             let new = block-onward c is h in
             let new₂ = else-onward c₁ els made (new .1 .begins) in
             record {
-              answers = λ scopes visits R.
-                  let b = bodyOf t scopes in
+              answers = λ visits R.
+                  let b = t in
                   let ctx = ctxOf b c visits in
-                  then-answers (loweredBy p then other r) t′ scopes visits R (λ Q.
-                  let S = else-answers t scopes c₁ (current .0) els made Q in
+                  then-answers (loweredBy p then other r) t′ visits R (λ Q.
+                  let S = else-answers t c₁ (current .0) els made Q in
                   answers-by (ap (λ (m : BasicBlockId). step (p .0) (elseState (decode b c₁) els) (ended ctx then m)) (else-number c₁ els made b))
-                  (step-then (p .0) (ended ctx then other) S (inl refl) (end-answers (bodyOf t′ scopes) ctx then other r (E scopes (S .goes .0)))));
+                  (step-then (p .0) (ended ctx then other) S (inl refl) (end-answers t′ ctx then other r (E (S .goes .0)))));
               onward = end-onward c c₂ current then other r (grown-trans (new .0) (new₂ .0)) (onward-trans (new .0) (new .1) (new₂ .1)) grown;
             }
 
     -- the else is there
     module _ {c₁ : Counts} {other : BasicBlockId} (made : NewBlock.Block c₁ other ≡ elseMade c els) where
       -- what follows it
-      elsewhere-answers : (r : Lowered) (t′ : Lent) (scopes visits : List ℕ) → Ready (bodyOf t scopes) c →
-          (Ready (bodyOf t scopes) c₁ → Answers (bodyOf t scopes) c₁ (current .0) (bodyOf t′ scopes) (loweredCounts r) (walkOf r (bodyOf t′ scopes) visits) (behindElse (ctxOf (bodyOf t scopes) c visits) other (decode (bodyOf t scopes) c₁))) →
-          Answers (bodyOf t scopes) c (current .0) (bodyOf t′ scopes) (loweredCounts r) (walkOf r (bodyOf t′ scopes) visits) (elseThen (ctxOf (bodyOf t scopes) c visits))
-      elsewhere-answers r t′ scopes visits R follows =
-          let b = bodyOf t scopes in
+      elsewhere-answers : (r : Lowered) (t′ : Body) (visits : List ℕ) → Ready t c →
+          (Ready t c₁ → Answers t c₁ (current .0) t′ (loweredCounts r) (walkOf r t′ visits) (behindElse (ctxOf t c visits) other (decode t c₁))) →
+          Answers t c (current .0) t′ (loweredCounts r) (walkOf r t′ visits) (elseThen (ctxOf t c visits))
+      elsewhere-answers r t′ visits R follows =
+          let b = t in
           let ctx = ctxOf b c visits in
-          let F = else-answers t scopes c (current .0) els made R in
+          let F = else-answers t c (current .0) els made R in
           answers-by (ap (λ (m : BasicBlockId). step (p .0) (elseState (decode b c) els) (behindElse ctx m)) (else-number c els made b))
           (step-then (p .0) (behindElse ctx other) F (inl refl) (follows (F .goes .0)))
 
@@ -195,26 +190,26 @@ module _ (p : PatId) (end : State → BasicBlockId → BasicBlockId → Result S
       pub else-then-full : NewBlock.Full ≡ newBlock c₁ → Lowers elseThen c current els t (Lowered.Refused MirLowerError.Limit p) t
       else-then-full full =
           record {
-            answers = λ scopes visits R.
-                let b = bodyOf t scopes in
-                elsewhere-answers (Lowered.Refused MirLowerError.Limit p) t scopes visits R (λ Q. step-stops (p .0) (ended (ctxOf b c visits) (nextBlock (decode b c₁)) other) (block-answers t scopes c₁ (current .0) full Q));
+            answers = λ visits R.
+                let b = t in
+                elsewhere-answers (Lowered.Refused MirLowerError.Limit p) t visits R (λ Q. step-stops (p .0) (ended (ctxOf b c visits) (nextBlock (decode b c₁)) other) (building.block-made t c₁ (current .0) full Q));
             onward = tt;
           }
 
       module _ {c₂ : Counts} {then : BasicBlockId} (is : NewBlock.Block c₂ then ≡ newBlock c₁) where
         -- and the test ends
-        pub else-then-ends : {t′ : Lent} (r : Stepped) → Begins c current els → GrownTo c₂ r → Steps (λ st. end st then other) c₂ current t r t′ →
+        pub else-then-ends : {t′ : Body} (r : Stepped) → Begins c current els → GrownTo c₂ r → Steps (λ st. end st then other) c₂ current t r t′ →
             Lowers elseThen c current els t (loweredBy p then other r) t′
         else-then-ends {t′ = t′} r h grown E =
             let new = else-onward c els made h in
             let new₂ = block-onward c₁ is (new .1 .begins) in
             record {
-              answers = λ scopes visits R.
-                  let b = bodyOf t scopes in
+              answers = λ visits R.
+                  let b = t in
                   let ctx = ctxOf b c visits in
-                  elsewhere-answers (loweredBy p then other r) t′ scopes visits R (λ Q.
-                  let S = block-answers t scopes c₁ (current .0) is Q in
+                  elsewhere-answers (loweredBy p then other r) t′ visits R (λ Q.
+                  let S = building.block-made t c₁ (current .0) is Q in
                   answers-by (ap (λ (m : BasicBlockId). step (p .0) (tryBlock (decode b c₁)) (ended ctx m other)) (block-number c₁ is ∙ next-block b c₁))
-                  (step-then (p .0) (ended ctx then other) S (inl refl) (end-answers (bodyOf t′ scopes) ctx then other r (E scopes (S .goes .0)))));
+                  (step-then (p .0) (ended ctx then other) S (inl refl) (end-answers t′ ctx then other r (E (S .goes .0)))));
               onward = end-onward c c₂ current then other r (grown-trans (new .0) (new₂ .0)) (onward-trans (new .0) (new .1) (new₂ .1)) grown;
             }

@@ -11,13 +11,13 @@ use Rattle.mir.specs.declared.rvalues.Left.{Left}
 use Rattle.mir.specs.Rvalues.{binaryRow}
 use Rattle.state.specs.State.{State}
 use Rattle.state.specs.Steps.{nextLocal, tryStatement}
-use Rattle.lower.specs.declared.merging.OptBlock.{OptBlock}
-use Rattle.lower.specs.Temps.{temp}
+use Rattle.lower_spec.specs.declared.merging.OptBlock.{OptBlock}
+use Rattle.lower_spec.specs.Temps.{temp}
 use Rattle.pattern_matching.specs.declared.MatchingMode.{MatchingMode}
 use Rattle.pattern_matching.specs.Modes.{isCheck}
 use Rattle.pattern_matching.specs.Walking.{Ctx, Out, Walk, step, out, withState, inCheck}
 use Rattle.pattern_matching.specs.Tests.{boolWord, ifTrue, compare}
-use Rattle.walks.proofs.Following.{step-two}
+use Rattle.pattern_walk_spec.proofs.Following.{step-two}
 use Rattle.pattern_switching.specs.Switching.{compareStep}
 
 -- a walk in Check tests, and another leaves it

@@ -12,16 +12,14 @@ use Rattle.mir.specs.declared.rvalues.BinOp.{BinOp}
 use Rattle.mir.specs.declared.rvalues.Left.{Left}
 use Rattle.mir.specs.Blocks.{newBlock}
 use Rattle.mir.specs.Rvalues.{binaryRow}
-use Rattle.state.specs.State.{State, decode}
+use Rattle.state.specs.State.{Body, State, decode}
 use Rattle.state.specs.Steps.{nextBlock, nextLocal, tryBlock, tryStatement, setTerminator}
 use Rattle.state.specs.Contracts.{Ready, Answers, steppedResult, steppedCounts}
 use Rattle.state.specs.declared.Stepped.{Stepped}
-use Rattle.lower.specs.declared.merging.OptBlock.{OptBlock}
-use Rattle.lower.specs.Temps.{temp}
+use Rattle.lower_spec.specs.declared.merging.OptBlock.{OptBlock}
+use Rattle.lower_spec.specs.Temps.{temp}
 use Rattle.pattern_matching.specs.Walking.{Ctx, Out, Walk, step, out, withState, elseState, elseBlock}
 use Rattle.pattern_matching.specs.Tests.{boolWord, ifTrue}
-use Rattle.walks.specs.declared.Lowered.{Lowered}
-use Rattle.walks.specs.Answers.{Lent, lent, bodyOf, Lowers}
 
 -- the else that there is, or a new block, with the counts
 unfoldable pub elseMade : Counts → OptBlock → NewBlock
@@ -42,13 +40,6 @@ thenSwitch p l low high ctx current els =
     step p (elseState st₁ els) (λ st₂.
     out (withState ctx (setTerminator st₂ current (Terminator.Switch l low high (nextBlock (ctx .state)) (elseBlock st₁ els)))) (nextBlock (ctx .state)) (OptBlock.Some (elseBlock st₁ els))))
 
--- what a step on the four tables promises: t₀ lies in them before, and t after
-abbrev pub Steps : (State → Result State) → Counts → BasicBlockId → Lent → Stepped → Lent → Type 0
-Steps defined c current t₀ r t =
-    (scopes : List ℕ) → Ready (bodyOf t₀ scopes) c →
-    Answers (bodyOf t₀ scopes) c (current .0) (bodyOf t scopes) (steppedCounts r) (steppedResult r (bodyOf t scopes)) (defined (decode (bodyOf t₀ scopes) c))
-
--- what a step of the walk that touches the blocks alone promises, whatever lies in the other tables
-abbrev pub Switches : (Ctx → Walk Out) → Counts → BasicBlockId → OptBlock → List ℕ → Lowered → List ℕ → Type 0
-Switches defined c current els blocks₀ r blocks =
-    (statements locals entries : List ℕ) → Lowers defined c current els (lent blocks₀ statements locals entries) r (lent blocks statements locals entries)
+-- what a step on a body promises: b₀ before, and b after
+abbrev pub Steps : (State → Result State) → Counts → BasicBlockId → Body → Stepped → Body → Type 0
+Steps defined c current b₀ r b = Ready b₀ c → Answers b₀ c (current .0) b (steppedCounts r) (steppedResult r b) (defined (decode b₀ c))

@@ -12,8 +12,8 @@ use Rattle.mir.specs.declared.rvalues.Left.{Left}
 use Rattle.mir.specs.declared.rvalues.PlaceRvalue.{PlaceRvalue}
 use Rattle.mir.specs.Rvalues.{placeRvalueRow}
 use Rattle.state.specs.Steps.{nextBlock, nextLocal, tryBlock, tryStatement}
-use Rattle.lower.specs.declared.merging.OptBlock.{OptBlock}
-use Rattle.lower.specs.Temps.{temp}
+use Rattle.lower_spec.specs.declared.merging.OptBlock.{OptBlock}
+use Rattle.lower_spec.specs.Temps.{temp}
 use Rattle.pattern_matching.specs.Walking.{Ctx, step, localPlace, elseState, elseBlock}
 use Rattle.pattern_matching.specs.Tests.{usizeWord, patternMatchConst}
 use Rattle.pattern_matching.specs.Slices.{RestOf, lengthConstant, lengthCompared, lengthTest}

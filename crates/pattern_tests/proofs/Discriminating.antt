@@ -29,17 +29,20 @@ use Rattle.mir.specs.declared.rvalues.PlaceRvalue.{PlaceRvalue}
 use Rattle.mir.specs.Rvalues.{placeRvalueRow}
 use Rattle.mir.specs.Statements.{newStatement, statementsAfter}
 use Rattle.state.proofs.RowLengths.{place-rvalue-length}
-use Rattle.lower.specs.declared.temps.NewTemp.{NewTemp}
-use Rattle.lower.specs.declared.merging.OptBlock.{OptBlock}
-use Rattle.lower.specs.Temps.{discrTempPlace}
-use Rattle.lower.specs.Promises.{Makes}
+use Rattle.lower_spec.specs.declared.temps.NewTemp.{NewTemp}
+use Rattle.lower_spec.specs.declared.merging.OptBlock.{OptBlock}
+use Rattle.lower_spec.specs.Temps.{discrTempPlace}
+use Rattle.body_tables.specs.Layout.{withStatements}
+use Rattle.body_lowering.specs.Promises.{Makes}
 use Rattle.pattern_matching.specs.Walking.{Ctx, Out, Walk}
 use Rattle.pattern_matching.specs.Variants.{discriminantTest}
-use Rattle.walks.specs.declared.Lowered.{Lowered}
-use Rattle.walks.specs.Answers.{Lent, lent, Primed, Begins, Lowers}
-use Rattle.walks.proofs.Sequences.{lowers-by}
-use Rattle.pattern_switching.specs.Switching.{thenSwitch, Switches}
+use Rattle.pattern_walk_spec.specs.declared.Lowered.{Lowered}
+use Rattle.pattern_walk_spec.specs.Answers.{Begins, Lowers}
+use Rattle.pattern_walk_spec.proofs.Sequences.{lowers-by}
+use Rattle.pattern_switching.specs.Switching.{thenSwitch}
 use Rattle.pattern_tests.proofs.Assigning.{assign-no-local, assign-full, assign-then}
+use Rattle.state.specs.State.{Body}
+use Rattle.state.specs.Contracts.{Ready}
 
 -- a number is its first n bytes and, so much higher, the others
 little-split : (n : ℕ) (bytes : List ℕ) → littleEndian (take n bytes) + 256 ^ n * littleEndian (drop n bytes) ≡ littleEndian bytes
@@ -92,10 +95,10 @@ module _ (image : List ℕ) (row : VariantRow) {bytes : List ℕ} (read : bytes 
       let split : low + 18446744073709551616 * high ≡ littleEndian bytes = rw (d, above) (little-split 8 bytes) in
       parts low high _ (split ∙ ap littleEndian all) (rw d (little-small 8 bytes few))
 
--- `discriminant_test`; bl₀, s₀, l₀ and e₀ are the tables at entry
-module _ (image bl₀ s₀ l₀ e₀ : List ℕ) (c : Counts) (p : PatId) (v : ℕ) (current : BasicBlockId) (els : OptBlock) (place : Place) where
-  abbrev Tested : Lowered → Lent → Type 0
-  Tested = Lowers (λ ctx. discriminantTest image (p .0) v ctx current els place) c current els (lent bl₀ s₀ l₀ e₀)
+-- `discriminant_test`; b₀ is the body at entry
+module _ (image : List ℕ) (b₀ : Body) (c : Counts) (p : PatId) (v : ℕ) (current : BasicBlockId) (els : OptBlock) (place : Place) where
+  abbrev Tested : Lowered → Body → Type 0
+  Tested = Lowers (λ ctx. discriminantTest image (p .0) v ctx current els place) c current els b₀
 
   abbrev row : LocalId → List ℕ
   row m = placeRvalueRow current m PlaceRvalue.Discr place
@@ -107,23 +110,23 @@ module _ (image bl₀ s₀ l₀ e₀ : List ℕ) (c : Counts) (p : PatId) (v : �
   both = switches (variantOf image v .discriminant % 18446744073709551616) (variantOf image v .discriminant / 18446744073709551616)
 
   -- there is no local
-  pub discriminant-no-temp : {err : MirLowerError} {s l e : List ℕ} → Makes (λ st. discrTempPlace image st current) c current s₀ l₀ e₀ (NewTemp.Refused err) s l e → Tested (Lowered.Refused err p) (lent bl₀ s l e)
+  pub discriminant-no-temp : {err : MirLowerError} {b : Body} → Makes (λ st. discrTempPlace image st current) c b₀ (NewTemp.Refused err) b → Tested (Lowered.Refused err p) b
   unfolding discriminantTest thenSwitch
-  discriminant-no-temp M = assign-no-local bl₀ p els row both M
+  discriminant-no-temp M = assign-no-local b₀ p els row both M
 
-  module _ {c₁ : Counts} {m : LocalId} {s₁ s l e : List ℕ} (long : length (place .elems) ≡ 16) (M : Makes (λ st. discrTempPlace image st current) c current s₀ l₀ e₀ (NewTemp.Local c₁ m) s₁ l e)
-      (after : s ≡ statementsAfter c₁ s₁ (row m)) where
+  module _ {c₁ : Counts} {m : LocalId} {b₁ b₂ : Body} (long : length (place .elems) ≡ 16) (M : Makes (λ st. discrTempPlace image st current) c b₀ (NewTemp.Local c₁ m) b₁)
+      (after : b₂ ≡ withStatements b₁ (statementsAfter c₁ (b₁ .statements) (row m))) where
     -- there is no room for the statement
-    pub discriminant-full : Counted.Full ≡ newStatement c₁ → Tested (Lowered.Refused MirLowerError.Limit p) (lent bl₀ s l e)
+    pub discriminant-full : Counted.Full ≡ newStatement c₁ → Tested (Lowered.Refused MirLowerError.Limit p) b₂
     unfolding discriminantTest thenSwitch
-    discriminant-full full = assign-full bl₀ p els row both M (place-rvalue-length current m PlaceRvalue.Discr place long) after full
+    discriminant-full full = assign-full b₀ p els row both M (place-rvalue-length current m PlaceRvalue.Discr place long) after full
 
     -- the block goes on by the local
-    pub discriminant-switches : {c₂ : Counts} {r : Lowered} {bl : List ℕ} {low high : ℕ} →
+    pub discriminant-switches : {c₂ : Counts} {r : Lowered} {b : Body} {low high : ℕ} →
         (low ≡ variantOf image v .discriminant % 18446744073709551616) × (high ≡ variantOf image v .discriminant / 18446744073709551616) →
-        Counted.Now c₂ ≡ newStatement c₁ → Primed (lent bl₀ s₀ l₀ e₀) c → Begins c current els →
-        Switches (switches low high m) c₂ current els bl₀ r bl → Tested r (lent bl s l e)
+        Counted.Now c₂ ≡ newStatement c₁ → Ready b₀ c → Begins c current els →
+        Lowers (switches low high m) c₂ current els b₂ r b → Tested r b
     unfolding discriminantTest thenSwitch
     discriminant-switches {low = low} {high = high} halves is P h W =
-        assign-then bl₀ p els row both M (place-rvalue-length current m PlaceRvalue.Discr place long) after is P h
-        (lowers-by {defined = switches low high m} (λ ctx. rw (halves .0, halves .1) refl) (W s l e))
+        assign-then b₀ p els row both M (place-rvalue-length current m PlaceRvalue.Discr place long) after is P h
+        (lowers-by {defined = switches low high m} (λ ctx. rw (halves .0, halves .1) refl) W)

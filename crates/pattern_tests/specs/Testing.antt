@@ -15,8 +15,8 @@ use Rattle.mir.specs.declared.rvalues.PlaceRvalue.{PlaceRvalue}
 use Rattle.mir.specs.Rvalues.{binaryRow, placeRvalueRow}
 use Rattle.state.specs.State.{State}
 use Rattle.state.specs.Steps.{nextBlock, nextLocal, tryBlock, tryStatement, setTerminator}
-use Rattle.lower.specs.declared.merging.OptBlock.{OptBlock}
-use Rattle.lower.specs.Temps.{temp}
+use Rattle.lower_spec.specs.declared.merging.OptBlock.{OptBlock}
+use Rattle.lower_spec.specs.Temps.{temp}
 use Rattle.pattern_matching.specs.Walking.{Ctx, Out, Walk, step, out, withState, localPlace, elseState, elseBlock}
 use Rattle.pattern_matching.specs.Tests.{boolWord, usizeWord}
 use Rattle.pattern_matching.specs.Slices.{RestOf, lengthConstant}

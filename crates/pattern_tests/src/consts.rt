@@ -1,4 +1,8 @@
 // Literals and constants.
+use body_assignments::push_binary_assignment;
+use body_assignments::push_constant_assignment;
+use body_lowering::temps::temp;
+use body_tables::BODY_WORDS;
 use image::PatId;
 use image::Tables;
 use image::kinds::OperandKind;
@@ -7,9 +11,8 @@ use image::rows::operand_at;
 use literals::LoweredOperand;
 use literals::lower_const_to_operand;
 use literals::lower_literal_to_operand;
-use lower::merging::OptBlock;
-use lower::temps::NewTemp;
-use lower::temps::temp;
+use lower_spec::merging::OptBlock;
+use lower_spec::temps::NewTemp;
 use mir::BasicBlockId;
 use mir::Counts;
 use mir::blocks::NewBlock;
@@ -18,19 +21,17 @@ use mir::locals::BOOL;
 use mir::rvalues::BinOp;
 use mir::rvalues::Constant;
 use mir::rvalues::Left;
-use mir::rvalues::push_binary_assignment;
-use mir::rvalues::push_constant_assignment;
 use mir::scopes::Counted;
 use pattern_matching::MatchingMode;
 use pattern_matching::is_check;
 use pattern_switching::compare;
 use pattern_switching::else_block;
 use pattern_switching::then_switch;
+use pattern_walk_spec::Lowered;
 use place::LocalId;
 use place::Place;
 use refusals::MirLowerError;
 use state::Stepped;
-use walks::Lowered;
 ghost use mathlib.Core.Path.{_≡_};
 ghost use mathlib.Core.Bool.{true};
 ghost use Prim.Native.Nat.{_<_};
@@ -40,17 +41,16 @@ ghost use Rattle.image.specs.Operands.{operandHolds};
 ghost use Rattle.image.specs.Types.{operandOf};
 ghost use Rattle.image.specs.Valid.{valid};
 ghost use Rattle.pattern_matching.specs.Tests.{patternMatchConst, litBy, constantPath};
-ghost use Rattle.walks.specs.Answers.{lent, Primed, Begins, Lowers};
+ghost use Rattle.pattern_walk_spec.specs.Answers.{Begins, Lowers};
 ghost use Rattle.pattern_tests.specs.Testing.{isLiteral, constantCompared};
+ghost use Rattle.body_tables.specs.Layout.{bodyOf};
+ghost use Rattle.state.specs.Contracts.{Ready};
 
 // A place is compared with a constant; the block that goes on is made before an else.
 pub fn pattern_match_const(
     image: &[u8],
     tables: Tables,
-    blocks: &mut [u16],
-    statements: &mut [u16],
-    locals: &mut [u16],
-    entries: &mut [u16],
+    body: &mut [u16; BODY_WORDS],
     counts: Counts,
     p: PatId,
     constant: Constant,
@@ -58,32 +58,29 @@ pub fn pattern_match_const(
     els: OptBlock,
     place: Place,
 ) -> Lowered
-    requires { ⌜ Whole (now image) tables × Primed (lent (now blocks) (now statements) (now locals) (now entries)) counts × Begins counts current els ⌝ }
-    ensures { λ r. ⌜ Lowers (λ ctx. patternMatchConst (now (image .entry)) (p .0) constant ctx current els place) counts current els (lent (now (blocks .entry)) (now (statements .entry)) (now (locals .entry)) (now (entries .entry))) r (lent (now (blocks .exit)) (now (statements .exit)) (now (locals .exit)) (now (entries .exit))) ⌝ }
+    requires { ⌜ Whole (now image) tables × Ready (bodyOf (now body)) counts × Begins counts current els ⌝ }
+    ensures { λ r. ⌜ Lowers (λ ctx. patternMatchConst (now (image .entry)) (p .0) constant ctx current els place) counts current els (bodyOf (now (body .entry))) r (bodyOf (now (body .exit))) ⌝ }
 {
-    match new_basic_block(counts) {
-        NewBlock::Full => Lowered::Refused(MirLowerError::Limit, p),
-        NewBlock::Block(c1, then) => match else_block(c1, els) {
-            NewBlock::Full => Lowered::Refused(MirLowerError::Limit, p),
-            NewBlock::Block(c2, other) => match compare(
-                image,
-                tables,
-                blocks,
-                statements,
-                locals,
-                entries,
-                c2,
-                BinOp::Eq,
-                Left::Constant(constant),
-                place,
-                current,
-                then,
-                other,
-            ) {
-                Stepped::Refused(e) => Lowered::Refused(e, p),
-                Stepped::Now(c3) => Lowered::Done(c3, then, OptBlock::Some(other)),
-            },
-        },
+    let NewBlock::Block(c1, then) = new_basic_block(counts) else {
+        return Lowered::Refused(MirLowerError::Limit, p);
+    };
+    let NewBlock::Block(c2, other) = else_block(c1, els) else {
+        return Lowered::Refused(MirLowerError::Limit, p);
+    };
+    match compare(
+        image,
+        tables,
+        body,
+        c2,
+        BinOp::Eq,
+        Left::Constant(constant),
+        place,
+        current,
+        then,
+        other,
+    ) {
+        Stepped::Refused(e) => Lowered::Refused(e, p),
+        Stepped::Now(c3) => Lowered::Done(c3, then, OptBlock::Some(other)),
     }
 }
 
@@ -92,17 +89,8 @@ pub fn is_literal(kind: OperandKind) -> bool
     ensures { λ r. ⌜ r ≡ isLiteral kind ⌝ }
 {
     match kind {
-        OperandKind::Int => true,
-        OperandKind::Uint => true,
-        OperandKind::Char => true,
-        OperandKind::Bool => true,
-        OperandKind::Str => true,
-        OperandKind::CStr => true,
-        OperandKind::ByteStr => true,
-        OperandKind::Constant => false,
-        OperandKind::Float => true,
-        OperandKind::Other => false,
-        OperandKind::Unknown => false,
+        OperandKind::Constant | OperandKind::Other | OperandKind::Unknown => false,
+        _ => true,
     }
 }
 
@@ -110,10 +98,7 @@ pub fn is_literal(kind: OperandKind) -> bool
 pub fn pattern_match_lit(
     image: &[u8],
     tables: Tables,
-    blocks: &mut [u16],
-    statements: &mut [u16],
-    locals: &mut [u16],
-    entries: &mut [u16],
+    body: &mut [u16; BODY_WORDS],
     counts: Counts,
     mode: MatchingMode,
     p: PatId,
@@ -124,8 +109,8 @@ pub fn pattern_match_lit(
     place: Place,
 ) -> Lowered
     requires { ⌜ (valid (now image) ≡ true) × Whole (now image) tables × (ty < typeCount (now image)) × (operandHolds (now image) o ≡ true) ⌝ }
-    requires { ⌜ Primed (lent (now blocks) (now statements) (now locals) (now entries)) counts × Begins counts current els ⌝ }
-    ensures { λ r. ⌜ Lowers (λ ctx. litBy (operandOf (now (image .entry)) o .kind) (now (image .entry)) (p .0) ty (operandOf (now (image .entry)) o) mode ctx current els place) counts current els (lent (now (blocks .entry)) (now (statements .entry)) (now (locals .entry)) (now (entries .entry))) r (lent (now (blocks .exit)) (now (statements .exit)) (now (locals .exit)) (now (entries .exit))) ⌝ }
+    requires { ⌜ Ready (bodyOf (now body)) counts × Begins counts current els ⌝ }
+    ensures { λ r. ⌜ Lowers (λ ctx. litBy (operandOf (now (image .entry)) o .kind) (now (image .entry)) (p .0) ty (operandOf (now (image .entry)) o) mode ctx current els place) counts current els (bodyOf (now (body .entry))) r (bodyOf (now (body .exit))) ⌝ }
 {
     if !is_literal(operand_kind(operand_at(image, tables, o).kind)) {
         return Lowered::Refused(MirLowerError::NotSupported, p);
@@ -138,10 +123,7 @@ pub fn pattern_match_lit(
         LoweredOperand::Constant(constant) => pattern_match_const(
             image,
             tables,
-            blocks,
-            statements,
-            locals,
-            entries,
+            body,
             counts,
             p,
             constant,
@@ -156,10 +138,7 @@ pub fn pattern_match_lit(
 fn constant_compared(
     image: &[u8],
     tables: Tables,
-    blocks: &mut [u16],
-    statements: &mut [u16],
-    locals: &mut [u16],
-    entries: &mut [u16],
+    body: &mut [u16; BODY_WORDS],
     counts: Counts,
     p: PatId,
     l: LocalId,
@@ -167,32 +146,25 @@ fn constant_compared(
     els: OptBlock,
     place: Place,
 ) -> Lowered
-    requires { ⌜ Whole (now image) tables × Primed (lent (now blocks) (now statements) (now locals) (now entries)) counts × Begins counts current els ⌝ }
-    ensures { λ r. ⌜ Lowers (λ ctx. constantCompared (now (image .entry)) (p .0) l ctx current els place) counts current els (lent (now (blocks .entry)) (now (statements .entry)) (now (locals .entry)) (now (entries .entry))) r (lent (now (blocks .exit)) (now (statements .exit)) (now (locals .exit)) (now (entries .exit))) ⌝ }
+    requires { ⌜ Whole (now image) tables × Ready (bodyOf (now body)) counts × Begins counts current els ⌝ }
+    ensures { λ r. ⌜ Lowers (λ ctx. constantCompared (now (image .entry)) (p .0) l ctx current els place) counts current els (bodyOf (now (body .entry))) r (bodyOf (now (body .exit))) ⌝ }
 {
-    match temp(
-        image,
-        tables,
-        statements,
-        locals,
-        entries,
-        counts,
-        BOOL,
-        current,
-    ) {
+    match temp(image, tables, body, counts, BOOL, current) {
         NewTemp::Refused(e) => Lowered::Refused(e, p),
-        NewTemp::Local(c1, test) => match push_binary_assignment(
-            statements,
-            c1,
-            current,
-            test,
-            BinOp::Eq,
-            Left::Local(l),
-            place,
-        ) {
-            Counted::Full => Lowered::Refused(MirLowerError::Limit, p),
-            Counted::Now(c2) => then_switch(blocks, c2, p, test, 1, 0, current, els),
-        },
+        NewTemp::Local(c1, test) => {
+            let Counted::Now(c2) = push_binary_assignment(
+                body,
+                c1,
+                current,
+                test,
+                BinOp::Eq,
+                Left::Local(l),
+                place,
+            ) else {
+                return Lowered::Refused(MirLowerError::Limit, p);
+            };
+            then_switch(body, c2, p, test, 1, 0, current, els)
+        }
     }
 }
 
@@ -201,10 +173,7 @@ fn constant_compared(
 pub fn constant_path(
     image: &[u8],
     tables: Tables,
-    blocks: &mut [u16],
-    statements: &mut [u16],
-    locals: &mut [u16],
-    entries: &mut [u16],
+    body: &mut [u16; BODY_WORDS],
     counts: Counts,
     mode: MatchingMode,
     p: PatId,
@@ -215,46 +184,20 @@ pub fn constant_path(
     place: Place,
 ) -> Lowered
     requires { ⌜ Whole (now image) tables × (operandHolds (now image) o ≡ true) × (operandOf (now image) o .kind ≡ OperandKind.Constant) ⌝ }
-    requires { ⌜ Primed (lent (now blocks) (now statements) (now locals) (now entries)) counts × Begins counts current els ⌝ }
-    ensures { λ r. ⌜ Lowers (λ ctx. constantPath (now (image .entry)) (p .0) ty (operandOf (now (image .entry)) o) mode ctx current els place) counts current els (lent (now (blocks .entry)) (now (statements .entry)) (now (locals .entry)) (now (entries .entry))) r (lent (now (blocks .exit)) (now (statements .exit)) (now (locals .exit)) (now (entries .exit))) ⌝ }
+    requires { ⌜ Ready (bodyOf (now body)) counts × Begins counts current els ⌝ }
+    ensures { λ r. ⌜ Lowers (λ ctx. constantPath (now (image .entry)) (p .0) ty (operandOf (now (image .entry)) o) mode ctx current els place) counts current els (bodyOf (now (body .entry))) r (bodyOf (now (body .exit))) ⌝ }
 {
     if !is_check(mode) {
         return Lowered::Done(counts, current, els);
     }
     let constant = lower_const_to_operand(image, tables, ty, o);
-    match temp(
-        image,
-        tables,
-        statements,
-        locals,
-        entries,
-        counts,
-        ty,
-        current,
-    ) {
+    match temp(image, tables, body, counts, ty, current) {
         NewTemp::Refused(e) => Lowered::Refused(e, p),
-        NewTemp::Local(c1, l) => match push_constant_assignment(
-            statements,
-            c1,
-            current,
-            l,
-            constant,
-        ) {
-            Counted::Full => Lowered::Refused(MirLowerError::Limit, p),
-            Counted::Now(c2) => constant_compared(
-                image,
-                tables,
-                blocks,
-                statements,
-                locals,
-                entries,
-                c2,
-                p,
-                l,
-                current,
-                els,
-                place,
-            ),
-        },
+        NewTemp::Local(c1, l) => {
+            let Counted::Now(c2) = push_constant_assignment(body, c1, current, l, constant) else {
+                return Lowered::Refused(MirLowerError::Limit, p);
+            };
+            constant_compared(image, tables, body, c2, p, l, current, els, place)
+        }
     }
 }

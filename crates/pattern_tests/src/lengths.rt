@@ -1,36 +1,39 @@
 // The length of a slice.
+use body_assignments::push_assignment;
+use body_lowering::temps::temp;
+use body_tables::BODY_WORDS;
+use body_tables::blocks::set_terminator;
 use image::PatId;
 use image::Tables;
-use lower::merging::OptBlock;
-use lower::temps::NewTemp;
-use lower::temps::temp;
+use lower_spec::merging::OptBlock;
+use lower_spec::temps::NewTemp;
 use mir::BasicBlockId;
 use mir::Counts;
 use mir::blocks::NewBlock;
 use mir::blocks::Terminator;
 use mir::blocks::new_basic_block;
-use mir::blocks::set_terminator;
 use mir::locals::USIZE;
 use mir::rvalues::BinOp;
 use mir::rvalues::Constant;
 use mir::rvalues::Left;
 use mir::rvalues::PlaceRvalue;
-use mir::rvalues::push_assignment;
 use mir::scopes::Counted;
 use pattern_switching::compare;
 use pattern_switching::else_block;
+use pattern_walk_spec::Lowered;
 use place::LocalId;
 use place::Place;
 use refusals::MirLowerError;
 use state::Stepped;
-use walks::Lowered;
 ghost use mathlib.Core.Path.{_≡_};
 ghost use Prim.Native.Nat.{_<_};
 ghost use Rattle.image.specs.Tables.{Whole};
 ghost use Rattle.pattern_matching.specs.Slices.{lengthConstant};
-ghost use Rattle.walks.specs.Answers.{lent, Primed, Begins, Lowers};
+ghost use Rattle.pattern_walk_spec.specs.Answers.{Begins, Lowers};
 ghost use Rattle.pattern_switching.specs.Switching.{Steps};
 ghost use Rattle.pattern_tests.specs.Testing.{lengthEnd, lengthSwitch, lengthTestBy};
+ghost use Rattle.body_tables.specs.Layout.{bodyOf};
+ghost use Rattle.state.specs.Contracts.{Ready};
 
 // How many items a slice must have, as an operand.
 fn length_constant(n: u16) -> Constant
@@ -49,10 +52,7 @@ fn length_constant(n: u16) -> Constant
 fn length_end(
     image: &[u8],
     tables: Tables,
-    blocks: &mut [u16],
-    statements: &mut [u16],
-    locals: &mut [u16],
-    entries: &mut [u16],
+    body: &mut [u16; BODY_WORDS],
     counts: Counts,
     l: LocalId,
     n: u16,
@@ -61,15 +61,12 @@ fn length_end(
     then: BasicBlockId,
     other: BasicBlockId,
 ) -> Stepped
-    requires { ⌜ Whole (now image) tables × Primed (lent (now blocks) (now statements) (now locals) (now entries)) counts × (current .0 < counts .blocks) ⌝ }
-    ensures { λ r. ⌜ Steps (λ st. lengthEnd (now (image .entry)) l n rest st current then other) counts current (lent (now (blocks .entry)) (now (statements .entry)) (now (locals .entry)) (now (entries .entry))) r (lent (now (blocks .exit)) (now (statements .exit)) (now (locals .exit)) (now (entries .exit))) ⌝ }
+    requires { ⌜ Whole (now image) tables × Ready (bodyOf (now body)) counts × (current .0 < counts .blocks) ⌝ }
+    ensures { λ r. ⌜ Steps (λ st. lengthEnd (now (image .entry)) l n rest st current then other) counts current (bodyOf (now (body .entry))) r (bodyOf (now (body .exit))) ⌝ }
 {
     if !rest {
-        set_terminator(
-            blocks,
-            current,
-            Terminator::Switch(l, n as u64, 0, then, other),
-        );
+        let switch = Terminator::Switch(l, n as u64, 0, then, other);
+        set_terminator(body, current, switch);
         return Stepped::Now(counts);
     }
     let length = Place {
@@ -80,10 +77,7 @@ fn length_end(
     compare(
         image,
         tables,
-        blocks,
-        statements,
-        locals,
-        entries,
+        body,
         counts,
         BinOp::Le,
         Left::Constant(length_constant(n)),
@@ -98,10 +92,7 @@ fn length_end(
 fn length_switch(
     image: &[u8],
     tables: Tables,
-    blocks: &mut [u16],
-    statements: &mut [u16],
-    locals: &mut [u16],
-    entries: &mut [u16],
+    body: &mut [u16; BODY_WORDS],
     counts: Counts,
     p: PatId,
     l: LocalId,
@@ -110,32 +101,18 @@ fn length_switch(
     current: BasicBlockId,
     els: OptBlock,
 ) -> Lowered
-    requires { ⌜ Whole (now image) tables × Primed (lent (now blocks) (now statements) (now locals) (now entries)) counts × Begins counts current els ⌝ }
-    ensures { λ r. ⌜ Lowers (λ ctx. lengthSwitch (now (image .entry)) (p .0) l n rest ctx current els) counts current els (lent (now (blocks .entry)) (now (statements .entry)) (now (locals .entry)) (now (entries .entry))) r (lent (now (blocks .exit)) (now (statements .exit)) (now (locals .exit)) (now (entries .exit))) ⌝ }
+    requires { ⌜ Whole (now image) tables × Ready (bodyOf (now body)) counts × Begins counts current els ⌝ }
+    ensures { λ r. ⌜ Lowers (λ ctx. lengthSwitch (now (image .entry)) (p .0) l n rest ctx current els) counts current els (bodyOf (now (body .entry))) r (bodyOf (now (body .exit))) ⌝ }
 {
-    match else_block(counts, els) {
-        NewBlock::Full => Lowered::Refused(MirLowerError::Limit, p),
-        NewBlock::Block(c1, other) => match new_basic_block(c1) {
-            NewBlock::Full => Lowered::Refused(MirLowerError::Limit, p),
-            NewBlock::Block(c2, then) => match length_end(
-                image,
-                tables,
-                blocks,
-                statements,
-                locals,
-                entries,
-                c2,
-                l,
-                n,
-                rest,
-                current,
-                then,
-                other,
-            ) {
-                Stepped::Refused(e) => Lowered::Refused(e, p),
-                Stepped::Now(c3) => Lowered::Done(c3, then, OptBlock::Some(other)),
-            },
-        },
+    let NewBlock::Block(c1, other) = else_block(counts, els) else {
+        return Lowered::Refused(MirLowerError::Limit, p);
+    };
+    let NewBlock::Block(c2, then) = new_basic_block(c1) else {
+        return Lowered::Refused(MirLowerError::Limit, p);
+    };
+    match length_end(image, tables, body, c2, l, n, rest, current, then, other) {
+        Stepped::Refused(e) => Lowered::Refused(e, p),
+        Stepped::Now(c3) => Lowered::Done(c3, then, OptBlock::Some(other)),
     }
 }
 
@@ -143,10 +120,7 @@ fn length_switch(
 pub fn length_test(
     image: &[u8],
     tables: Tables,
-    blocks: &mut [u16],
-    statements: &mut [u16],
-    locals: &mut [u16],
-    entries: &mut [u16],
+    body: &mut [u16; BODY_WORDS],
     counts: Counts,
     p: PatId,
     n: u16,
@@ -155,44 +129,17 @@ pub fn length_test(
     els: OptBlock,
     place: Place,
 ) -> Lowered
-    requires { ⌜ Whole (now image) tables × Primed (lent (now blocks) (now statements) (now locals) (now entries)) counts × Begins counts current els ⌝ }
-    ensures { λ r. ⌜ Lowers (λ ctx. lengthTestBy rest (now (image .entry)) (p .0) n ctx current els place) counts current els (lent (now (blocks .entry)) (now (statements .entry)) (now (locals .entry)) (now (entries .entry))) r (lent (now (blocks .exit)) (now (statements .exit)) (now (locals .exit)) (now (entries .exit))) ⌝ }
+    requires { ⌜ Whole (now image) tables × Ready (bodyOf (now body)) counts × Begins counts current els ⌝ }
+    ensures { λ r. ⌜ Lowers (λ ctx. lengthTestBy rest (now (image .entry)) (p .0) n ctx current els place) counts current els (bodyOf (now (body .entry))) r (bodyOf (now (body .exit))) ⌝ }
 {
-    match temp(
-        image,
-        tables,
-        statements,
-        locals,
-        entries,
-        counts,
-        USIZE,
-        current,
-    ) {
+    match temp(image, tables, body, counts, USIZE, current) {
         NewTemp::Refused(e) => Lowered::Refused(e, p),
-        NewTemp::Local(c1, l) => match push_assignment(
-            statements,
-            c1,
-            current,
-            l,
-            PlaceRvalue::Len,
-            place,
-        ) {
-            Counted::Full => Lowered::Refused(MirLowerError::Limit, p),
-            Counted::Now(c2) => length_switch(
-                image,
-                tables,
-                blocks,
-                statements,
-                locals,
-                entries,
-                c2,
-                p,
-                l,
-                n,
-                rest,
-                current,
-                els,
-            ),
-        },
+        NewTemp::Local(c1, l) => {
+            let Counted::Now(c2) = push_assignment(body, c1, current, l, PlaceRvalue::Len, place)
+            else {
+                return Lowered::Refused(MirLowerError::Limit, p);
+            };
+            length_switch(image, tables, body, c2, p, l, n, rest, current, els)
+        }
     }
 }

@@ -5,6 +5,7 @@ use image::Tables;
 use image::kinds::pat_kind;
 use image::rows::PatRow;
 use image::rows::pat_at;
+use pattern_entering::VISIT_WORDS;
 use pattern_entering::deref_place;
 use pattern_entering::visit;
 use pattern_matching::MatchingMode;
@@ -14,10 +15,9 @@ use place::Place;
 ghost use mathlib.Core.Path.{_≡_};
 ghost use mathlib.Core.Bool.{true};
 ghost use Prim.Native.Nat.{_<_};
-ghost use lib.ListN.{length};
 ghost use Rattle.image.specs.Tables.{Whole, patternCount};
 ghost use Rattle.image.specs.Valid.{valid};
-ghost use Rattle.walking.specs.Walk.{passesOn, Enters};
+ghost use Rattle.pattern_walk_laws.specs.Walk.{passesOn, Enters};
 
 // The pattern at which the walk goes on by its kind, and the place behind its derefs; or there is no room for these.
 pub struct Entered {
@@ -43,12 +43,12 @@ fn passes_on(mode: MatchingMode, row: PatRow) -> bool
 pub fn enter(
     image: &[u8],
     tables: Tables,
-    visits: &mut [u16],
+    visits: &mut [u16; VISIT_WORDS],
     mode: MatchingMode,
     p: PatId,
     place: Place,
 ) -> Entered
-    requires { ⌜ (valid (now image) ≡ true) × Whole (now image) tables × (length (now visits) ≡ 512) × (p .0 < patternCount (now image)) ⌝ }
+    requires { ⌜ (valid (now image) ≡ true) × Whole (now image) tables × (p .0 < patternCount (now image)) ⌝ }
     ensures { λ r. ⌜ Enters (now (image .entry)) mode p place (now (visits .entry)) (r .ok) (r .p) (r .place) (now (visits .exit)) ⌝ }
 {
     let mut q = p;

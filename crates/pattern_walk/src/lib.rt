@@ -7,15 +7,17 @@ pub mod sub; // sub.rt: Bind, Or and Slice patterns
 use adt::pattern_match_adt;
 use adt::pattern_match_tuple_like;
 use adt::pattern_matching_variant;
+use body_tables::BODY_WORDS;
 use entering::enter;
 use image::PatId;
 use image::Tables;
 use image::kinds::pat_kind;
 use image::kinds::path_kind;
 use image::rows::pat_at;
-use lower::merging::OptBlock;
+use lower_spec::merging::OptBlock;
 use mir::BasicBlockId;
 use mir::Counts;
+use pattern_entering::VISIT_WORDS;
 use pattern_leaves::kinds::is_leaf;
 use pattern_leaves::kinds::pattern_match_leaf;
 use pattern_matching::MatchingMode;
@@ -31,6 +33,7 @@ use pattern_rows::CompoundKind;
 use pattern_rows::compound_kind;
 use pattern_rows::variant_shape;
 use pattern_rows::variant_word;
+use pattern_walk_spec::Lowered;
 use place::Place;
 use place::elems::ProjectionElem;
 use place::project;
@@ -38,26 +41,23 @@ use refusals::MirLowerError;
 use sub::alts;
 use sub::bound;
 use sub::slice;
-use walks::Lowered;
 ghost use Prim.Native.Nat.{_<_};
 ghost use Rattle.image.specs.Tables.{patternCount};
 ghost use Rattle.image.specs.Tree.{tree};
 ghost use Rattle.pattern_matching.specs.Variants.{variantFields};
 ghost use Rattle.pattern_matching.specs.Patterns.{patternMatchInner};
-ghost use Rattle.walks.specs.Answers.{lent, Walks};
+ghost use Rattle.pattern_walk_spec.specs.Answers.{Walks};
 ghost use Rattle.pattern_nodes.specs.Arguments.{shapeOf, ShapeThere};
-ghost use Rattle.walking.specs.Walk.{Walkable};
+ghost use Rattle.pattern_walk_laws.specs.Walk.{Walkable};
+ghost use Rattle.body_tables.specs.Layout.{bodyOf};
 
 // The pattern p: it is entered, and lowered by the kind of the pattern at which the walk then is.
 pub fn pattern_match_inner(
     image: &[u8],
     tables: Tables,
     bindings: &[u16],
-    blocks: &mut [u16],
-    statements: &mut [u16],
-    locals: &mut [u16],
-    entries: &mut [u16],
-    visits: &mut [u16],
+    body: &mut [u16; BODY_WORDS],
+    visits: &mut [u16; VISIT_WORDS],
     counts: Counts,
     mode: MatchingMode,
     p: PatId,
@@ -65,9 +65,9 @@ pub fn pattern_match_inner(
     els: OptBlock,
     place: Place,
 ) -> Lowered
-    requires { ⌜ Walkable (now image) tables (now bindings) (lent (now blocks) (now statements) (now locals) (now entries)) (now visits) counts current els place ⌝ }
+    requires { ⌜ Walkable (now image) tables (now bindings) (bodyOf (now body)) counts current els place ⌝ }
     requires { ⌜ p .0 < patternCount (now image) ⌝ }
-    ensures { λ r. ⌜ Walks (λ ctx. patternMatchInner (now (image .entry)) (now (bindings .entry)) (tree (now (image .entry)) (p .0)) mode ctx current els place) counts current els (lent (now (blocks .entry)) (now (statements .entry)) (now (locals .entry)) (now (entries .entry))) (now (visits .entry)) r (lent (now (blocks .exit)) (now (statements .exit)) (now (locals .exit)) (now (entries .exit))) (now (visits .exit)) ⌝ }
+    ensures { λ r. ⌜ Walks (λ ctx. patternMatchInner (now (image .entry)) (now (bindings .entry)) (tree (now (image .entry)) (p .0)) mode ctx current els place) counts current els (bodyOf (now (body .entry))) (now (visits .entry)) r (bodyOf (now (body .exit))) (now (visits .exit)) ⌝ }
 {
     let entered = enter(image, tables, visits, mode, p, place);
     let q = entered.p;
@@ -81,10 +81,7 @@ pub fn pattern_match_inner(
             image,
             tables,
             bindings,
-            blocks,
-            statements,
-            locals,
-            entries,
+            body,
             counts,
             mode,
             q,
@@ -95,20 +92,13 @@ pub fn pattern_match_inner(
         );
     }
     match compound_kind(pat_kind(row.kind)) {
-        CompoundKind::Tuple => match tuple_at(
-            image,
-            tables,
-            place_ty(image, tables, locals, here),
-        ) {
+        CompoundKind::Tuple => match tuple_at(image, tables, place_ty(image, tables, body, here)) {
             TupleAt::Refused(e) => Lowered::Refused(e, q),
             TupleAt::Fields(fields) => pattern_match_tuple_like(
                 image,
                 tables,
                 bindings,
-                blocks,
-                statements,
-                locals,
-                entries,
+                body,
                 visits,
                 counts,
                 mode,
@@ -126,10 +116,7 @@ pub fn pattern_match_inner(
             image,
             tables,
             bindings,
-            blocks,
-            statements,
-            locals,
-            entries,
+            body,
             visits,
             counts,
             mode,
@@ -144,10 +131,7 @@ pub fn pattern_match_inner(
             image,
             tables,
             bindings,
-            blocks,
-            statements,
-            locals,
-            entries,
+            body,
             visits,
             counts,
             mode,
@@ -161,10 +145,7 @@ pub fn pattern_match_inner(
             image,
             tables,
             bindings,
-            blocks,
-            statements,
-            locals,
-            entries,
+            body,
             visits,
             counts,
             mode,
@@ -177,7 +158,7 @@ pub fn pattern_match_inner(
         CompoundKind::Ref => match reference_at(
             image,
             tables,
-            place_ty(image, tables, locals, here),
+            place_ty(image, tables, body, here),
         ) {
             ReferenceAt::Refused(e) => Lowered::Refused(e, q),
             ReferenceAt::Reference => {
@@ -189,10 +170,7 @@ pub fn pattern_match_inner(
                     image,
                     tables,
                     bindings,
-                    blocks,
-                    statements,
-                    locals,
-                    entries,
+                    body,
                     visits,
                     counts,
                     mode,
@@ -212,10 +190,7 @@ pub fn pattern_match_inner(
                 image,
                 tables,
                 bindings,
-                blocks,
-                statements,
-                locals,
-                entries,
+                body,
                 visits,
                 counts,
                 mode,
@@ -235,11 +210,8 @@ pub fn pattern_matching_variant_fields(
     image: &[u8],
     tables: Tables,
     bindings: &[u16],
-    blocks: &mut [u16],
-    statements: &mut [u16],
-    locals: &mut [u16],
-    entries: &mut [u16],
-    visits: &mut [u16],
+    body: &mut [u16; BODY_WORDS],
+    visits: &mut [u16; VISIT_WORDS],
     counts: Counts,
     mode: MatchingMode,
     p: PatId,
@@ -249,9 +221,9 @@ pub fn pattern_matching_variant_fields(
     els: OptBlock,
     place: Place,
 ) -> Lowered
-    requires { ⌜ Walkable (now image) tables (now bindings) (lent (now blocks) (now statements) (now locals) (now entries)) (now visits) counts current els place ⌝ }
+    requires { ⌜ Walkable (now image) tables (now bindings) (bodyOf (now body)) counts current els place ⌝ }
     requires { ⌜ (p .0 < patternCount (now image)) × ShapeThere (now image) (p .0) shape ⌝ }
-    ensures { λ r. ⌜ Walks (λ ctx. variantFields (shapeOf (now (image .entry)) (now (bindings .entry)) shape) (p .0) fields mode ctx current els place) counts current els (lent (now (blocks .entry)) (now (statements .entry)) (now (locals .entry)) (now (entries .entry))) (now (visits .entry)) r (lent (now (blocks .exit)) (now (statements .exit)) (now (locals .exit)) (now (entries .exit))) (now (visits .exit)) ⌝ }
+    ensures { λ r. ⌜ Walks (λ ctx. variantFields (shapeOf (now (image .entry)) (now (bindings .entry)) shape) (p .0) fields mode ctx current els place) counts current els (bodyOf (now (body .entry))) (now (visits .entry)) r (bodyOf (now (body .exit))) (now (visits .exit)) ⌝ }
 {
     match shape {
         AdtPatternShape::Unit => Lowered::Done(counts, current, els),
@@ -259,10 +231,7 @@ pub fn pattern_matching_variant_fields(
             image,
             tables,
             bindings,
-            blocks,
-            statements,
-            locals,
-            entries,
+            body,
             visits,
             counts,
             mode,
@@ -283,10 +252,7 @@ pub fn pattern_matching_variant_fields(
                 image,
                 tables,
                 bindings,
-                blocks,
-                statements,
-                locals,
-                entries,
+                body,
                 visits,
                 counts,
                 mode,

@@ -1,12 +1,21 @@
 // What is printed of an answer: each part has a space behind it, but the last checksum a line end.
+use body_calls_spec::DropCall;
+use body_calls_spec::MergeCall;
+use body_calls_spec::ScopeCall;
+use body_calls_spec::TempCall;
+use body_tables::BODY_WORDS;
+use body_tables::ENTRIES;
+use body_tables::LOCALS;
+use body_tables::SCOPES;
+use body_tables::STATEMENTS;
 use libc::STDOUT_FILENO;
-use lower::merging::OptBlock;
-use lower_calls::DropCall;
-use lower_calls::MergeCall;
-use lower_calls::ScopeCall;
-use lower_calls::TempCall;
+use lower_spec::merging::OptBlock;
+use mir::BasicBlockId;
 use mir::Counts;
 use refusals::MirLowerError;
+ghost use mathlib.Core.Path.{_≡_};
+ghost use lib.ListN.{length};
+ghost use Rattle.body_tables.specs.Layout.{bodyWords};
 
 // A number, and a space.
 pub fn print_number(number: u32) {
@@ -40,9 +49,9 @@ pub fn print_error(e: MirLowerError, p: u16) {
     }
 }
 
-fn print_block(block: u16) {
+fn print_block(block: BasicBlockId) {
     io::write_all(STDOUT_FILENO, b"block ");
-    print_number(block as u32);
+    print_number(block.0 as u32);
 }
 
 fn print_opt_block(block: OptBlock) {
@@ -50,7 +59,7 @@ fn print_opt_block(block: OptBlock) {
         OptBlock::None => {
             io::write_all(STDOUT_FILENO, b"block - ");
         }
-        OptBlock::Some(b) => print_block(b.0),
+        OptBlock::Some(b) => print_block(b),
     }
 }
 
@@ -98,7 +107,7 @@ pub fn print_scope(answer: ScopeCall, before: Counts) -> Counts {
 pub fn print_drop(answer: DropCall, before: Counts) -> Counts {
     match answer {
         DropCall::At(counts, b) => {
-            print_block(b.0);
+            print_block(b);
             return counts;
         }
         DropCall::Refused(e) => print_error(e, 65535),
@@ -144,4 +153,30 @@ pub fn print_sum(table: &[u16]) {
 pub fn end_line(table: &[u16]) {
     io::print_decimal(STDOUT_FILENO, checksum(table) as u64);
     io::write_all(STDOUT_FILENO, b"\n");
+}
+
+// The checksums of a body's blocks, statements, locals and scopes.
+fn print_four(body: &[u16])
+    requires { ⌜ length (now body) ≡ bodyWords ⌝ }
+{
+    print_sum(&body[0..STATEMENTS]);
+    print_sum(&body[STATEMENTS..LOCALS]);
+    print_sum(&body[LOCALS..SCOPES]);
+    print_sum(&body[SCOPES..ENTRIES]);
+}
+
+// The checksums of a body's five tables.
+pub fn print_sums(body: &[u16])
+    requires { ⌜ length (now body) ≡ bodyWords ⌝ }
+{
+    print_four(body);
+    print_sum(&body[ENTRIES..BODY_WORDS]);
+}
+
+// The same at the end of a line.
+pub fn end_sums(body: &[u16])
+    requires { ⌜ length (now body) ≡ bodyWords ⌝ }
+{
+    print_four(body);
+    end_line(&body[ENTRIES..BODY_WORDS]);
 }

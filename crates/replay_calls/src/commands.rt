@@ -1,14 +1,23 @@
 // A command of a script: a call, which prints a line, or a word that is set.
-use super::answers::end_line;
+use super::answers::end_sums;
 use super::answers::print_counts;
-use super::answers::print_sum;
 use super::calls::call_assume;
 use super::calls::call_merge;
 use super::calls::call_pop;
 use super::calls::call_push;
 use super::calls::call_temp;
 use super::calls::call_until;
+use super::calls::opt_block;
+use body_tables::BODY_WORDS;
+use body_tables::ENTRIES;
+use body_tables::LOCALS;
+use body_tables::SCOPES;
+use body_tables::STATEMENTS;
+use mir::BasicBlockId;
 use mir::Counts;
+ghost use mathlib.Core.Path.{_≡_};
+ghost use lib.ListN.{length};
+ghost use Rattle.body_tables.specs.Layout.{bodyWords};
 
 // 0 temp (word a, block b), 1 merge_blocks (a, b), 2 push_drop_scope, 3 pop_assume_dropped, 4 pop_and_drop (block a), 5 drop_until_scope (index a, block b),
 // 6 a word is set: word b of the table a to c, or of table 5 the count b.
@@ -42,85 +51,49 @@ fn poke_count(counts: Counts, i: u16, count: u16) -> Counts {
 }
 
 // The word b of the table a.
-fn set_word(
-    blocks: &mut [u16; 6144],
-    stmts: &mut [u16; 50176],
-    locals: &mut [u16; 512],
-    scopes: &mut [u16; 32],
-    entries: &mut [u16; 1024],
-    command: Command,
-) {
+fn set_word(body: &mut [u16], command: Command)
+    requires { ⌜ length (now body) ≡ bodyWords ⌝ }
+{
     let table = command.a;
     let i = command.b;
     let word = command.c;
     match table {
-        0 => poke(blocks, i, word),
-        1 => poke(stmts, i, word),
-        2 => poke(locals, i, word),
-        3 => poke(scopes, i, word),
-        4 => poke(entries, i, word),
+        0 => poke(&mut body[0..STATEMENTS], i, word),
+        1 => poke(&mut body[STATEMENTS..LOCALS], i, word),
+        2 => poke(&mut body[LOCALS..SCOPES], i, word),
+        3 => poke(&mut body[SCOPES..ENTRIES], i, word),
+        4 => poke(&mut body[ENTRIES..BODY_WORDS], i, word),
         _ => {}
     }
 }
 
 // A call, which prints its answer, and the counts behind it.
-fn call(
-    image: &[u8],
-    blocks: &mut [u16; 6144],
-    stmts: &mut [u16; 50176],
-    locals: &mut [u16; 512],
-    scopes: &mut [u16; 32],
-    entries: &mut [u16; 1024],
-    counts: Counts,
-    command: Command,
-) -> Counts {
+fn call(image: &[u8], body: &mut [u16; BODY_WORDS], counts: Counts, command: Command) -> Counts {
     let op = command.op;
     let a = command.a;
     let b = command.b;
     match op {
-        0 => call_temp(image, blocks, stmts, locals, scopes, entries, counts, a, b),
-        1 => call_merge(image, blocks, stmts, locals, scopes, entries, counts, a, b),
-        2 => call_push(image, blocks, stmts, locals, scopes, entries, counts),
-        3 => call_assume(image, blocks, stmts, locals, scopes, entries, counts),
-        4 => call_pop(image, blocks, stmts, locals, scopes, entries, counts, a),
-        5 => call_until(image, blocks, stmts, locals, scopes, entries, counts, a, b),
+        0 => call_temp(image, body, counts, a, BasicBlockId(b)),
+        1 => call_merge(image, body, counts, opt_block(a), opt_block(b)),
+        2 => call_push(image, body, counts),
+        3 => call_assume(image, body, counts),
+        4 => call_pop(image, body, counts, BasicBlockId(a)),
+        5 => call_until(image, body, counts, a, BasicBlockId(b)),
         _ => counts,
     }
 }
 
 // A command, and the counts behind it.
-pub fn run(
-    image: &[u8],
-    blocks: &mut [u16; 6144],
-    stmts: &mut [u16; 50176],
-    locals: &mut [u16; 512],
-    scopes: &mut [u16; 32],
-    entries: &mut [u16; 1024],
-    counts: Counts,
-    command: Command,
-) -> Counts {
+pub fn run(image: &[u8], body: &mut [u16; BODY_WORDS], counts: Counts, command: Command) -> Counts {
     if command.op == 6 {
         if command.a == 5 {
             return poke_count(counts, command.b, command.c);
         }
-        set_word(blocks, stmts, locals, scopes, entries, command);
+        set_word(body, command);
         return counts;
     }
-    let next = call(
-        image,
-        blocks,
-        stmts,
-        locals,
-        scopes,
-        entries,
-        counts,
-        command,
-    );
+    let next = call(image, body, counts, command);
     print_counts(next);
-    print_sum(blocks);
-    print_sum(stmts);
-    print_sum(locals);
-    print_sum(scopes);
-    end_line(entries);
+    end_sums(body);
     next
 }

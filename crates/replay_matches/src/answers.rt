@@ -1,8 +1,9 @@
 // What is printed of the answer to a call on a pattern: then and else, or why it was refused.
 use libc::STDOUT_FILENO;
-use lower::merging::OptBlock;
-use match_calls::MatchCall;
+use lower_spec::merging::OptBlock;
+use mir::BasicBlockId;
 use mir::Counts;
+use pattern_calls_spec::MatchCall;
 use replay_calls::answers::print_error;
 use replay_calls::answers::print_number;
 use replay_calls::answers::print_refusal;
@@ -19,9 +20,9 @@ fn print_else(els: OptBlock) {
     }
 }
 
-fn print_then(then: u16, els: OptBlock) {
+fn print_then(then: BasicBlockId, els: OptBlock) {
     io::write_all(STDOUT_FILENO, b"then ");
-    print_number(then as u32);
+    print_number(then.0 as u32);
     print_else(els);
 }
 
@@ -29,7 +30,7 @@ fn print_then(then: u16, els: OptBlock) {
 pub fn print_match(answer: MatchCall, before: Counts) -> Counts {
     match answer {
         MatchCall::Matched(counts, then, els) => {
-            print_then(then.0, els);
+            print_then(then, els);
             return counts;
         }
         MatchCall::Refused(e, p) => print_error(e, p.0),

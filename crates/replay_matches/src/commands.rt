@@ -3,10 +3,18 @@ use super::call_words::binding_words;
 use super::matches::call_assignment;
 use super::matches::call_match;
 use super::matches::call_self;
+use body_tables::BODY_WORDS;
+use image::BindingId;
+use image::PatId;
+use mir::BasicBlockId;
 use mir::Counts;
+use pattern_entering::VISIT_WORDS;
+use place::LocalId;
 use replay_calls::answers::end_line;
 use replay_calls::answers::print_counts;
 use replay_calls::answers::print_sum;
+use replay_calls::answers::print_sums;
+use replay_calls::calls::opt_block;
 use replay_calls::commands::Command;
 use replay_calls::commands::poke;
 use replay_calls::commands::run;
@@ -16,63 +24,22 @@ use replay_calls::commands::run;
 fn call(
     image: &[u8],
     bindings: &[u16],
-    blocks: &mut [u16; 6144],
-    stmts: &mut [u16; 50176],
-    locals: &mut [u16; 512],
-    scopes: &mut [u16; 32],
-    entries: &mut [u16; 1024],
-    visits: &mut [u16; 512],
+    body: &mut [u16; BODY_WORDS],
+    visits: &mut [u16; VISIT_WORDS],
     counts: Counts,
     handed: &[u16; 35],
     command: Command,
 ) -> Counts {
     let op = command.op;
-    let a = command.a;
-    let b = command.b;
-    let c = command.c;
+    let p = PatId(command.a);
+    let own = BindingId(command.a);
+    let b = BasicBlockId(command.b);
+    let els = opt_block(command.c);
+    let l = LocalId(command.c);
     match op {
-        7 => call_match(
-            image,
-            bindings,
-            blocks,
-            stmts,
-            locals,
-            scopes,
-            entries,
-            visits,
-            counts,
-            handed,
-            a,
-            b,
-            c,
-        ),
-        8 => call_assignment(
-            image,
-            bindings,
-            blocks,
-            stmts,
-            locals,
-            scopes,
-            entries,
-            visits,
-            counts,
-            handed,
-            a,
-            b,
-        ),
-        9 => call_self(
-            image,
-            bindings,
-            blocks,
-            stmts,
-            locals,
-            scopes,
-            entries,
-            counts,
-            a,
-            b,
-            c,
-        ),
+        7 => call_match(image, bindings, body, visits, counts, handed, p, b, els),
+        8 => call_assignment(image, bindings, body, visits, counts, handed, p, b),
+        9 => call_self(image, bindings, body, counts, own, b, l),
         _ => counts,
     }
 }
@@ -81,80 +48,32 @@ fn call(
 fn call_with(
     image: &[u8],
     bindings: &[u16],
-    blocks: &mut [u16; 6144],
-    stmts: &mut [u16; 50176],
-    locals: &mut [u16; 512],
-    scopes: &mut [u16; 32],
-    entries: &mut [u16; 1024],
-    visits: &mut [u16; 512],
+    body: &mut [u16; BODY_WORDS],
+    visits: &mut [u16; VISIT_WORDS],
     counts: Counts,
     handed: &[u16; 35],
     command: Command,
 ) -> Counts {
     let n = binding_words(handed) as usize;
     if bindings.len() < n {
-        return call(
-            image,
-            bindings,
-            blocks,
-            stmts,
-            locals,
-            scopes,
-            entries,
-            visits,
-            counts,
-            handed,
-            command,
-        );
+        return call(image, bindings, body, visits, counts, handed, command);
     }
-    call(
-        image,
-        &bindings[..n],
-        blocks,
-        stmts,
-        locals,
-        scopes,
-        entries,
-        visits,
-        counts,
-        handed,
-        command,
-    )
+    call(image, &bindings[..n], body, visits, counts, handed, command)
 }
 
 // A call on a pattern, and its line: behind the sums of the body's tables stand those of the visits and of the bindings' locals.
 fn run_match(
     image: &[u8],
     bindings: &[u16; 256],
-    blocks: &mut [u16; 6144],
-    stmts: &mut [u16; 50176],
-    locals: &mut [u16; 512],
-    scopes: &mut [u16; 32],
-    entries: &mut [u16; 1024],
-    visits: &mut [u16; 512],
+    body: &mut [u16; BODY_WORDS],
+    visits: &mut [u16; VISIT_WORDS],
     counts: Counts,
     handed: &[u16; 35],
     command: Command,
 ) -> Counts {
-    let next = call_with(
-        image,
-        bindings,
-        blocks,
-        stmts,
-        locals,
-        scopes,
-        entries,
-        visits,
-        counts,
-        handed,
-        command,
-    );
+    let next = call_with(image, bindings, body, visits, counts, handed, command);
     print_counts(next);
-    print_sum(blocks);
-    print_sum(stmts);
-    print_sum(locals);
-    print_sum(scopes);
-    print_sum(entries);
+    print_sums(body);
     print_sum(visits);
     end_line(bindings);
     next
@@ -164,12 +83,8 @@ fn run_match(
 pub fn run_command(
     image: &[u8],
     bindings: &mut [u16; 256],
-    blocks: &mut [u16; 6144],
-    stmts: &mut [u16; 50176],
-    locals: &mut [u16; 512],
-    scopes: &mut [u16; 32],
-    entries: &mut [u16; 1024],
-    visits: &mut [u16; 512],
+    body: &mut [u16; BODY_WORDS],
+    visits: &mut [u16; VISIT_WORDS],
     counts: Counts,
     handed: &mut [u16; 35],
     command: Command,
@@ -185,28 +100,7 @@ pub fn run_command(
         return counts;
     }
     if op < 7 {
-        return run(
-            image,
-            blocks,
-            stmts,
-            locals,
-            scopes,
-            entries,
-            counts,
-            command,
-        );
+        return run(image, body, counts, command);
     }
-    run_match(
-        image,
-        bindings,
-        blocks,
-        stmts,
-        locals,
-        scopes,
-        entries,
-        visits,
-        counts,
-        handed,
-        command,
-    )
+    run_match(image, bindings, body, visits, counts, handed, command)
 }

@@ -1,14 +1,16 @@
-// A stored script: calls on a body and its scopes and calls on patterns, and a line for each. Behind the image stand a number of four bytes, big-endian, and so many commands
-// of four 16-bit words, big-endian. Each script starts with tables of zeros.
+// A stored script: calls on a body and calls on patterns, and a line for each. Behind the image stand a number of four bytes, big-endian, and so many commands of four
+// 16-bit words, big-endian. Each script starts with tables of zeros.
 mod answers; // answers.rt: what is printed of an answer
 mod call_words; // call_words.rt: what is handed in besides the body
 mod commands; // commands.rt: a command, and the line that it prints
 mod matches; // matches.rt: each call on a pattern
 
+use body_tables::BODY_WORDS;
 use commands::run_command;
 use image::word_at;
 use libc::STDIN_FILENO;
 use mir::Counts;
+use pattern_entering::VISIT_WORDS;
 use replay_calls::commands::Command;
 use stored_records::next_number;
 
@@ -36,12 +38,8 @@ fn next_command() -> Command {
 fn script(
     image: &[u8],
     bindings: &mut [u16; 256],
-    blocks: &mut [u16; 6144],
-    stmts: &mut [u16; 50176],
-    locals: &mut [u16; 512],
-    scopes: &mut [u16; 32],
-    entries: &mut [u16; 1024],
-    visits: &mut [u16; 512],
+    body: &mut [u16; BODY_WORDS],
+    visits: &mut [u16; VISIT_WORDS],
     handed: &mut [u16; 35],
 ) {
     let mut counts = Counts {
@@ -54,19 +52,7 @@ fn script(
     let mut left = next_number();
     while left > 0 {
         let next = next_command();
-        counts = run_command(
-            image,
-            bindings,
-            blocks,
-            stmts,
-            locals,
-            scopes,
-            entries,
-            visits,
-            counts,
-            handed,
-            next,
-        );
+        counts = run_command(image, bindings, body, visits, counts, handed, next);
         left -= 1;
     }
 }
@@ -74,22 +60,8 @@ fn script(
 // The script on this image, whose commands come next, from tables of zeros on.
 pub fn replay_script(image: &[u8]) {
     let mut bindings = [0u16; 256];
-    let mut blocks = [0u16; 6144];
-    let mut stmts = [0u16; 50176];
-    let mut locals = [0u16; 512];
-    let mut scopes = [0u16; 32];
-    let mut entries = [0u16; 1024];
-    let mut visits = [0u16; 512];
+    let mut body = [0u16; BODY_WORDS];
+    let mut visits = [0u16; VISIT_WORDS];
     let mut handed = [0u16; 35];
-    script(
-        image,
-        &mut bindings,
-        &mut blocks,
-        &mut stmts,
-        &mut locals,
-        &mut scopes,
-        &mut entries,
-        &mut visits,
-        &mut handed,
-    );
+    script(image, &mut bindings, &mut body, &mut visits, &mut handed);
 }

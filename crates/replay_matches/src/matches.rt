@@ -1,45 +1,39 @@
-// Each call on a pattern, on the body and scopes of a script: it prints the answer, and answers the counts behind it.
+// Each call on a pattern, on the body of a script: it prints the answer, and answers the counts behind it.
 use super::answers::print_match;
 use super::call_words::place_of;
+use body_tables::BODY_WORDS;
 use image::BindingId;
 use image::PatId;
+use lower_spec::merging::OptBlock;
 use mir::BasicBlockId;
 use mir::Counts;
-use pattern_calls::pattern_match;
-use pattern_calls::pattern_match_assignment;
+use pattern_assignment_call::pattern_match_assignment;
+use pattern_entering::VISIT_WORDS;
+use pattern_match_call::pattern_match;
 use place::LocalId;
-use replay_calls::calls::opt_block;
 use self_param_call::match_self_param;
 
 pub fn call_match(
     image: &[u8],
     bindings: &[u16],
-    blocks: &mut [u16; 6144],
-    stmts: &mut [u16; 50176],
-    locals: &mut [u16; 512],
-    scopes: &mut [u16; 32],
-    entries: &mut [u16; 1024],
-    visits: &mut [u16; 512],
+    body: &mut [u16; BODY_WORDS],
+    visits: &mut [u16; VISIT_WORDS],
     counts: Counts,
     handed: &[u16; 35],
-    pattern: u16,
-    block: u16,
-    els: u16,
+    p: PatId,
+    current: BasicBlockId,
+    els: OptBlock,
 ) -> Counts {
     let place = place_of(handed);
     let answer = pattern_match(
         image,
         bindings,
-        blocks,
-        stmts,
-        locals,
-        scopes,
-        entries,
+        body,
         visits,
         counts,
-        PatId(pattern),
-        BasicBlockId(block),
-        opt_block(els),
+        p,
+        current,
+        els,
         place,
     );
     print_match(answer, counts)
@@ -48,60 +42,27 @@ pub fn call_match(
 pub fn call_assignment(
     image: &[u8],
     bindings: &[u16],
-    blocks: &mut [u16; 6144],
-    stmts: &mut [u16; 50176],
-    locals: &mut [u16; 512],
-    scopes: &mut [u16; 32],
-    entries: &mut [u16; 1024],
-    visits: &mut [u16; 512],
+    body: &mut [u16; BODY_WORDS],
+    visits: &mut [u16; VISIT_WORDS],
     counts: Counts,
     handed: &[u16; 35],
-    pattern: u16,
-    block: u16,
+    p: PatId,
+    current: BasicBlockId,
 ) -> Counts {
     let place = place_of(handed);
-    let answer = pattern_match_assignment(
-        image,
-        bindings,
-        blocks,
-        stmts,
-        locals,
-        scopes,
-        entries,
-        visits,
-        counts,
-        PatId(pattern),
-        BasicBlockId(block),
-        place,
-    );
+    let answer = pattern_match_assignment(image, bindings, body, visits, counts, p, current, place);
     print_match(answer, counts)
 }
 
 pub fn call_self(
     image: &[u8],
     bindings: &[u16],
-    blocks: &mut [u16; 6144],
-    stmts: &mut [u16; 50176],
-    locals: &mut [u16; 512],
-    scopes: &mut [u16; 32],
-    entries: &mut [u16; 1024],
+    body: &mut [u16; BODY_WORDS],
     counts: Counts,
-    binding: u16,
-    block: u16,
-    local: u16,
+    b: BindingId,
+    current: BasicBlockId,
+    l: LocalId,
 ) -> Counts {
-    let answer = match_self_param(
-        image,
-        bindings,
-        blocks,
-        stmts,
-        locals,
-        scopes,
-        entries,
-        counts,
-        BindingId(binding),
-        BasicBlockId(block),
-        LocalId(local),
-    );
+    let answer = match_self_param(image, bindings, body, counts, b, current, l);
     print_match(answer, counts)
 }

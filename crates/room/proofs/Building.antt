@@ -19,9 +19,9 @@ use Rattle.mir.specs.Blocks.{termRow}
 use Rattle.mir.specs.Rvalues.{liveRow}
 use Rattle.state.specs.State.{State}
 use Rattle.state.specs.Steps.{newBlock, setTerminator, pushStatement, newLocal, pushEntry, within, tryBlock, tryStatement, tryLocal, tryEntry, nextLocal}
-use Rattle.lower.specs.declared.merging.OptBlock.{OptBlock}
-use Rattle.lower.specs.Temps.{isSlice, isHeld, recordUnless, markLive, pushStorageLiveForLocal, temp}
-use Rattle.lower.specs.Recorded.{recorded}
+use Rattle.lower_spec.specs.declared.merging.OptBlock.{OptBlock}
+use Rattle.lower_spec.specs.Temps.{isSlice, isHeld, recordUnless, markLive, pushStorageLiveForLocal, temp}
+use Rattle.lower_spec.specs.Recorded.{recorded}
 use Rattle.pattern_matching.specs.Walking.{elseState}
 use Rattle.counting.specs.Counting.{elseMade}
 use Rattle.fitted.proofs.Building.{Kept, kept-on}

@@ -15,7 +15,7 @@ use Rattle.place.specs.declared.Place.{Place}
 use Rattle.place.specs.declared.place_ty.PlaceTy.{PlaceTy}
 use Rattle.mir.specs.declared.BasicBlockId.{BasicBlockId}
 use Rattle.mir.specs.declared.rvalues.BinOp.{BinOp}
-use Rattle.lower.specs.declared.merging.OptBlock.{OptBlock}
+use Rattle.lower_spec.specs.declared.merging.OptBlock.{OptBlock}
 use Rattle.pattern_matching.specs.Walking.{Ctx}
 use Rattle.pattern_matching.specs.Tests.{litBy, literal, constantPath, rangeEnd?, localPath}
 use Rattle.pattern_matching.specs.Variants.{shapeOf, AdtPatternShape, patternMatchingVariant, variantPattern}

@@ -10,7 +10,7 @@ use borrow.Author.Tests.{eqb-true, eqb-false, eq-eqb, ne-eqb}
 use lib.Dec.{eqb}
 use lib.ListN.{length, length-append}
 use Rattle.image.specs.Lists.{member}
-use Rattle.lower.specs.Recorded.{recorded}
+use Rattle.lower_spec.specs.Recorded.{recorded}
 
 -- the first of two holds
 pub or-first : (a b : Bool) → a ≡ true → (a || b) ≡ true

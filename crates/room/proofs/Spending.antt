@@ -17,7 +17,7 @@ use Rattle.place.specs.PlaceTypes.{projectionTy}
 use Rattle.refusals.specs.declared.MirLowerError.{MirLowerError}
 use Rattle.mir.specs.declared.BasicBlockId.{BasicBlockId}
 use Rattle.state.specs.State.{State}
-use Rattle.lower.specs.declared.merging.OptBlock.{OptBlock}
+use Rattle.lower_spec.specs.declared.merging.OptBlock.{OptBlock}
 use Rattle.pattern_matching.specs.Walking.{Ctx, Out, Walk, refused, Lowering, next, step, out, project, visited, derefed, entered, inCheck}
 use Rattle.counting.specs.Reaching.{Reached, behindDerefs, testing, naming}
 use Rattle.counting.specs.Counting.{one, total, bindStatements}

@@ -8,8 +8,8 @@ use Rattle.image.specs.Tree.{Pat}
 use Rattle.place.specs.declared.Place.{Place}
 use Rattle.place.specs.declared.place_ty.PlaceTy.{PlaceTy}
 use Rattle.state.specs.State.{State}
-use Rattle.lower.specs.declared.merging.OptBlock.{OptBlock}
-use Rattle.lower.specs.Recorded.{recorded}
+use Rattle.lower_spec.specs.declared.merging.OptBlock.{OptBlock}
+use Rattle.lower_spec.specs.Recorded.{recorded}
 use Rattle.pattern_matching.specs.Walking.{Ctx, Out}
 use Rattle.pattern_matching.specs.Variants.{placeTy}
 use Rattle.counting.specs.Reaching.{Reached}

@@ -1,54 +1,48 @@
--- What the call's own step asks for and gives, on an image, a body and values that were looked at. Assumes nothing.
-use Prim.Native.Nat.{ℕ, _<_}
-use mathlib.Core.Path.{_≡_}
-use mathlib.Core.List.{List}
+-- What the call's own step gives, on a body and values that were looked at. Assumes nothing.
+use Prim.Native.Nat.{ℕ, _*_, _<_}
+use mathlib.Core.Path.{_≡_, refl, ap, _∙_}
+use mathlib.Core.List.{List, []}
 use lib.ListN.{length}
 use Rattle.refusals.specs.declared.MirLowerError.{MirLowerError}
 use Rattle.refusals.specs.Refusals.{noPattern}
+use Rattle.row_tables.specs.Rows.{zeros, rowAt, stored}
 use Rattle.image.specs.declared.PatId.{PatId}
 use Rattle.image.specs.declared.kinds.BindingMode.{BindingMode}
 use Rattle.place.specs.declared.LocalId.{LocalId}
 use Rattle.mir.specs.declared.BasicBlockId.{BasicBlockId}
 use Rattle.mir.specs.declared.Counts.{Counts}
-use Rattle.state.specs.State.{Body, body, decode, encode}
-use Rattle.lower.specs.declared.merging.OptBlock.{OptBlock}
-use Rattle.lower_calls.proofs.Clearing.{Cleared}
+use Rattle.state.specs.State.{Body, State, decode, encode}
+use Rattle.lower_spec.specs.declared.merging.OptBlock.{OptBlock}
+use Rattle.body_calls_spec.proofs.Clearing.{Cleared}
+use Rattle.body_calls_spec.proofs.Restoring.{put-back}
+use Rattle.body_tables.specs.Layout.{blockWidth, blockWords, withBlocks}
 use Rattle.pattern_matching.specs.Walking.{Ctx, Out, Walk, localPlace}
 use Rattle.pattern_matching.specs.Tests.{patternMatchBinding}
-use Rattle.pattern_matching.specs.Patterns.{matchSelfParam}
-use Rattle.walks.specs.declared.Lowered.{Lowered}
-use Rattle.walks.specs.Answers.{lent, Begins}
-use Rattle.pattern_parts.specs.Parts.{Fills}
-use Rattle.handed.proofs.Handing.{SelfHanded, binding-there, self-start-there}
-use Rattle.match_calls.specs.declared.MatchCall.{MatchCall}
-use Rattle.match_calls.specs.Calls.{namedIn, walked, startCtx, Gives}
-use Rattle.match_calls.proofs.Starting.{primed-of}
-use Rattle.match_calls.proofs.Stepping.{filled, not-filled}
+use Rattle.pattern_walk_spec.specs.declared.Lowered.{Lowered}
+use Rattle.pattern_walk_spec.specs.Answers.{Lowers}
+use Rattle.pattern_walk_spec.proofs.Sequences.{lowers-walks}
+use Rattle.pattern_calls_spec.specs.declared.MatchCall.{MatchCall}
+use Rattle.pattern_calls_spec.specs.Calls.{walked, startCtx, Gives}
+use Rattle.pattern_calls_spec.proofs.Stepping.{gives-by, accepted}
 
--- the binding has a word, and the block is there
-pub fill-asked : (image : List ℕ) {b : Body} {c : Counts} (bindings : List ℕ) (binding : ℕ) (current : BasicBlockId) (l : ℕ) {bl s lo sc e : List ℕ} →
-    SelfHanded (namedIn image) bindings (b .blocks) c binding current l → Cleared b c (body bl s lo sc e) →
-    (binding < length bindings) × (length s ≡ 50176) × (length e ≡ 1024) × Begins c current OptBlock.None
-fill-asked image {b = b} {c = c} bindings binding current l H C = (
-  binding-there (namedIn image) bindings (b .blocks) c binding current l H,
-  C .ready .statements,
-  C .ready .entries,
-  record { start = self-start-there (namedIn image) bindings (b .blocks) c binding current l H; else = tt },
-)
-
-module _ (image bindings : List ℕ) (binding : ℕ) (current : BasicBlockId) (l : LocalId) {b : Body} {c : Counts} {bl s lo sc e : List ℕ} (C : Cleared b c (body bl s lo sc e)) where
+-- the body b was found, and b₁ is the one after zeros were written above the counts c
+module _ (bindings : List ℕ) (binding : ℕ) (current : BasicBlockId) (l : LocalId) {b b₁ : Body} {c : Counts} (C : Cleared b c b₁) where
   -- the binding is filled with a copy of the local
   abbrev self : Ctx → Walk Out
   self ctx = patternMatchBinding bindings noPattern noPattern binding BindingMode.Value ctx current OptBlock.None (localPlace l)
 
-  pub self-matched : {c′ : Counts} {then : BasicBlockId} {els′ : OptBlock} {s₂ e₂ : List ℕ} →
-      Fills self c current OptBlock.None s e (Lowered.Done c′ then els′) s₂ e₂ →
-      Gives b c (walked (matchSelfParam image bindings binding (startCtx b c) current l)) (MatchCall.Matched c′ then els′) (body bl s₂ lo sc e₂)
-  unfolding matchSelfParam
-  self-matched F = filled self C (F bl lo (primed-of (lent bl s lo e) sc c (C .ready)))
+  pub self-matched : {c′ : Counts} {then : BasicBlockId} {els′ : OptBlock} {b₂ : Body} → Lowers self c current OptBlock.None b₁ (Lowered.Done c′ then els′) b₂ →
+      Gives b c (walked (self (startCtx b c))) (MatchCall.Matched c′ then els′) b₂
+  self-matched L = accepted self {v = []} C refl (lowers-walks (zeros 512) L) .gives
 
-  pub self-not-matched : {err : MirLowerError} {q : PatId} {s₂ e₂ : List ℕ} {b₃ : Body} → Fills self c current OptBlock.None s e (Lowered.Refused err q) s₂ e₂ →
-      b₃ ≡ encode (decode (body bl s₂ lo sc e₂) c) →
-      Gives b c (walked (matchSelfParam image bindings binding (startCtx b c) current l)) (MatchCall.Refused err q) b₃
-  unfolding matchSelfParam
-  self-not-matched F is = not-filled self C (F bl lo (primed-of (lent bl s lo e) sc c (C .ready))) is
+  -- a refusal: b₂ is the body behind the step, the row of the block is put back, and zeros are written above the counts again
+  pub self-not-matched : {err : MirLowerError} {q : PatId} {row : List ℕ} {b₂ b₃ b₄ : Body} → Lowers self c current OptBlock.None b₁ (Lowered.Refused err q) b₂ → current .0 < c .blocks →
+      row ≡ rowAt blockWidth (b₁ .blocks) (current .0) → b₃ ≡ withBlocks b₂ (stored (b₂ .blocks) (blockWidth * current .0) row) → b₄ ≡ encode (decode b₃ c) → length (b₂ .blocks) ≡ blockWords →
+      Gives b c (walked (self (startCtx b c))) (MatchCall.Refused err q) b₄
+  self-not-matched {b₂ = b₂} L h row back is long =
+      let R = C .ready in
+      let A = L .answers (zeros 512) R in
+      let rest = put-back c (current .0) b₁ b₂ h (R .block-count) (R .blocks) long (A .kept) in
+      let at = back ∙ ap (λ r. withBlocks b₂ (stored (b₂ .blocks) (blockWidth * current .0) r)) row in
+      gives-by (ap walked (A .says ∙ ap (λ (st : State). self (record { state = st; visits = zeros 512 })) (C .same)))
+      (record { reply = refl; refusal = refl; tables = is ∙ ap (λ x. encode (decode x c)) at ∙ ap encode (rest ∙ C .same); reads = tt; ready = tt })

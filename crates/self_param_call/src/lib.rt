@@ -1,48 +1,48 @@
 // The public call that fills a binding with a copy of a local, self's: every image, body and number is taken, or refused by document 01's number. Numbers 1 and 2 write
 // nothing; any other refusal leaves what lies below the counts as found, and zeros above.
-use handed::self_holds;
+use body_calls_spec::Opened;
+use body_handed::self_holds;
+use body_opening::clearing::clear_above;
+use body_opening::open;
+use body_opening::restoring::block_row;
+use body_opening::restoring::put_back;
+use body_tables::BODY_WORDS;
 use image::BindingId;
 use image::PatId;
-use image::Tables;
 use image::kinds::BindingMode;
-use lower::merging::OptBlock;
-use lower_calls::opening::Opened;
-use lower_calls::opening::clear_above;
-use lower_calls::opening::open;
-use match_calls::MatchCall;
+use lower_spec::merging::OptBlock;
 use mir::BasicBlockId;
 use mir::Counts;
+use pattern_calls_spec::MatchCall;
 use pattern_parts::bindings::pattern_match_binding;
+use pattern_walk_spec::Lowered;
 use place::LocalId;
 use place::Place;
-use walks::Lowered;
-ghost use mathlib.Core.Path.{_≡_};
-ghost use mathlib.Core.Bool.{true};
-ghost use Rattle.state.specs.State.{body};
-ghost use Rattle.lower_calls.specs.Sizes.{Taken};
-ghost use Rattle.pattern_matching.specs.Patterns.{matchSelfParam};
-ghost use Rattle.handed.specs.Handed.{selfHolds};
-ghost use Rattle.match_calls.specs.Calls.{matchSelfParamCall, namedIn, startCtx, walked, Gives};
+ghost use Prim.Native.Nat.{_<_};
+ghost use lib.ListN.{length};
+ghost use Rattle.refusals.specs.Refusals.{noPattern};
+ghost use Rattle.image.specs.declared.kinds.BindingMode.{BindingMode};
+ghost use Rattle.lower_spec.specs.declared.merging.OptBlock.{OptBlock};
+ghost use Rattle.body_calls_spec.specs.Sizes.{Sized};
+ghost use Rattle.pattern_matching.specs.Walking.{localPlace};
+ghost use Rattle.pattern_matching.specs.Tests.{patternMatchBinding};
+ghost use Rattle.pattern_calls_spec.specs.Calls.{startCtx, walked, Gives, SelfGives};
+ghost use Rattle.body_tables.specs.Layout.{bodyOf};
 
-// The call's own step, on an image, a body and numbers that were looked at: zeros are written above the counts first, so that a new row lies among zeros.
+// The call's own step, on a body and numbers that were looked at: zeros are written above the counts first, so that a new row lies among zeros.
 fn self_step(
-    image: &[u8],
-    tables: Tables,
     bindings: &[u16],
-    blocks: &mut [u16],
-    statements: &mut [u16],
-    locals: &mut [u16],
-    scopes: &mut [u16],
-    entries: &mut [u16],
+    body: &mut [u16; BODY_WORDS],
     counts: Counts,
     b: BindingId,
     current: BasicBlockId,
     l: LocalId,
 ) -> MatchCall
-    requires { ⌜ Taken (now image) tables (body (now blocks) (now statements) (now locals) (now scopes) (now entries)) counts × (selfHolds (namedIn (now image)) (now bindings) (now blocks) counts (b .0) current (l .0) ≡ true) ⌝ }
-    ensures { λ r. ⌜ Gives (body (now (blocks .entry)) (now (statements .entry)) (now (locals .entry)) (now (scopes .entry)) (now (entries .entry))) counts (walked (matchSelfParam (now (image .entry)) (now (bindings .entry)) (b .0) (startCtx (body (now (blocks .entry)) (now (statements .entry)) (now (locals .entry)) (now (scopes .entry)) (now (entries .entry))) counts) current l)) r (body (now (blocks .exit)) (now (statements .exit)) (now (locals .exit)) (now (scopes .exit)) (now (entries .exit))) ⌝ }
+    requires { ⌜ Sized (bodyOf (now body)) counts × (b .0 < length (now bindings)) × (current .0 < counts .blocks) ⌝ }
+    ensures { λ r. ⌜ Gives (bodyOf (now (body .entry))) counts (walked (patternMatchBinding (now (bindings .entry)) noPattern noPattern (b .0) BindingMode.Value (startCtx (bodyOf (now (body .entry))) counts) current OptBlock.None (localPlace l))) r (bodyOf (now (body .exit))) ⌝ }
 {
-    clear_above(blocks, statements, locals, scopes, entries, counts);
+    clear_above(body, counts);
+    let row = block_row(body, current);
     let whole = Place {
         local: l,
         len: 0,
@@ -50,8 +50,7 @@ fn self_step(
     };
     match pattern_match_binding(
         bindings,
-        statements,
-        entries,
+        body,
         counts,
         PatId(65535),
         PatId(65535),
@@ -63,7 +62,8 @@ fn self_step(
     ) {
         Lowered::Done(c, then, other) => MatchCall::Matched(c, then, other),
         Lowered::Refused(e, q) => {
-            clear_above(blocks, statements, locals, scopes, entries, counts);
+            put_back(body, current, row);
+            clear_above(body, counts);
             MatchCall::Refused(e, q)
         }
     }
@@ -73,39 +73,22 @@ fn self_step(
 pub fn match_self_param(
     image: &[u8],
     bindings: &[u16],
-    blocks: &mut [u16],
-    statements: &mut [u16],
-    locals: &mut [u16],
-    scopes: &mut [u16],
-    entries: &mut [u16],
+    body: &mut [u16; BODY_WORDS],
     counts: Counts,
     b: BindingId,
     current: BasicBlockId,
     l: LocalId,
 ) -> MatchCall
-    ensures { λ r. ⌜ Gives (body (now (blocks .entry)) (now (statements .entry)) (now (locals .entry)) (now (scopes .entry)) (now (entries .entry))) counts (matchSelfParamCall (now (image .entry)) (now (bindings .entry)) (body (now (blocks .entry)) (now (statements .entry)) (now (locals .entry)) (now (scopes .entry)) (now (entries .entry))) counts (b .0) current l) r (body (now (blocks .exit)) (now (statements .exit)) (now (locals .exit)) (now (scopes .exit)) (now (entries .exit))) ⌝ }
+    ensures { λ r. ⌜ SelfGives (now (image .entry)) (now (bindings .entry)) counts (b .0) current l (bodyOf (now (body .entry))) r (bodyOf (now (body .exit))) ⌝ }
 {
-    match open(image, blocks, statements, locals, scopes, entries, counts) {
+    match open(image, body, counts) {
         Opened::BadImage => MatchCall::BadImage,
         Opened::BadCall => MatchCall::BadCall,
         Opened::Image(tables) => {
-            if !self_holds(tables, bindings, blocks, counts, b, current, l) {
+            if !self_holds(tables, bindings, body, counts, b, current, l) {
                 return MatchCall::BadCall;
             }
-            self_step(
-                image,
-                tables,
-                bindings,
-                blocks,
-                statements,
-                locals,
-                scopes,
-                entries,
-                counts,
-                b,
-                current,
-                l,
-            )
+            self_step(bindings, body, counts, b, current, l)
         }
     }
 }

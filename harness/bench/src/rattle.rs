@@ -1,27 +1,24 @@
-//! The Rattle side: the lent tables, and the one function of liblowering_c.a.
+//! The Rattle side: what is lent, and the one function of liblowering_c.a.
 
 use image::{ABSENT, Tables};
 use published::prepared::Made;
 
+/// Where the tables of locals, scopes and entries begin in a body, behind 512 blocks of 12 words and 1,024 statements of 49.
+const LOCALS: usize = 12 * 512 + 49 * 1024;
+const SCOPES: usize = LOCALS + 512;
+const ENTRIES: usize = SCOPES + 32;
+const BODY_WORDS: usize = ENTRIES + 1024;
+const VISIT_WORDS: usize = 512;
+
 unsafe extern "C" {
-    /// A slice is a pointer and a length.
+    /// A slice is a pointer and a length, an array a pointer.
     fn fithongu_pattern_match(
         image: *const u8,
         image_length: usize,
         bindings: *const u16,
         bindings_length: usize,
-        blocks: *mut u16,
-        blocks_length: usize,
-        statements: *mut u16,
-        statements_length: usize,
-        locals: *mut u16,
-        locals_length: usize,
-        scopes: *mut u16,
-        scopes_length: usize,
-        entries: *mut u16,
-        entries_length: usize,
-        visits: *mut u16,
-        visits_length: usize,
+        body: *mut [u16; BODY_WORDS],
+        visits: *mut [u16; VISIT_WORDS],
         call: *const [u16; 9],
         answer: *mut [u16; 10],
     );
@@ -49,26 +46,15 @@ impl Given {
     }
 }
 
-/// The lent tables. They are never cleared between lowerings.
+/// The body and the visits that are lent. They are never cleared between lowerings.
 pub struct Lent {
-    blocks: Vec<u16>,
-    statements: Vec<u16>,
-    locals: Vec<u16>,
-    scopes: Vec<u16>,
-    entries: Vec<u16>,
-    visits: Vec<u16>,
+    body: Box<[u16; BODY_WORDS]>,
+    visits: [u16; VISIT_WORDS],
 }
 
 impl Lent {
     pub fn new() -> Lent {
-        Lent {
-            blocks: vec![0; 6144],
-            statements: vec![0; 50176],
-            locals: vec![0; 512],
-            scopes: vec![0; 32],
-            entries: vec![0; 1024],
-            visits: vec![0; 512],
-        }
+        Lent { body: Box::new([0; BODY_WORDS]), visits: [0; VISIT_WORDS] }
     }
 
     /// Hands in a body of one open block, local 0, the bindings' locals and one scope, and lowers; none for a refusal.
@@ -89,31 +75,21 @@ impl Lent {
     }
 
     fn call(&mut self, given: &Given, pattern: u16) -> [u16; 10] {
-        self.blocks[..12].fill(0);
-        self.locals[..given.types.len()].copy_from_slice(&given.types);
-        self.scopes[0] = 0;
-        self.entries[..usize::from(given.entries)].fill(0);
+        self.body[..12].fill(0);
+        self.body[LOCALS..][..given.types.len()].copy_from_slice(&given.types);
+        self.body[SCOPES] = 0;
+        self.body[ENTRIES..][..usize::from(given.entries)].fill(0);
         let call = [1, 0, given.types.len() as u16, 1, given.entries, pattern, 0, ABSENT, 0];
         let mut answer = [0; 10];
-        // SAFETY: each pointer is a slice's, with its length; the two arrays have the function's lengths.
+        // SAFETY: a slice's pointer stands beside its length; the four arrays have the function's lengths.
         unsafe {
             fithongu_pattern_match(
                 given.bytes.as_ptr(),
                 given.bytes.len(),
                 given.numbers.as_ptr(),
                 given.numbers.len(),
-                self.blocks.as_mut_ptr(),
-                self.blocks.len(),
-                self.statements.as_mut_ptr(),
-                self.statements.len(),
-                self.locals.as_mut_ptr(),
-                self.locals.len(),
-                self.scopes.as_mut_ptr(),
-                self.scopes.len(),
-                self.entries.as_mut_ptr(),
-                self.entries.len(),
-                self.visits.as_mut_ptr(),
-                self.visits.len(),
+                &mut *self.body,
+                &mut self.visits,
                 &call,
                 &mut answer,
             );

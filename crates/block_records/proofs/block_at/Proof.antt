@@ -22,7 +22,7 @@ returns c =
     let w₃ = word-at t b 3 (12 * b + 3) (omega arith) (omega arith) in
     let low = c .before .four-words .ensures ∙ four-at t b 4 (12 * b + 4) (omega arith) (omega arith) in
     let high = c .four-words2 .ensures ∙ four-at t b 8 (12 * b + 8) (omega arith) (omega arith) in
-    λ i. record { kind = w₀ i; local = w₁ i; then = w₂ i; other = w₃ i; low = low i; high = high i }
+    λ i. record { kind = w₀ i; local = record { 0 = w₁ i }; then = record { 0 = w₂ i }; other = record { 0 = w₃ i }; low = low i; high = high i }
 
 pub block-at-spec : {M : Type 1} → statement M
 block-at-spec =

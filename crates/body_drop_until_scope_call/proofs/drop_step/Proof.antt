@@ -2,8 +2,8 @@ use borrow.Author.Needs.{needs}
 use Rattle.body_drop_until_scope_call.proofs.drop_step.Statement.{statement}
 use Rattle.body_drop_until_scope_call.proofs.drop_step.Tie as tie
 use native.Mathlib.Omega.{arith}
-use Rattle.drop_scopes.specs.Dropping.{dropUntilScope}
-use Rattle.lower_calls.proofs.Clearing.{clears}
+use Rattle.drop_scopes_spec.specs.Dropping.{dropUntilScope}
+use Rattle.body_calls_spec.proofs.Clearing.{clears}
 use Rattle.body_rules.proofs.Lengths.{lengths-of}
 use Rattle.body_opening.proofs.Naming.{still-entries, still-scopes}
 use Rattle.body_opening.proofs.Replying.{few-counts}

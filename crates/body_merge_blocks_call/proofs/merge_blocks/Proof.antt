@@ -3,8 +3,8 @@ use Rattle.body_merge_blocks_call.proofs.merge_blocks.Statement.{statem
 use Rattle.body_merge_blocks_call.proofs.merge_blocks.Tie as tie
 use mathlib.Core.Path.{refl, sym, _∙_}
 use borrow.Author.Tests.{not-true, not-false}
-use Rattle.lower_calls.specs.Calls.{mergeBlocksCall}
-use Rattle.lower_calls.proofs.Prologue.{taken, taken-sized, blocks-within}
+use Rattle.body_calls_spec.specs.Calls.{mergeBlocksCall}
+use Rattle.body_calls_spec.proofs.Prologue.{taken, taken-sized, blocks-within}
 use Rattle.body_opening.proofs.Replying.{bad-image, bad-body, bad-number, goes-on}
 
 returns : tie.Need-returns

@@ -6,7 +6,7 @@ use Rattle.body_opening.proofs.open.Lts as lts
 use Rattle.body_rules.proofs.body_holds.Reads as body-holds-reads
 use Rattle.read_image.proofs.read_image.Reads as read-image-reads
 use mathlib.Core.Path.{sym, _∙_}
-use Rattle.lower_calls.proofs.Prologue.{opens-none, opens-image, opens-no-body}
+use Rattle.body_calls_spec.proofs.Prologue.{opens-none, opens-image, opens-no-body}
 
 returns : tie.Need-returns
 returns c = opens-image _ _ _ _ (sym (c .before .before .before .tables .given .1) ∙ c .before .before .before .before .before .read-image .ensures .answer) (c .before .body-holds .ensures) (c .if1 .taken)

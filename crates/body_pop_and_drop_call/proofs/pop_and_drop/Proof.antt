@@ -4,8 +4,8 @@ use Rattle.body_pop_and_drop_call.proofs.pop_and_drop.Tie as tie
 use mathlib.Core.Path.{refl, sym, _∙_}
 use borrow.Author.Tests.{lt-ltb, le-ltb}
 use Rattle.body_opening.proofs.Naming.{taken-entries, taken-scopes}
-use Rattle.lower_calls.specs.Calls.{popAndDropCall}
-use Rattle.lower_calls.proofs.Prologue.{taken, taken-sized}
+use Rattle.body_calls_spec.specs.Calls.{popAndDropCall}
+use Rattle.body_calls_spec.proofs.Prologue.{taken, taken-sized}
 use Rattle.body_opening.proofs.Replying.{bad-image, bad-body, bad-number, goes-on}
 
 returns : tie.Need-returns

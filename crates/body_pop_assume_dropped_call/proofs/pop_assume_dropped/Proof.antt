@@ -3,8 +3,8 @@ use Rattle.body_pop_assume_dropped_call.proofs.pop_assume_dropped.State
 use Rattle.body_pop_assume_dropped_call.proofs.pop_assume_dropped.Tie as tie
 use mathlib.Core.Path.{refl, sym, _∙_}
 use Rattle.body_opening.proofs.Naming.{taken-scopes}
-use Rattle.lower_calls.specs.Calls.{popAssumeDroppedCall}
-use Rattle.lower_calls.proofs.Prologue.{taken, taken-sized}
+use Rattle.body_calls_spec.specs.Calls.{popAssumeDroppedCall}
+use Rattle.body_calls_spec.proofs.Prologue.{taken, taken-sized}
 use Rattle.body_opening.proofs.Replying.{bad-image, bad-body, goes-on}
 
 pop-step-requires : tie.Need-pop-step-requires

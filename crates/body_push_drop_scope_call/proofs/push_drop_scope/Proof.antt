@@ -2,8 +2,8 @@ use borrow.Author.Needs.{needs}
 use Rattle.body_push_drop_scope_call.proofs.push_drop_scope.Statement.{statement}
 use Rattle.body_push_drop_scope_call.proofs.push_drop_scope.Tie as tie
 use mathlib.Core.Path.{refl, sym, _∙_}
-use Rattle.lower_calls.specs.Calls.{pushDropScopeCall}
-use Rattle.lower_calls.proofs.Prologue.{taken, taken-sized}
+use Rattle.body_calls_spec.specs.Calls.{pushDropScopeCall}
+use Rattle.body_calls_spec.proofs.Prologue.{taken, taken-sized}
 use Rattle.body_opening.proofs.Replying.{bad-image, bad-body, goes-on}
 
 push-step-requires : tie.Need-push-step-requires

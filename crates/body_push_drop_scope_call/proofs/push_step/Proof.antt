@@ -1,7 +1,7 @@
 use borrow.Author.Needs.{needs}
 use Rattle.body_push_drop_scope_call.proofs.push_step.Statement.{statement}
 use Rattle.body_push_drop_scope_call.proofs.push_step.Tie as tie
-use Rattle.lower_calls.proofs.Clearing.{clears}
+use Rattle.body_calls_spec.proofs.Clearing.{clears}
 use Rattle.body_opening.proofs.Replying.{few-counts}
 use Rattle.body_push_drop_scope_call.proofs.Answering.{scope-pushed, no-room}
 

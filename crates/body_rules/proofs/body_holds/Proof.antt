@@ -15,8 +15,8 @@ use mathlib.Core.Bool.{and-true}
 use native.Mathlib.Omega.{arith}
 use borrow.Author.Tests.{not-true, not-false}
 use Rattle.image.specs.Lists.{allTrue}
-use Rattle.check_body.specs.Bodies.{bodyHolds}
-use Rattle.check_body.proofs.Checked.{within-of}
+use Rattle.body_row_rules.specs.Bodies.{bodyHolds}
+use Rattle.body_row_rules.proofs.Checked.{within-of}
 use Rattle.body_rules.proofs.Lengths.{all-sized, counts-refused}
 
 returns : tie.Need-returns

@@ -5,7 +5,7 @@ use Rattle.body_rules.proofs.counts_within.Lts as lts
 use mathlib.Core.Bool.{and-true}
 use borrow.Author.Tests.{lt-leb, le-leb}
 use Rattle.image.specs.Lists.{allTrue}
-use Rattle.check_body.specs.Bodies.{countsWithin}
+use Rattle.body_row_rules.specs.Bodies.{countsWithin}
 
 returns : tie.Need-returns
 unfolding countsWithin allTrue

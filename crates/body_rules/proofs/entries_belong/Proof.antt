@@ -3,7 +3,7 @@ use Rattle.body_rules.proofs.entries_belong.Statement.{statement}
 use Rattle.body_rules.proofs.entries_belong.Tie as tie
 use Rattle.body_rules.proofs.entries_belong.Reads as reads
 use Rattle.body_rules.proofs.entries_belong.Lts as lts
-use Rattle.check_body.proofs.rows.entries_belong.Reads as entries-belong-reads
+use Rattle.body_row_rules.proofs.rows.entries_belong.Reads as entries-belong-reads
 use Rattle.body_tables.specs.Layout.{bodyOf}
 
 returns : tie.Need-returns

@@ -4,9 +4,9 @@ use Rattle.body_temp_call.proofs.temp.Tie as tie
 use mathlib.Core.Path.{refl, sym, _∙_}
 use borrow.Author.Tests.{lt-ltb, le-ltb, not-true, not-false}
 use Rattle.image.proofs.Bools.{and-true, and-false-left, and-false-right}
-use Rattle.check_body.specs.Bodies.{isTypeWord}
-use Rattle.lower_calls.specs.Calls.{tempCall}
-use Rattle.lower_calls.proofs.Prologue.{taken, taken-sized}
+use Rattle.body_row_rules.specs.Bodies.{isTypeWord}
+use Rattle.body_calls_spec.specs.Calls.{tempCall}
+use Rattle.body_calls_spec.proofs.Prologue.{taken, taken-sized}
 use Rattle.body_opening.proofs.Replying.{bad-image, bad-body, bad-number, goes-on}
 
 returns : tie.Need-returns

@@ -1,7 +1,7 @@
 use borrow.Author.Needs.{needs}
 use Rattle.body_temp_call.proofs.temp_step.Statement.{statement}
 use Rattle.body_temp_call.proofs.temp_step.Tie as tie
-use Rattle.lower_calls.proofs.Clearing.{clears}
+use Rattle.body_calls_spec.proofs.Clearing.{clears}
 use Rattle.body_opening.proofs.Replying.{few-counts}
 use Rattle.body_temp_call.proofs.Answering.{temp-made, temp-refused}
 

@@ -2,7 +2,7 @@ use Rattle.handed.proofs.place_holds.Statement.{statement}
 use Rattle.handed.proofs.place_holds.Tie as tie
 use Rattle.handed.proofs.place_holds.Reads as reads
 use Rattle.handed.proofs.place_holds.Lts as lts
-use Rattle.check_body.proofs.statement.elem_holds.Reads as elem-holds-reads
+use Rattle.body_row_rules.proofs.statement.elem_holds.Reads as elem-holds-reads
 use Rattle.place.proofs.elems.elem_of.Reads as elem-of-reads
 use Prim.Native.Nat.{_-_}
 use mathlib.Core.Path.{ap, _∙_}
@@ -11,8 +11,8 @@ use lib.ListN.{getD}
 use borrow.Author.Needs.{needs}
 use borrow.Author.Tests.{lt-ltb, le-ltb, le-leb, lt-leb}
 use Rattle.place.specs.Elems.{elemOf}
-use Rattle.check_body.specs.Bodies.{elemHolds}
-use Rattle.check_body.proofs.Loops.{Tested, tests-begin, test-fails, test-holds, tests-end}
+use Rattle.body_row_rules.specs.Bodies.{elemHolds}
+use Rattle.body_row_rules.proofs.Loops.{Tested, tests-begin, test-fails, test-holds, tests-end}
 use Rattle.handed.specs.Handed.{placeHolds}
 
 abbrev Inv-loop : tie.InvT-loop

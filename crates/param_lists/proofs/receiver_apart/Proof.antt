@@ -4,7 +4,7 @@ use Rattle.param_lists.proofs.receiver_apart.Tie as tie
 use Rattle.param_lists.proofs.receiver_apart.Reads as reads
 use Rattle.param_lists.proofs.receiver_apart.Lts as lts
 use Rattle.param_lists.proofs.none_binds_receiver.Reads as none-binds-receiver-reads
-use Rattle.lowered_params.specs.Calls.{receiverApart}
+use Rattle.params_spec.specs.Calls.{receiverApart}
 
 returns : tie.Need-returns
 unfolding receiverApart

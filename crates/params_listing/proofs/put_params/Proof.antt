@@ -3,10 +3,6 @@ use Rattle.params_listing.proofs.put_params.Statement.{statement}
 use Rattle.params_listing.proofs.put_params.Tie as tie
 use Rattle.params_listing.proofs.put_params.Reads as reads
 use Rattle.params_listing.proofs.put_params.Lts as lts
-use Rattle.listing_text.proofs.put_refusal.Reads as put-refusal-reads
-use Rattle.params_listing.proofs.put_lowered.Reads as put-lowered-reads
-use Rattle.params_start.proofs.call_words.Reads as call-words-reads
-use Rattle.read_image.proofs.read_image.Reads as read-image-reads
 use Rattle.image_text.proofs.Printed.{wrote-as, is-read}
 use Rattle.params_listing.proofs.Ways.{too-few, prints-refused, prints-lowered}
 
@@ -17,10 +13,10 @@ returns-2 : tie.Need-returns-2
 returns-2 c = wrote-as (too-few _ _ (is-read _ (c .before .before .before .before .before .before .before .before .read-image .ensures) (c .before .before .before .before .before .before .tables .given .1) .0) (c .before .before .before .before .if1 .taken)) (c .before .before .put-refusal2 .ensures)
 
 put-lowered-requires : tie.Need-put-lowered-requires
-put-lowered-requires c κs = let read = is-read _ (c .before .before .before .before .before .before .before .before .before .before .before .before .before .read-image .ensures) (c .before .before .before .before .before .before .before .before .before .before .before .tables .given .1) in (read .0, read .1, c .before .before .before .before .before .before .before .before .before .before .before .before .before .before .before .before .before .before .before .before .before .before .before .pre .0, c .before .before .before .before .before .before .before .before .before .before .before .before .before .before .before .before .before .before .before .before .before .before .before .pre .1)
+put-lowered-requires c κs = is-read _ (c .before .before .before .before .before .before .before .before .before .read-image .ensures) (c .before .before .before .before .before .before .before .tables .given .1)
 
 returns-3 : tie.Need-returns-3
-returns-3 c = wrote-as (prints-lowered _ _ (is-read _ (c .before .before .before .before .before .before .before .before .before .before .before .before .before .before .before .before .before .before .before .before .before .before .before .before .before .before .before .before .read-image .ensures) (c .before .before .before .before .before .before .before .before .before .before .before .before .before .before .before .before .before .before .before .before .before .before .before .before .before .before .tables .given .1) .0) (c .before .before .before .before .before .before .before .before .before .before .before .before .before .before .before .before .before .before .before .before .before .before .before .before .if1 .left) (c .before .before .before .before .before .before .before .before .before .before .before .before .before .before .before .before .before .before .before .before .before .before .before .call-words .ensures)) (c .before .before .before .before .before .before .before .before .before .before .before .before .before .before .put-lowered .ensures)
+returns-3 c = wrote-as (prints-lowered _ _ (is-read _ (c .before .before .before .before .before .before .before .before .before .before .before .before .read-image .ensures) (c .before .before .before .before .before .before .before .before .before .before .tables .given .1) .0) (c .before .before .before .before .before .before .before .before .if1 .left) (c .before .before .before .before .before .before .before .call-words .ensures)) (c .before .before .put-lowered .ensures)
 
 pub put-params-spec : {M : Type 1} → statement M
 put-params-spec =
@@ -40,11 +36,5 @@ put-params-spec =
     (λ c. search needs)
     (λ c. search needs)
     put-lowered-requires
-    (λ c. search needs)
-    (λ c. search needs)
-    (λ c. search needs)
-    (λ c. search needs)
-    (λ c. search needs)
-    (λ c. search needs)
     (λ c. search needs)
     returns-3)

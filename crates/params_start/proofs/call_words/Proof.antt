@@ -3,7 +3,6 @@ use Rattle.params_start.proofs.call_words.Statement.{statement}
 use Rattle.params_start.proofs.call_words.Tie as tie
 use Rattle.params_start.proofs.call_words.Reads as reads
 use Rattle.params_start.proofs.call_words.Lts as lts
-use Rattle.params_start.proofs.receiver_of.Reads as receiver-of-reads
 use Rattle.params_start.proofs.Starting.{words-are}
 
 returns : tie.Need-returns

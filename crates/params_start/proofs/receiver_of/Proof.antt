@@ -14,4 +14,8 @@ unfolding receiver
 returns-2 c = rw (ne-eqb _ 0 (c .if1 .left))
 
 pub receiver-of-spec : {M : Type 1} → statement M
-receiver-of-spec = tie.close (tie.spec returns returns-2)
+receiver-of-spec =
+    tie.close
+    (tie.spec
+    returns
+    returns-2)

@@ -3,9 +3,6 @@ use Rattle.params_text.proofs.put_lines.Statement.{statement}
 use Rattle.params_text.proofs.put_lines.Tie as tie
 use Rattle.params_text.proofs.put_lines.Reads as reads
 use Rattle.params_text.proofs.put_lines.Lts as lts
-use Rattle.listing_text.proofs.pen.put.Reads as put-reads
-use Rattle.params_text.proofs.put_list.Reads as put-list-reads
-use Rattle.params_text.proofs.put_run.Reads as put-run-reads
 use Rattle.listing_text.specs.Words.{newline}
 use Rattle.listing_text.proofs.Pieces.{and-then}
 use Rattle.params_text.specs.Texts.{linesText, lineText, paramsWord, bindingsWord, entriesWord}

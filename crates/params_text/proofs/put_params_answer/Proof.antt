@@ -3,38 +3,32 @@ use Rattle.params_text.proofs.put_params_answer.Statement.{statement}
 use Rattle.params_text.proofs.put_params_answer.Tie as tie
 use Rattle.params_text.proofs.put_params_answer.Reads as reads
 use Rattle.params_text.proofs.put_params_answer.Lts as lts
-use Rattle.image_text.proofs.number_of.Reads as number-of-reads
-use Rattle.image_text.proofs.reason_of.Reads as reason-of-reads
-use Rattle.listing_body.proofs.put_listing.Reads as put-listing-reads
-use Rattle.listing_text.proofs.put_refusal.Reads as put-refusal-reads
-use Rattle.params_text.proofs.put_lines.Reads as put-lines-reads
-use mathlib.Core.Path.{sym}
 use native.Mathlib.Omega.{arith}
-use lib.Seq.{length-take-le}
+use Rattle.body_tables.specs.Layout.{bodyOf}
 use Rattle.listing_text.proofs.Pieces.{and-then}
 use Rattle.image_text.proofs.Printed.{wrote-as, refusal-numbers}
-use Rattle.params_text.proofs.Answered.{listing-asked, lists, refuses, refuses-call, refuses-image}
+use Rattle.params_text.proofs.Answered.{entries-part, listing-asked, lists, refuses, refuses-call, refuses-image}
 
 put-listing-requires : tie.Need-put-listing-requires
-put-listing-requires c κs = listing-asked _ _ _ _ (c .before .before .before .before .before .before .before .before .before .before .args .bindings .now) _ (c .before .before .answer .given .1) (c .before .before .before .before .before .before .before .before .before .before .pre) .0
+put-listing-requires c κs = let L = listing-asked (bodyOf (c .before .before .before .before .before .before .before .args .body .now)) (c .before .before .before .before .before .before .before .args .bindings .now) _ (c .before .before .answer .given .1) (c .before .before .before .before .before .before .before .pre .1) in (c .before .before .before .before .before .before .before .pre .0, L .0 .0, L .0 .1, L .0 .2)
 
-slice-aggregate-put-lines : tie.Need-slice-aggregate-put-lines
-slice-aggregate-put-lines c = sym (length-take-le _ _ (let L = listing-asked _ _ _ _ (c .before .before .before .before .before .before .before .before .before .before .before .before .before .before .before .before .args .bindings .now) _ (c .before .before .before .before .before .before .before .before .answer .given .1) (c .before .before .before .before .before .before .before .before .before .before .before .before .before .before .before .before .pre) in omega (arith, L .1, L .2)))
+part-put-lines-end : tie.Need-part-put-lines-end
+part-put-lines-end c = let L = listing-asked (bodyOf (c .before .before .before .before .before .before .before .before .before .before .before .before .args .body .now)) (c .before .before .before .before .before .before .before .before .before .before .before .before .args .bindings .now) _ (c .before .before .before .before .before .before .before .answer .given .1) (c .before .before .before .before .before .before .before .before .before .before .before .before .pre .1) in omega (arith, c .before .before .before .before .before .before .before .before .before .before .before .before .pre .0, L .1)
 
 put-lines-requires : tie.Need-put-lines-requires
-put-lines-requires c κs = listing-asked _ _ _ _ (c .before .before .before .before .before .before .before .before .before .before .before .before .before .before .before .before .args .bindings .now) _ (c .before .before .before .before .before .before .before .before .answer .given .1) (c .before .before .before .before .before .before .before .before .before .before .before .before .before .before .before .before .pre) .3
+put-lines-requires c κs = listing-asked (bodyOf (c .before .before .before .before .before .before .before .before .before .before .before .before .before .args .body .now)) (c .before .before .before .before .before .before .before .before .before .before .before .before .before .args .bindings .now) _ (c .before .before .before .before .before .before .before .before .answer .given .1) (c .before .before .before .before .before .before .before .before .before .before .before .before .before .pre .1) .2
 
 returns : tie.Need-returns
-returns c = wrote-as (lists _ _ _ _ _ _ (c .before .before .before .before .before .before .before .before .before .before .before .answer .given .1)) (and-then (c .before .before .before .before .before .before .before .before .put-listing .ensures) (c .before .before .put-lines .ensures))
+returns c = wrote-as (lists _ _ _ (c .before .before .before .before .before .before .before .before .before .before .before .answer .given .1)) (and-then (c .before .before .before .before .before .before .before .before .put-listing .ensures) (rw (entries-part (c .before .before .before .before .before .before .before .before .before .before .before .before .before .before .before .before .args .body .now) _ (listing-asked (bodyOf (c .before .before .before .before .before .before .before .before .before .before .before .before .before .before .before .before .args .body .now)) (c .before .before .before .before .before .before .before .before .before .before .before .before .before .before .before .before .args .bindings .now) _ (c .before .before .before .before .before .before .before .before .before .before .before .answer .given .1) (c .before .before .before .before .before .before .before .before .before .before .before .before .before .before .before .before .pre .1) .1)) at (c .before .before .put-lines .ensures)))
 
 returns-2 : tie.Need-returns-2
-returns-2 c = wrote-as (refuses _ _ _ _ _ _ (c .before .before .before .before .before .before .before .answer2 .given .1)) (wrote-as (refusal-numbers _ _ (c .before .before .before .before .number-of .ensures) (c .before .before .before .reason-of .ensures)) (c .before .before .put-refusal .ensures))
+returns-2 c = wrote-as (refuses _ _ _ (c .before .before .before .before .before .before .before .answer2 .given .1)) (wrote-as (refusal-numbers _ _ (c .before .before .before .before .number-of .ensures) (c .before .before .before .reason-of .ensures)) (c .before .before .put-refusal .ensures))
 
 returns-3 : tie.Need-returns-3
-returns-3 c = wrote-as (refuses-call _ _ _ _ _ _ (c .before .before .before .before .enum-told .given .1)) (c .before .before .put-refusal2 .ensures)
+returns-3 c = wrote-as (refuses-call _ _ _ (c .before .before .before .before .enum-told .given .1)) (c .before .before .put-refusal2 .ensures)
 
 returns-4 : tie.Need-returns-4
-returns-4 c = wrote-as (refuses-image _ _ _ _ _ _ (c .before .before .before .before .enum-told2 .given .1)) (c .before .before .put-refusal3 .ensures)
+returns-4 c = wrote-as (refuses-image _ _ _ (c .before .before .before .before .enum-told2 .given .1)) (c .before .before .put-refusal3 .ensures)
 
 pub put-params-answer-spec : {M : Type 1} → statement M
 put-params-answer-spec =
@@ -43,7 +37,10 @@ put-params-answer-spec =
     (λ c. search needs)
     put-listing-requires
     (λ c. search needs)
-    slice-aggregate-put-lines
+    (λ c. search needs)
+    (λ c. search needs)
+    (λ c. search needs)
+    part-put-lines-end
     put-lines-requires
     (λ c. search needs)
     (λ c κs. search needs)

@@ -8,10 +8,10 @@ use Rattle.stored_records.proofs.next_number.Reads as next-number-reads
 use borrow.Author.Needs.{needs}
 
 abbrev Inv-loop : tie.InvT-loop
-Inv-loop image bindings₀ blocks₀ stmts₀ locals₀ scopes₀ entries₀ visits₀ handed₀ counts₀ left₀ bindings blocks stmts locals scopes entries visits handed counts left = Unit
+Inv-loop image bindings₀ body₀ visits₀ handed₀ counts₀ left₀ bindings body visits handed counts left = Unit
 
 abbrev μ-loop : tie.MeasureT-loop
-μ-loop image bindings₀ blocks₀ stmts₀ locals₀ scopes₀ entries₀ visits₀ handed₀ counts₀ left₀ bindings blocks stmts locals scopes entries visits handed counts left = left
+μ-loop image bindings₀ body₀ visits₀ handed₀ counts₀ left₀ bindings body visits handed counts left = left
 
 pub script-spec : {M : Type 1} → statement M
 script-spec =

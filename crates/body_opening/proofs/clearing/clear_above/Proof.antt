@@ -9,7 +9,7 @@ use Rattle.body_opening.proofs.clearing.clear_scopes.Reads as clear-sco
 use Rattle.body_opening.proofs.clearing.clear_statements.Reads as clear-statements-reads
 use borrow.Author.Needs.{needs}
 use native.Mathlib.Omega.{arith}
-use Rattle.check_body.proofs.Checked.{within-of}
+use Rattle.body_row_rules.proofs.Checked.{within-of}
 use Rattle.body_opening.proofs.Emptying.{sized-words, five-cleared}
 
 clear-blocks-requires : tie.Need-clear-blocks-requires

@@ -2,11 +2,11 @@ use Rattle.body_rules.proofs.tables.blocks_hold.Statement.{statement}
 use Rattle.body_rules.proofs.tables.blocks_hold.Tie as tie
 use Rattle.body_rules.proofs.tables.blocks_hold.Reads as reads
 use Rattle.body_rules.proofs.tables.blocks_hold.Lts as lts
-use Rattle.check_body.proofs.rows.block_holds.Reads as block-holds-reads
+use Rattle.body_row_rules.proofs.rows.block_holds.Reads as block-holds-reads
 use Prim.Native.Nat.{_-_}
 use native.Mathlib.Omega.{arith}
-use Rattle.check_body.specs.Bodies.{blockHolds}
-use Rattle.check_body.proofs.Loops.{tests-begin, Tested, test-fails, test-holds, tests-end}
+use Rattle.body_row_rules.specs.Bodies.{blockHolds}
+use Rattle.body_row_rules.proofs.Loops.{tests-begin, Tested, test-fails, test-holds, tests-end}
 
 abbrev Inv-loop : tie.InvT-loop
 Inv-loop blocks counts i₀ i = Tested (blockHolds blocks counts) (counts .blocks) i

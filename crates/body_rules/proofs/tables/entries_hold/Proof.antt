@@ -2,11 +2,11 @@ use Rattle.body_rules.proofs.tables.entries_hold.Statement.{statement}
 use Rattle.body_rules.proofs.tables.entries_hold.Tie as tie
 use Rattle.body_rules.proofs.tables.entries_hold.Reads as reads
 use Rattle.body_rules.proofs.tables.entries_hold.Lts as lts
-use Rattle.check_body.proofs.rows.entry_holds.Reads as entry-holds-reads
+use Rattle.body_row_rules.proofs.rows.entry_holds.Reads as entry-holds-reads
 use Prim.Native.Nat.{_-_}
 use native.Mathlib.Omega.{arith}
-use Rattle.check_body.specs.Bodies.{entryHolds}
-use Rattle.check_body.proofs.Loops.{tests-begin, Tested, test-fails, test-holds, tests-end}
+use Rattle.body_row_rules.specs.Bodies.{entryHolds}
+use Rattle.body_row_rules.proofs.Loops.{tests-begin, Tested, test-fails, test-holds, tests-end}
 
 abbrev Inv-loop : tie.InvT-loop
 Inv-loop entries counts i₀ i = Tested (entryHolds entries counts) (counts .entries) i

@@ -2,11 +2,11 @@ use Rattle.body_rules.proofs.tables.locals_hold.Statement.{statement}
 use Rattle.body_rules.proofs.tables.locals_hold.Tie as tie
 use Rattle.body_rules.proofs.tables.locals_hold.Reads as reads
 use Rattle.body_rules.proofs.tables.locals_hold.Lts as lts
-use Rattle.check_body.proofs.rows.local_holds.Reads as local-holds-reads
+use Rattle.body_row_rules.proofs.rows.local_holds.Reads as local-holds-reads
 use Prim.Native.Nat.{_-_}
 use native.Mathlib.Omega.{arith}
-use Rattle.check_body.specs.Bodies.{localHolds}
-use Rattle.check_body.proofs.Loops.{tests-begin, Tested, test-fails, test-holds, tests-end}
+use Rattle.body_row_rules.specs.Bodies.{localHolds}
+use Rattle.body_row_rules.proofs.Loops.{tests-begin, Tested, test-fails, test-holds, tests-end}
 
 abbrev Inv-loop : tie.InvT-loop
 Inv-loop types locals counts i₀ i = Tested (localHolds types locals) (counts .locals) i

@@ -2,11 +2,11 @@ use Rattle.body_rules.proofs.tables.scopes_hold.Statement.{statement}
 use Rattle.body_rules.proofs.tables.scopes_hold.Tie as tie
 use Rattle.body_rules.proofs.tables.scopes_hold.Reads as reads
 use Rattle.body_rules.proofs.tables.scopes_hold.Lts as lts
-use Rattle.check_body.proofs.rows.scope_holds.Reads as scope-holds-reads
+use Rattle.body_row_rules.proofs.rows.scope_holds.Reads as scope-holds-reads
 use Prim.Native.Nat.{_-_}
 use native.Mathlib.Omega.{arith}
-use Rattle.check_body.specs.Bodies.{scopeHolds}
-use Rattle.check_body.proofs.Loops.{tests-begin, Tested, test-fails, test-holds, tests-end}
+use Rattle.body_row_rules.specs.Bodies.{scopeHolds}
+use Rattle.body_row_rules.proofs.Loops.{tests-begin, Tested, test-fails, test-holds, tests-end}
 
 abbrev Inv-loop : tie.InvT-loop
 Inv-loop scopes counts i₀ i = Tested (scopeHolds scopes counts) (counts .scopes) i

@@ -2,11 +2,11 @@ use Rattle.body_rules.proofs.tables.statements_hold.Statement.{statemen
 use Rattle.body_rules.proofs.tables.statements_hold.Tie as tie
 use Rattle.body_rules.proofs.tables.statements_hold.Reads as reads
 use Rattle.body_rules.proofs.tables.statements_hold.Lts as lts
-use Rattle.check_body.proofs.statement.statement_holds.Reads as statement-holds-reads
+use Rattle.body_row_rules.proofs.statement.statement_holds.Reads as statement-holds-reads
 use Prim.Native.Nat.{_-_}
 use native.Mathlib.Omega.{arith}
-use Rattle.check_body.specs.Bodies.{statementHolds}
-use Rattle.check_body.proofs.Loops.{tests-begin, Tested, test-fails, test-holds, tests-end}
+use Rattle.body_row_rules.specs.Bodies.{statementHolds}
+use Rattle.body_row_rules.proofs.Loops.{tests-begin, Tested, test-fails, test-holds, tests-end}
 
 abbrev Inv-loop : tie.InvT-loop
 Inv-loop types variants statements counts i₀ i = Tested (statementHolds types variants statements counts) (counts .statements) i

@@ -3,7 +3,7 @@ use Rattle.body_scopes.proofs.leaving.emit_drop_and_storage_dead.Statem
 use Rattle.body_scopes.proofs.leaving.emit_drop_and_storage_dead.Tie as tie
 use mathlib.Core.Path.{sym, ap, _∙_}
 use native.Mathlib.Omega.{arith}
-use Rattle.drop_scopes.specs.Dropping.{isCopy}
+use Rattle.drop_scopes_spec.specs.Dropping.{isCopy}
 use Rattle.body_scopes.proofs.Making.{made-block, next-below}
 use Rattle.body_scopes.proofs.Departing.{copy-leaves, no-room-leaves, drop-leaves}
 

@@ -7,7 +7,7 @@ use Rattle.image.proofs.rows.type_at.Reads as type-at-reads
 use native.Mathlib.Omega.{arith}
 use borrow.Author.Tests.{le-ltb, lt-ltb}
 use Rattle.image.specs.Tables.{typeCount}
-use Rattle.drop_scopes.specs.Dropping.{isCopy}
+use Rattle.drop_scopes_spec.specs.Dropping.{isCopy}
 
 returns : tie.Need-returns
 unfolding isCopy

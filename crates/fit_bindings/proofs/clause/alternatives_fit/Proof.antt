@@ -15,7 +15,7 @@ use Rattle.fit_bindings.proofs.Known.{limits}
 use Rattle.fit_bindings.proofs.Joining.{Comparing, comparing-none, comparing-start, compared, comparing-end, comparing-differs, comparing-more}
 
 abbrev Inv-loop : tie.InvT-loop
-Inv-loop image tables p left₀ left = Comparing image p left₀ left × (p < patternCount image)
+Inv-loop image tables p left₀ left = Comparing image (p .0) left₀ left × (p .0 < patternCount image)
 
 abbrev μ-loop : tie.MeasureT-loop
 μ-loop image tables p left₀ left = left .count

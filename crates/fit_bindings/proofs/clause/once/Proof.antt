@@ -32,21 +32,21 @@ rest-requires c κs =
     (rest-small (c .before .before .before .loop .inv .lies) (c .before .if1 .taken) (small .patterns) (small .list), omega (arith, c .before .if1 .taken))
 
 add-one : tie.Need-add-one Inv-loop μ-loop
-add-one c = omega (arith, limits _ (c .before .before .before .before .before .before .pre .0) .patterns, c .before .first .ensures, first-there (c .before .before .before .before .loop .inv .lies) (c .before .before .if1 .taken))
+add-one c = omega (arith, limits _ (c .before .before .before .before .before .before .before .pre .0) .patterns, c .before .before .first .ensures, first-there (c .before .before .before .before .before .loop .inv .lies) (c .before .before .before .if1 .taken))
 
 each-agrees-requires : tie.Need-each-agrees-requires Inv-loop μ-loop
 each-agrees-requires c κs =
-    let low = first-there (c .before .before .before .before .before .loop .inv .lies) (c .before .before .before .if1 .taken) in
-    (c .before .before .before .before .before .before .before .pre .0, c .before .before .before .before .before .before .before .pre .1, one-there (omega (arith, c .before .before .first .ensures, low)) (c .one .ensures), rest-there (c .before .before .before .before .before .loop .inv) (c .before .before .before .if1 .taken) (c .before .before .first .ensures) (c .before .rest .ensures))
+    let low = first-there (c .before .before .before .before .before .before .loop .inv .lies) (c .before .before .before .before .if1 .taken) in
+    (c .before .before .before .before .before .before .before .before .pre .0, c .before .before .before .before .before .before .before .before .pre .1, one-there (omega (arith, c .before .before .before .first .ensures, low)) (c .one .ensures), rest-there (c .before .before .before .before .before .before .loop .inv) (c .before .before .before .before .if1 .taken) (c .before .before .before .first .ensures) (c .before .before .rest .ensures))
 
 returns : tie.Need-returns Inv-loop μ-loop
-returns c = apart-twice (c .before .before .before .before .before .before .before .loop .inv) (c .before .before .before .before .before .if1 .taken) (c .before .before .before .before .first .ensures) (c .before .before .before .rest .ensures) (c .before .before .one .ensures) (c .before .each-agrees .ensures) (not-true _ (c .if2 .taken))
+returns c = apart-twice (c .before .before .before .before .before .before .before .before .loop .inv) (c .before .before .before .before .before .before .if1 .taken) (c .before .before .before .before .before .first .ensures) (c .before .before .before .before .rest .ensures) (c .before .before .one .ensures) (c .before .each-agrees .ensures) (not-true _ (c .if2 .taken))
 
 loop-less : tie.Need-loop-less Inv-loop μ-loop
-loop-less c = rw (c .before .before .before .rest .ensures) (omega (arith, c .before .before .before .before .before .if1 .taken))
+loop-less c = rw (c .before .before .before .before .rest .ensures) (omega (arith, c .before .before .before .before .before .before .if1 .taken))
 
 loop-again : tie.Need-loop-again Inv-loop μ-loop
-loop-again c = apart-more (c .before .before .before .before .before .before .before .loop .inv) (c .before .before .before .before .before .if1 .taken) (c .before .before .before .before .first .ensures) (c .before .before .before .rest .ensures) (c .before .before .one .ensures) (c .before .each-agrees .ensures) (not-false _ (c .if2 .left))
+loop-again c = apart-more (c .before .before .before .before .before .before .before .before .loop .inv) (c .before .before .before .before .before .before .if1 .taken) (c .before .before .before .before .before .first .ensures) (c .before .before .before .before .rest .ensures) (c .before .before .one .ensures) (c .before .each-agrees .ensures) (not-false _ (c .if2 .left))
 
 returns-2 : tie.Need-returns-2 Inv-loop μ-loop
 returns-2 c = apart-end (c .before .before .loop .inv) (c .if1 .left)

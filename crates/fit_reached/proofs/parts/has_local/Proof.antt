@@ -6,7 +6,7 @@ use Rattle.fit_reached.proofs.parts.has_local.Lts as lts
 use Rattle.fit_reached.proofs.Wording.{local-read}
 
 returns : tie.Need-returns
-returns c = local-read (c .before .args .bindings .now) _ (c .before .pre)
+returns c = local-read (c .before .before .args .bindings .now) _ (c .before .before .pre)
 
 pub has-local-spec : {M : Type 1} → statement M
-has-local-spec = tie.close (tie.spec (λ c. search needs) (λ c. search needs) returns)
+has-local-spec = tie.close (tie.spec (λ c. search needs) (λ c. search needs) (λ c. search needs) returns)

@@ -10,11 +10,10 @@ use Rattle.listing_text.specs.Words.{blockWord, newline}
 use Rattle.listing_text.specs.Numbers.{decimal}
 use Rattle.listing_text.specs.Listing.{blockText}
 use Rattle.listing_text.proofs.Pieces.{and-then, three-then}
-use Rattle.listing_text.proofs.Readings.{row-part}
 
 returns : tie.Need-returns
 unfolding blockText blockWord
-returns c = three-then blockWord (decimal (c .before .before .before .before .before .before .before .before .before .before .before .before .before .before .before .before .before .args .b)) newline (c .before .before .before .before .before .before .before .before .before .before .before .put-line .ensures) (and-then (c .before .before .before .before .before .before .before .put-statements .ensures) (rw (row-part 12 (c .before .before .before .before .before .before .before .before .before .before .before .before .before .before .before .before .before .args .blocks .now) (c .before .before .before .before .before .before .before .before .before .before .before .before .before .before .before .before .before .args .b)) at (c .before .before .put-terminator .ensures)))
+returns c = three-then blockWord (decimal (c .before .before .before .before .before .before .before .before .before .before .before .before .before .before .before .args .b .0)) newline (c .before .before .before .before .before .before .before .before .before .before .put-line .ensures) (and-then (c .before .before .before .before .before .before .put-statements .ensures) (c .before .before .put-terminator .ensures))
 
 pub put-block-spec : {M : Type 1} → statement M
 put-block-spec =
@@ -23,12 +22,6 @@ put-block-spec =
     (λ c. search needs)
     (λ c κs. search needs)
     (λ c κs. search needs)
-    (λ c. search needs)
-    (λ c. search needs)
-    (λ c. search needs)
-    (λ c. search needs)
-    (λ c. search needs)
-    (λ c. search needs)
     (λ c κs. search needs)
     (λ c. search needs)
     returns)

@@ -1,20 +1,18 @@
+use borrow.Author.Needs.{needs}
 use Rattle.listing_body.proofs.blocks.put_statements.Statement.{statement}
 use Rattle.listing_body.proofs.blocks.put_statements.Tie as tie
 use Rattle.listing_body.proofs.blocks.put_statements.Reads as reads
 use Rattle.listing_body.proofs.blocks.put_statements.Lts as lts
-use Rattle.listing_text.proofs.pen.put.Reads as put-reads
-use Rattle.listing_text.proofs.statements.put_statement.Reads as put-statement-reads
 use Prim.Native.Nat.{_-_}
 use mathlib.Core.Path.{refl}
 use native.Mathlib.Omega.{arith}
-use borrow.Author.Needs.{needs}
 use Rattle.listing_text.proofs.Pieces.{and-then}
 use Rattle.listing_text.proofs.Loops.{Going, going-start, going-more, going-on, going-end}
 use Rattle.listing_text.proofs.Readings.{row-part, part-length}
 use Rattle.listing_text.proofs.Texts.{linesFrom, line-here, line-elsewhere, lines-end}
 
 abbrev Inv-loop : tie.InvT-loop
-Inv-loop out₀ statements count block written₀ i₀ out written i = Going out₀ written₀ (linesFrom statements count block 0) (linesFrom statements count block i) written out
+Inv-loop out₀ statements count block written₀ i₀ out written i = Going out₀ written₀ (linesFrom statements count (block .0) 0) (linesFrom statements count (block .0) i) written out
 
 abbrev μ-loop : tie.MeasureT-loop
 μ-loop out₀ statements count block written₀ i₀ out written i = count - i
@@ -38,10 +36,10 @@ shared-slice-read-if1 : tie.Need-shared-slice-read-if1 Inv-loop μ-loop
 shared-slice-read-if1 c = omega (arith, c .before .before .before .before .before .before .before .before .before .before .pre .0, c .before .before .before .before .before .before .before .before .before .before .pre .1, c .before .loop-test .taken)
 
 add-end : tie.Need-add-end Inv-loop μ-loop
-add-end c = omega (arith, c .before .before .before .before .before .before .before .before .before .before .before .pre .1, c .before .before .loop-test .taken)
+add-end c = omega (arith, c .before .before .before .before .before .before .before .before .before .before .before .before .pre .1, c .before .before .before .loop-test .taken)
 
 mul-put-statement : tie.Need-mul-put-statement Inv-loop μ-loop
-mul-put-statement c = omega (arith, c .before .before .before .before .before .before .before .before .before .before .before .before .pre .1, c .before .before .before .loop-test .taken)
+mul-put-statement c = omega (arith, c .before .before .before .before .before .before .before .before .before .before .before .before .before .pre .1, c .before .before .before .before .loop-test .taken)
 
 sub-put-statement : tie.Need-sub-put-statement Inv-loop μ-loop
 sub-put-statement c = omega arith
@@ -50,28 +48,28 @@ part-put-statement-start : tie.Need-part-put-statement-start Inv-loop μ-loop
 part-put-statement-start c = omega arith
 
 part-put-statement-end : tie.Need-part-put-statement-end Inv-loop μ-loop
-part-put-statement-end c = omega (arith, c .before .before .before .before .before .before .before .before .before .before .before .before .pre .0, c .before .before .before .before .before .before .before .before .before .before .before .before .pre .1, c .before .before .before .loop-test .taken)
+part-put-statement-end c = omega (arith, c .before .before .before .before .before .before .before .before .before .before .before .before .before .pre .0, c .before .before .before .before .before .before .before .before .before .before .before .before .before .pre .1, c .before .before .before .before .loop-test .taken)
 
 put-statement-requires : tie.Need-put-statement-requires Inv-loop μ-loop
-put-statement-requires c κs = part-length 49 (c .before .before .before .before .before .before .before .before .before .before .before .before .before .args .statements .now) (c .before .before .before .before .before .loop .i) (omega (arith, c .before .before .before .before .before .before .before .before .before .before .before .before .before .pre .0, c .before .before .before .before .before .before .before .before .before .before .before .before .before .pre .1, c .before .before .before .before .loop-test .taken))
+put-statement-requires c κs = part-length 49 (c .before .before .before .before .before .before .before .before .before .before .before .before .before .before .args .statements .now) (c .before .before .before .before .before .before .loop .i) (omega (arith, c .before .before .before .before .before .before .before .before .before .before .before .before .before .before .pre .0, c .before .before .before .before .before .before .before .before .before .before .before .before .before .before .pre .1, c .before .before .before .before .before .loop-test .taken))
 
 loop-less : tie.Need-loop-less Inv-loop μ-loop
-loop-less c = omega (arith, c .before .before .before .before .before .before .before .loop-test .taken)
+loop-less c = omega (arith, c .before .before .before .before .before .before .before .before .loop-test .taken)
 
 loop-again : tie.Need-loop-again Inv-loop μ-loop
-loop-again c = going-more (c .before .before .before .before .before .before .before .before .loop .inv) (rw (row-part 49 (c .before .before .before .before .before .before .before .before .before .before .before .before .before .before .before .before .args .statements .now) (c .before .before .before .before .before .before .before .before .loop .i)) at (c .before .before .put-statement .ensures)) (c .before .before .put-statement .kept .0) (line-here (c .before .before .before .before .before .before .before .before .before .before .before .before .before .before .before .before .args .statements .now) (c .before .before .before .before .before .before .before .before .before .before .before .before .before .before .before .before .args .count) (c .before .before .before .before .before .before .before .before .before .before .before .before .before .before .before .before .args .block) (c .before .before .before .before .before .before .before .before .loop .i) (c .before .before .before .before .before .before .before .loop-test .taken) (c .before .before .before .before .before .if1 .taken))
+loop-again c = going-more (c .before .before .before .before .before .before .before .before .before .loop .inv) (rw (row-part 49 (c .before .before .before .before .before .before .before .before .before .before .before .before .before .before .before .before .before .args .statements .now) (c .before .before .before .before .before .before .before .before .before .loop .i)) at (c .before .before .put-statement .ensures)) (c .before .before .put-statement .kept .0) (line-here (c .before .before .before .before .before .before .before .before .before .before .before .before .before .before .before .before .before .args .statements .now) (c .before .before .before .before .before .before .before .before .before .before .before .before .before .before .before .before .before .args .count) (c .before .before .before .before .before .before .before .before .before .before .before .before .before .before .before .before .before .args .block .0) (c .before .before .before .before .before .before .before .before .before .loop .i) (c .before .before .before .before .before .before .before .before .loop-test .taken) (c .before .before .before .before .before .if1 .taken))
 
 loop-less-2 : tie.Need-loop-less-2 Inv-loop μ-loop
-loop-less-2 c = omega (arith, c .before .before .loop-test .taken)
+loop-less-2 c = omega (arith, c .before .before .before .loop-test .taken)
 
 loop-again-2 : tie.Need-loop-again-2 Inv-loop μ-loop
-loop-again-2 c = going-on (c .before .before .before .loop .inv) (line-elsewhere (c .before .before .before .before .before .before .before .before .before .before .before .args .statements .now) (c .before .before .before .before .before .before .before .before .before .before .before .args .count) (c .before .before .before .before .before .before .before .before .before .before .before .args .block) (c .before .before .before .loop .i) (c .before .before .loop-test .taken) (c .if1 .left))
+loop-again-2 c = going-on (c .before .before .before .before .loop .inv) (line-elsewhere (c .before .before .before .before .before .before .before .before .before .before .before .before .args .statements .now) (c .before .before .before .before .before .before .before .before .before .before .before .before .args .count) (c .before .before .before .before .before .before .before .before .before .before .before .before .args .block .0) (c .before .before .before .before .loop .i) (c .before .before .before .loop-test .taken) (c .if1 .left))
 
 same-length : tie.Need-same-length Inv-loop μ-loop
 same-length c = omega (arith, c .before .loop .inv .long, c .before .before .before .before .put .kept .0)
 
 returns : tie.Need-returns Inv-loop μ-loop
-returns c = and-then (c .before .before .before .before .put .ensures) (going-end (c .before .loop .inv) (lines-end (c .before .before .before .before .before .before .before .before .before .args .statements .now) (c .before .before .before .before .before .before .before .before .before .args .count) (c .before .before .before .before .before .before .before .before .before .args .block) (c .before .loop .i) (c .loop-test .left)))
+returns c = and-then (c .before .before .before .before .put .ensures) (going-end (c .before .loop .inv) (lines-end (c .before .before .before .before .before .before .before .before .before .args .statements .now) (c .before .before .before .before .before .before .before .before .before .args .count) (c .before .before .before .before .before .before .before .before .before .args .block .0) (c .before .loop .i) (c .loop-test .left)))
 
 pub put-statements-spec : {M : Type 1} → statement M
 put-statements-spec =

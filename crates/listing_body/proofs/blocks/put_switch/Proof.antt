@@ -7,38 +7,27 @@ use Rattle.listing_text.proofs.numbers.put_hex_halves.Reads as put-hex-halves-r
 use Rattle.listing_text.proofs.numbers.put_line.Reads as put-line-reads
 use Rattle.listing_text.proofs.numbers.put_numbered.Reads as put-numbered-reads
 use Rattle.listing_text.proofs.pen.put.Reads as put-reads
-use Rattle.listing_text.proofs.rows.four_words.Reads as four-words-reads
-use native.Mathlib.Omega.{arith}
-use lib.ListN.{getD}
 use Rattle.listing_text.specs.Words.{switchWord, space}
 use Rattle.listing_text.specs.Numbers.{decimal}
 use Rattle.listing_text.specs.Listing.{terminatorText}
 use Rattle.listing_text.proofs.Pieces.{and-then, two-then}
 
-shared-slice-read-put-line : tie.Need-shared-slice-read-put-line
-shared-slice-read-put-line c = omega (arith, c .before .before .before .before .before .before .before .before .before .before .before .before .before .before .before .before .before .before .before .before .before .before .before .before .before .before .before .before .pre)
-
 returns : tie.Need-returns
 unfolding terminatorText switchWord space
-returns c = two-then switchWord (decimal (getD (c .before .before .before .before .before .before .before .before .before .before .before .before .before .before .before .before .before .before .before .before .before .before .before .before .before .before .before .before .before .before .before .args .row .now) 1 0)) (c .before .before .before .before .before .before .before .before .before .before .before .before .before .before .before .before .before .before .before .before .before .before .before .put-numbered .ensures) (and-then (c .before .before .before .before .before .before .before .before .before .before .before .before .before .before .before .before .before .before .put .ensures) (and-then (rw (c .before .before .before .before .before .before .before .before .before .before .before .before .before .before .before .before .before .before .before .before .before .before .before .before .before .before .before .before .four-words .ensures, c .before .before .before .before .before .before .before .before .before .before .before .before .before .before .before .before .before .before .before .before .before .before .before .before .before .before .before .four-words2 .ensures) at (c .before .before .before .before .before .before .before .before .before .before .before .before .before .before .put-hex-halves .ensures)) (two-then space (decimal (getD (c .before .before .before .before .before .before .before .before .before .before .before .before .before .before .before .before .before .before .before .before .before .before .before .before .before .before .before .before .before .before .before .args .row .now) 2 0)) (c .before .before .before .before .before .before .before .before .put-numbered2 .ensures) (c .before .before .put-line .ensures))))
+returns c = two-then switchWord (decimal (c .before .before .before .before .before .before .before .before .before .before .before .before .before .before .before .before .before .before .before .before .before .before .before .before .before .args .local .0)) (c .before .before .before .before .before .before .before .before .before .before .before .before .before .before .before .before .before .before .before .before .before .put-numbered .ensures) (and-then (c .before .before .before .before .before .before .before .before .before .before .before .before .before .before .before .before .put .ensures) (and-then (c .before .before .before .before .before .before .before .before .before .before .before .before .put-hex-halves .ensures) (two-then space (decimal (c .before .before .before .before .before .before .before .before .before .before .before .before .before .before .before .before .before .before .before .before .before .before .before .before .before .args .then .0)) (c .before .before .before .before .before .before .before .put-numbered2 .ensures) (c .before .before .put-line .ensures))))
 
 pub put-switch-spec : {M : Type 1} → statement M
 put-switch-spec =
     tie.close
     (tie.spec
-    (λ c κs. search needs)
-    (λ c κs. search needs)
-    (λ c. search needs)
     (λ c. search needs)
     (λ c κs. search needs)
     (λ c. search needs)
     (λ c κs. search needs)
     (λ c κs. search needs)
     (λ c. search needs)
-    (λ c. search needs)
     (λ c κs. search needs)
     (λ c. search needs)
-    shared-slice-read-put-line
     (λ c κs. search needs)
     (λ c. search needs)
     returns)

@@ -13,7 +13,7 @@ use Rattle.listing_text.proofs.Pieces.{and-then, two-then}
 
 returns : tie.Need-returns
 unfolding localText localWord space newline
-returns c = two-then localWord (decimal (c .before .before .before .before .before .before .before .before .before .before .before .before .before .before .before .before .before .before .before .before .args .i)) (c .before .before .before .before .before .before .before .before .before .before .before .before .before .before .before .before .put-numbered .ensures) (and-then (c .before .before .before .before .before .before .before .before .before .before .before .put .ensures) (and-then (c .before .before .before .before .before .before .before .put-local-ty .ensures) (c .before .before .put2 .ensures)))
+returns c = two-then localWord (decimal (c .before .before .before .before .before .before .before .before .before .before .before .before .before .before .before .before .before .before .before .before .args .l .0)) (c .before .before .before .before .before .before .before .before .before .before .before .before .before .before .before .before .put-numbered .ensures) (and-then (c .before .before .before .before .before .before .before .before .before .before .before .put .ensures) (and-then (c .before .before .before .before .before .before .before .put-local-ty .ensures) (c .before .before .put2 .ensures)))
 
 pub put-local-spec : {M : Type 1} → statement M
 put-local-spec =

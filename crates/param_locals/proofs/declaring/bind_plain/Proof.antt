@@ -1,10 +1,6 @@
 use borrow.Author.Needs.{needs}
 use Rattle.param_locals.proofs.declaring.bind_plain.Statement.{statement}
 use Rattle.param_locals.proofs.declaring.bind_plain.Tie as tie
-use Rattle.param_locals.proofs.declaring.bind_plain.Reads as reads
-use Rattle.param_locals.proofs.declaring.bind_plain.Lts as lts
-use Rattle.image.proofs.rows.pat_at.Reads as pat-at-reads
-use Rattle.param_lists.proofs.is_plain.Reads as is-plain-reads
 use mathlib.Core.Path.{refl}
 use native.Mathlib.Omega.{arith}
 use Rattle.param_locals.proofs.Plain.{plain-bound, plain-free, plain-there}

@@ -1,15 +1,10 @@
 use borrow.Author.Needs.{needs}
 use Rattle.param_locals.proofs.lists.params_hold.Statement.{statement}
 use Rattle.param_locals.proofs.lists.params_hold.Tie as tie
-use Rattle.param_locals.proofs.lists.params_hold.Reads as reads
-use Rattle.param_locals.proofs.lists.params_hold.Lts as lts
-use Rattle.handed.proofs.bindings_hold.Reads as bindings-hold-reads
-use Rattle.handed.proofs.start_holds.Reads as start-holds-reads
-use Rattle.param_locals.proofs.lists.self_named.Reads as self-named-reads
 use mathlib.Core.Bool.{and-true}
 use borrow.Author.Tests.{not-true, not-false}
 use Rattle.image.specs.Lists.{allTrue}
-use Rattle.lowered_params.specs.Calls.{paramsHold}
+use Rattle.params_spec.specs.Calls.{paramsHold}
 
 returns : tie.Need-returns
 unfolding paramsHold allTrue
@@ -17,15 +12,15 @@ returns c = rw (← c .before .self-named .ensures, not-true (c .before .self-na
 
 returns-2 : tie.Need-returns-2
 unfolding paramsHold allTrue
-returns-2 c = rw (← c .before .before .before .self-named .ensures, not-false (c .before .before .before .self-named .result) (c .before .before .if1 .left), ← c .before .before .before .before .before .before .before .before .pre .0 .binding-count, ← c .before .bindings-hold .ensures, not-true (c .before .bindings-hold .result) (c .if2 .taken))
+returns-2 c = rw (← c .before .before .before .self-named .ensures, not-false (c .before .before .before .self-named .result) (c .before .before .if1 .left), ← c .before .before .before .before .before .before .before .pre .0 .binding-count, ← c .before .bindings-hold .ensures, not-true (c .before .bindings-hold .result) (c .if2 .taken))
 
 returns-3 : tie.Need-returns-3
 unfolding paramsHold allTrue
-returns-3 c = rw (← c .before .before .before .before .before .self-named .ensures, not-false (c .before .before .before .before .before .self-named .result) (c .before .before .before .before .if1 .left), ← c .before .before .before .before .before .before .before .before .before .before .pre .0 .binding-count, ← c .before .before .before .bindings-hold .ensures, not-false (c .before .before .before .bindings-hold .result) (c .before .before .if2 .left), ← c .before .start-holds .ensures, not-true (c .before .start-holds .result) (c .if3 .taken))
+returns-3 c = rw (← c .before .before .before .before .before .before .self-named .ensures, not-false (c .before .before .before .before .before .before .self-named .result) (c .before .before .before .before .before .if1 .left), ← c .before .before .before .before .before .before .before .before .before .before .pre .0 .binding-count, ← c .before .before .before .before .bindings-hold .ensures, not-false (c .before .before .before .before .bindings-hold .result) (c .before .before .before .if2 .left), ← c .before .start-holds .ensures, not-true (c .before .start-holds .result) (c .if3 .taken))
 
 returns-4 : tie.Need-returns-4
 unfolding paramsHold allTrue
-returns-4 c = rw (← c .before .before .before .before .before .self-named .ensures, not-false (c .before .before .before .before .before .self-named .result) (c .before .before .before .before .if1 .left), ← c .before .before .before .before .before .before .before .before .before .before .pre .0 .binding-count, ← c .before .before .before .bindings-hold .ensures, not-false (c .before .before .before .bindings-hold .result) (c .before .before .if2 .left), ← c .before .start-holds .ensures, not-false (c .before .start-holds .result) (c .if3 .left), and-true)
+returns-4 c = rw (← c .before .before .before .before .before .before .self-named .ensures, not-false (c .before .before .before .before .before .before .self-named .result) (c .before .before .before .before .before .if1 .left), ← c .before .before .before .before .before .before .before .before .before .before .pre .0 .binding-count, ← c .before .before .before .before .bindings-hold .ensures, not-false (c .before .before .before .before .bindings-hold .result) (c .before .before .before .if2 .left), ← c .before .start-holds .ensures, not-false (c .before .start-holds .result) (c .if3 .left), and-true)
 
 pub params-hold-spec : {M : Type 1} → statement M
 params-hold-spec =

@@ -1,17 +1,15 @@
 use borrow.Author.Needs.{needs}
 use Rattle.param_locals.proofs.lists.self_named.Statement.{statement}
 use Rattle.param_locals.proofs.lists.self_named.Tie as tie
-use Rattle.param_locals.proofs.lists.self_named.Reads as reads
-use Rattle.param_locals.proofs.lists.self_named.Lts as lts
-use Rattle.lowered_params.specs.Calls.{selfNamed}
+use Rattle.params_spec.specs.Calls.{selfNamed}
 use Rattle.param_locals.proofs.Looking.{self-unbound, self-bound}
 
 returns : tie.Need-returns
-returns c = rw (c .before .before .before .before .receiver .given .1) (self-unbound (c .before .before .before .before .before .before .pre) _ _ (c .if1 .taken))
+unfolding selfNamed
+returns c = rw (c .enum-told .given .1)
 
 returns-2 : tie.Need-returns-2
-unfolding selfNamed
-returns-2 c = rw (c .enum-told .given .1)
+returns-2 c = rw (c .before .before .before .before .receiver .given .1) (self-unbound (c .before .before .before .before .before .before .pre) _ _ (c .if1 .taken))
 
 returns-3 : tie.Need-returns-3
 returns-3 c = rw (c .before .before .before .before .before .receiver .given .1) (self-bound (c .before .before .before .before .before .before .before .pre) _ _ (c .before .if1 .left))

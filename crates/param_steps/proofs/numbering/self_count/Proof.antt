@@ -3,7 +3,7 @@ use Rattle.param_steps.proofs.numbering.self_count.Statement.{statement
 use Rattle.param_steps.proofs.numbering.self_count.Tie as tie
 use Rattle.param_steps.proofs.numbering.self_count.Reads as reads
 use Rattle.param_steps.proofs.numbering.self_count.Lts as lts
-use Rattle.lowered_params.specs.Params.{selfCount}
+use Rattle.params_spec.specs.Params.{selfCount}
 
 returns : tie.Need-returns
 unfolding selfCount

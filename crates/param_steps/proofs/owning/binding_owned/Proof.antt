@@ -3,7 +3,7 @@ use Rattle.param_steps.proofs.owning.binding_owned.Statement.{statement
 use Rattle.param_steps.proofs.owning.binding_owned.Tie as tie
 use Rattle.param_steps.proofs.owning.binding_owned.Reads as reads
 use Rattle.param_steps.proofs.owning.binding_owned.Lts as lts
-use Rattle.lower.proofs.temps.binding_local.Reads as binding-local-reads
+use Rattle.body_lowering.proofs.temps.binding_local.Reads as binding-local-reads
 use Rattle.param_steps.proofs.Telling.{binding-refused, binding-own, binding-other}
 
 returns : tie.Need-returns

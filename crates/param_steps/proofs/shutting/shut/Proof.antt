@@ -1,13 +1,10 @@
 use borrow.Author.Needs.{needs}
 use Rattle.param_steps.proofs.shutting.shut.Statement.{statement}
 use Rattle.param_steps.proofs.shutting.shut.Tie as tie
-use Rattle.param_steps.proofs.shutting.shut.Reads as reads
-use Rattle.param_steps.proofs.shutting.shut.Lts as lts
-use Rattle.mir.proofs.blocks.set_terminator.Reads as set-terminator-reads
 use mathlib.Core.Path.{refl}
 
 set-terminator-requires : tie.Need-set-terminator-requires
-set-terminator-requires c κs = (c .before .before .before .before .before .before .before .before .pre .0, rw (c .before .before .other .given .1) at (rw (c .before .before .before .before .before .lowered2 .given .1) at (c .before .before .before .before .before .before .before .before .pre .1)))
+set-terminator-requires c κs = (search needs, rw (c .before .before .other .given .1) at (rw (c .before .before .before .before .before .lowered2 .given .1) at (c .before .before .before .before .before .before .before .pre)))
 
 returns : tie.Need-returns
 returns c = rw (c .before .lowered .given .1) (refl, refl)
@@ -16,7 +13,7 @@ returns-2 : tie.Need-returns-2
 returns-2 c = rw (c .before .before .before .lowered2 .given .1, c .enum-told .given .1) (refl, refl)
 
 returns-3 : tie.Need-returns-3
-returns-3 c = rw (c .before .before .before .before .before .before .before .before .lowered2 .given .1, c .before .before .before .before .before .other .given .1) (refl, c .before .before .set-terminator .ensures)
+returns-3 c = rw (c .before .before .before .before .before .before .lowered2 .given .1, c .before .before .before .other .given .1) (refl, c .set-terminator .ensures)
 
 pub shut-spec : {M : Type 1} → statement M
 shut-spec =
@@ -29,5 +26,4 @@ shut-spec =
     set-terminator-requires
     returns
     returns-2
-    (λ c. search needs)
     returns-3)

@@ -9,18 +9,10 @@ use mathlib.Core.Path.{sym, _∙_}
 use Rattle.pattern_leaves.proofs.Checking.{bind-skips, bind-fills}
 
 returns : tie.Need-returns
-returns c = bind-skips _ _ _ _ _ _ _ _ _ _ _ (sym (c .before .is-check .ensures) ∙ c .if1 .taken) (c .before .before .before .before .before .pre .3)
+returns c = bind-skips _ _ _ _ _ _ _ _ _ _ (sym (c .before .is-check .ensures) ∙ c .if1 .taken) (c .before .before .before .pre .2)
 
 returns-2 : tie.Need-returns-2
-returns-2 c = bind-fills _ _ _ _ _ _ _ _ _ _ _ (sym (c .before .before .before .before .before .before .before .before .is-check .ensures) ∙ c .before .before .before .before .before .before .before .if1 .left) (c .before .before .before .before .pattern-match-binding .ensures)
+returns-2 c = bind-fills _ _ _ _ _ _ _ _ _ _ (sym (c .before .before .before .is-check .ensures) ∙ c .before .before .if1 .left) (c .pattern-match-binding .ensures)
 
 pub bind-spec : {M : Type 1} → statement M
-bind-spec =
-    tie.close
-    (tie.spec
-    (λ c κs. search needs)
-    returns
-    (λ c κs. search needs)
-    (λ c. search needs)
-    (λ c. search needs)
-    returns-2)
+bind-spec = tie.close (tie.spec (λ c κs. search needs) returns (λ c κs. search needs) returns-2)

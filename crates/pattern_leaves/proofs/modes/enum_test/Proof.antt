@@ -10,20 +10,10 @@ use borrow.Author.Tests.{not-true, not-false}
 use Rattle.pattern_leaves.proofs.Sequencing.{enum-skips, enum-tests}
 
 returns : tie.Need-returns
-returns c = enum-skips _ _ _ _ _ _ _ _ _ (sym (c .before .is-check .ensures) ∙ not-true _ (c .if1 .taken)) (c .before .before .before .before .before .before .before .pre .1 .1)
+returns c = enum-skips _ _ _ _ _ _ _ _ _ (sym (c .before .is-check .ensures) ∙ not-true _ (c .if1 .taken)) (c .before .before .before .pre .1 .1)
 
 returns-2 : tie.Need-returns-2
-returns-2 c = enum-tests _ _ _ _ _ _ _ _ _ (sym (c .before .before .before .before .before .before .before .before .before .before .before .before .before .before .is-check .ensures) ∙ not-false _ (c .before .before .before .before .before .before .before .before .before .before .before .before .before .if1 .left)) (c .before .before .before .before .before .before .before .before .discriminant-test .ensures)
+returns-2 c = enum-tests _ _ _ _ _ _ _ _ _ (sym (c .before .before .before .is-check .ensures) ∙ not-false _ (c .before .before .if1 .left)) (c .discriminant-test .ensures)
 
 pub enum-test-spec : {M : Type 1} → statement M
-enum-test-spec =
-    tie.close
-    (tie.spec
-    (λ c κs. search needs)
-    returns
-    (λ c κs. search needs)
-    (λ c. search needs)
-    (λ c. search needs)
-    (λ c. search needs)
-    (λ c. search needs)
-    returns-2)
+enum-test-spec = tie.close (tie.spec (λ c κs. search needs) returns (λ c κs. search needs) returns-2)

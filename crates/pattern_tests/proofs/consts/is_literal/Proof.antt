@@ -1,78 +1,14 @@
-use borrow.Author.Needs.{needs}
 use Rattle.pattern_tests.proofs.consts.is_literal.Statement.{statement}
 use Rattle.pattern_tests.proofs.consts.is_literal.Tie as tie
 use Rattle.pattern_tests.proofs.consts.is_literal.Reads as reads
 use Rattle.pattern_tests.proofs.consts.is_literal.Lts as lts
-use mathlib.Core.Path.{refl}
-use Rattle.pattern_tests.specs.Testing.{isLiteral}
+use Rattle.pattern_tests.proofs.Constants.{kind-named, kind-other}
 
 returns : tie.Need-returns
-unfolding isLiteral
-returns c = rw (c .enum-told .given .1) refl
+returns c = kind-named _ (c .match .keys1)
 
 returns-2 : tie.Need-returns-2
-unfolding isLiteral
-returns-2 c = rw (c .enum-told2 .given .1) refl
-
-returns-3 : tie.Need-returns-3
-unfolding isLiteral
-returns-3 c = rw (c .enum-told3 .given .1) refl
-
-returns-4 : tie.Need-returns-4
-unfolding isLiteral
-returns-4 c = rw (c .enum-told4 .given .1) refl
-
-returns-5 : tie.Need-returns-5
-unfolding isLiteral
-returns-5 c = rw (c .enum-told5 .given .1) refl
-
-returns-6 : tie.Need-returns-6
-unfolding isLiteral
-returns-6 c = rw (c .enum-told6 .given .1) refl
-
-returns-7 : tie.Need-returns-7
-unfolding isLiteral
-returns-7 c = rw (c .enum-told7 .given .1) refl
-
-returns-8 : tie.Need-returns-8
-unfolding isLiteral
-returns-8 c = rw (c .enum-told8 .given .1) refl
-
-returns-9 : tie.Need-returns-9
-unfolding isLiteral
-returns-9 c = rw (c .enum-told9 .given .1) refl
-
-returns-10 : tie.Need-returns-10
-unfolding isLiteral
-returns-10 c = rw (c .enum-told10 .given .1) refl
-
-returns-11 : tie.Need-returns-11
-unfolding isLiteral
-returns-11 c = rw (c .enum-told11 .given .1) refl
+returns-2 c = kind-other _ (c .match .keys2)
 
 pub is-literal-spec : {M : Type 1} → statement M
-is-literal-spec =
-    tie.close
-    (tie.spec
-    (λ c. search needs)
-    (λ c. search needs)
-    (λ c. search needs)
-    (λ c. search needs)
-    (λ c. search needs)
-    (λ c. search needs)
-    (λ c. search needs)
-    (λ c. search needs)
-    (λ c. search needs)
-    (λ c. search needs)
-    (λ c. search needs)
-    returns
-    returns-2
-    returns-3
-    returns-4
-    returns-5
-    returns-6
-    returns-7
-    returns-8
-    returns-9
-    returns-10
-    returns-11)
+is-literal-spec = tie.close (tie.spec returns returns-2)

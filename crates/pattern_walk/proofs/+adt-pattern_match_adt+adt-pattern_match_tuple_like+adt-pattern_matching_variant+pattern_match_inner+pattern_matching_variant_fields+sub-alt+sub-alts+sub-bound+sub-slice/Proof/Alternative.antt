@@ -13,8 +13,8 @@ use native.Mathlib.Omega.{arith}
 use borrow.Author.Needs.{needs}
 use Rattle.image.specs.Tree.{tree}
 use Rattle.pattern_matching.specs.Patterns.{patternMatchInner}
-use Rattle.walking.proofs.Asking.{walkable-after, walkable-sure, asks-visit}
-use Rattle.walking.proofs.Trying.{alternative-stops, alternative-tested, alternative-again}
+use Rattle.pattern_walk_laws.proofs.Asking.{walkable-after, walkable-sure, asks-visit}
+use Rattle.pattern_walk_laws.proofs.Trying.{alternative-stops, alternative-tested, alternative-again}
 use Rattle.pattern_idle.proofs.Idling.{idle-walks}
 use Rattle.pattern_alternatives.proofs.Again.{again-ends}
 
@@ -23,99 +23,39 @@ abbrev pub calls : ℕ → lts.Claims
 calls t = (pattern-match-inner-below t, pattern-match-inner.Post, is-check-reads.Asked, is-check-reads.Learnt, nothing-to-do-reads.Asked, nothing-to-do-reads.Learnt, visit-reads.Asked, visit-reads.Learnt, with-else-reads.Asked, with-else-reads.Learnt)
 
 pub pattern-match-inner-requires : (t : ℕ) → lts.Need-pattern-match-inner-requires (calls t) (sub·alt-at t) sub·alt.Post
-pattern-match-inner-requires t c κs = (omega (arith, c .before .before .before .before .before .before .before .before .before .before .before .before .pre .0), (c .before .before .before .before .before .before .before .before .before .before .before .before .pre .1 .0, c .before .before .before .before .before .before .before .before .before .before .before .before .pre .1 .1))
+pattern-match-inner-requires t c κs = (omega (arith, c .before .before .before .before .pre .0), (c .before .before .before .before .pre .1 .0, c .before .before .before .before .pre .1 .1))
 
-pub enum-known-e : (t : ℕ) → lts.Need-enum-known-e (calls t) (sub·alt-at t) sub·alt.Post
-enum-known-e t c = search needs
+pub enum-known-tested : (t : ℕ) → lts.Need-enum-known-tested (calls t) (sub·alt-at t) sub·alt.Post
+enum-known-tested t c = search needs
 
-pub enum-known-c1 : (t : ℕ) → lts.Need-enum-known-c1 (calls t) (sub·alt-at t) sub·alt.Post
-enum-known-c1 t c = search needs
+pub enum-told : (t : ℕ) → lts.Need-enum-told (calls t) (sub·alt-at t) sub·alt.Post
+enum-told t c = search needs
+
+pub returns : (t : ℕ) → lts.Need-returns (calls t) (sub·alt-at t) sub·alt.Post
+returns t c = rw (c .enum-told .given .1) (alternative-stops (patternMatchInner (c .before .before .before .before .before .before .before .args .image .now) (c .before .before .before .before .before .before .before .args .bindings .now) (tree (c .before .before .before .before .before .before .before .args .image .now) (c .before .before .before .before .before .before .before .args .q .0))) (c .before .before .before .before .before .before .before .args .mode) (c .before .before .before .before .before .before .before .args .counts) (c .before .before .before .before .before .before .before .args .current) (c .before .before .before .before .before .before .before .args .place) _ _ (rw (c .enum-told .given .1) at (c .before .before .pattern-match-inner .ensures)))
 
 pub is-check-requires : (t : ℕ) → lts.Need-is-check-requires (calls t) (sub·alt-at t) sub·alt.Post
 is-check-requires t c κs = tt
 
-pub same-length : (t : ℕ) → lts.Need-same-length (calls t) (sub·alt-at t) sub·alt.Post
-same-length t c = c .before .before .before .before .before .before .before .before .before .before .before .before .before .before .before .pattern-match-inner .kept .1 .1 .1 .0
-
-pub same-length-2 : (t : ℕ) → lts.Need-same-length-2 (calls t) (sub·alt-at t) sub·alt.Post
-same-length-2 t c = c .before .before .before .before .before .before .before .before .before .before .before .before .before .before .before .pattern-match-inner .kept .1 .1 .1 .1 .0
-
-pub same-length-3 : (t : ℕ) → lts.Need-same-length-3 (calls t) (sub·alt-at t) sub·alt.Post
-same-length-3 t c = c .before .before .before .before .before .before .before .before .before .before .before .before .before .before .before .pattern-match-inner .kept .1 .1 .1 .1 .1 .0
-
-pub same-length-4 : (t : ℕ) → lts.Need-same-length-4 (calls t) (sub·alt-at t) sub·alt.Post
-same-length-4 t c = c .before .before .before .before .before .before .before .before .before .before .before .before .before .before .before .pattern-match-inner .kept .1 .1 .1 .1 .1 .1 .0
-
-pub same-length-5 : (t : ℕ) → lts.Need-same-length-5 (calls t) (sub·alt-at t) sub·alt.Post
-same-length-5 t c = c .before .before .before .before .before .before .before .before .before .before .before .before .before .before .before .pattern-match-inner .kept .1 .1 .1 .1 .1 .1 .1 .0
-
-pub returns : (t : ℕ) → lts.Need-returns (calls t) (sub·alt-at t) sub·alt.Post
-returns t c = alternative-tested (patternMatchInner (c .before .before .before .before .before .before .before .before .before .before .before .before .before .before .before .before .before .before .before .before .before .before .before .before .before .before .before .before .args .image .now) (c .before .before .before .before .before .before .before .before .before .before .before .before .before .before .before .before .before .before .before .before .before .before .before .before .before .before .before .before .args .bindings .now) (tree (c .before .before .before .before .before .before .before .before .before .before .before .before .before .before .before .before .before .before .before .before .before .before .before .before .before .before .before .before .args .image .now) (c .before .before .before .before .before .before .before .before .before .before .before .before .before .before .before .before .before .before .before .before .before .before .before .before .before .before .before .before .args .q .0))) (c .before .before .before .before .before .before .before .before .before .before .before .before .before .before .before .before .before .before .before .before .before .before .before .before .before .before .before .before .args .mode) (c .before .before .before .before .before .before .before .before .before .before .before .before .before .before .before .before .before .before .before .before .before .before .before .before .before .before .before .before .args .counts) (c .before .before .before .before .before .before .before .before .before .before .before .before .before .before .before .before .before .before .before .before .before .before .before .before .before .before .before .before .args .current) (c .before .before .before .before .before .before .before .before .before .before .before .before .before .before .before .before .before .before .before .before .before .before .before .before .before .before .before .before .args .place) _ _ (c .before .before .before .before .before .before .before .before .before .before .before .before .before .before .before .before .before .before .before .before .before .before .before .before .before .before .before .before .pre .1 .0 .primed) (rw (c .before .before .before .c1 .given .1) at (c .before .before .before .before .before .before .before .before .before .before .before .before .before .before .before .pattern-match-inner .ensures)) (sym (c .before .is-check .ensures) ∙ c .if1 .taken)
+pub returns-2 : (t : ℕ) → lts.Need-returns-2 (calls t) (sub·alt-at t) sub·alt.Post
+returns-2 t c = alternative-tested (patternMatchInner (c .before .before .before .before .before .before .before .before .before .before .args .image .now) (c .before .before .before .before .before .before .before .before .before .before .args .bindings .now) (tree (c .before .before .before .before .before .before .before .before .before .before .args .image .now) (c .before .before .before .before .before .before .before .before .before .before .args .q .0))) (c .before .before .before .before .before .before .before .before .before .before .args .mode) (c .before .before .before .before .before .before .before .before .before .before .args .counts) (c .before .before .before .before .before .before .before .before .before .before .args .current) (c .before .before .before .before .before .before .before .before .before .before .args .place) _ _ (c .before .before .before .before .before .before .before .before .before .before .pre .1 .0 .ready) (rw (c .before .before .before .tested .given .1) at (c .before .before .before .before .before .pattern-match-inner .ensures)) (sym (c .before .is-check .ensures) ∙ c .if1 .taken)
 
 pub nothing-to-do-requires : (t : ℕ) → lts.Need-nothing-to-do-requires (calls t) (sub·alt-at t) sub·alt.Post
-nothing-to-do-requires t c κs = (c .before .before .before .before .before .before .before .before .before .before .before .before .before .before .before .before .before .before .before .before .before .before .before .before .before .before .before .before .pre .1 .0 .image-valid, c .before .before .before .before .before .before .before .before .before .before .before .before .before .before .before .before .before .before .before .before .before .before .before .before .before .before .before .before .pre .1 .0 .whole, c .before .before .before .before .before .before .before .before .before .before .before .before .before .before .before .before .before .before .before .before .before .before .before .before .before .before .before .before .pre .1 .1)
+nothing-to-do-requires t c κs = (c .before .before .before .before .before .before .before .before .before .before .pre .1 .0 .image-valid, c .before .before .before .before .before .before .before .before .before .before .pre .1 .0 .whole, c .before .before .before .before .before .before .before .before .before .before .pre .1 .1)
 
 pub visit-requires : (t : ℕ) → lts.Need-visit-requires (calls t) (sub·alt-at t) sub·alt.Post
-visit-requires t c κs = asks-visit (walkable-sure (walkable-after (c .before .before .before .before .before .before .before .before .before .before .before .before .before .before .before .before .before .before .before .before .before .before .before .before .before .before .before .before .before .before .before .pre .1 .0) (c .before .before .before .before .before .before .before .before .before .before .before .before .before .before .before .before .before .before .pattern-match-inner .kept .1 .1 .1 .1 .1 .1 .1 .0) (rw (c .before .before .before .before .before .before .c1 .given .1) at (c .before .before .before .before .before .before .before .before .before .before .before .before .before .before .before .before .before .before .pattern-match-inner .ensures)))) (c .before .before .before .before .before .before .before .before .before .before .before .before .before .before .before .before .before .before .before .before .before .before .before .before .before .before .before .before .before .before .before .pre .1 .1)
+visit-requires t c κs = (search needs, asks-visit (walkable-sure (walkable-after (c .before .before .before .before .before .before .before .before .before .before .before .before .before .pre .1 .0) (rw (c .before .before .before .before .before .before .tested .given .1) at (c .before .before .before .before .before .before .before .before .pattern-match-inner .ensures)))) (c .before .before .before .before .before .before .before .before .before .before .before .before .before .pre .1 .1))
 
-pub same-length-6 : (t : ℕ) → lts.Need-same-length-6 (calls t) (sub·alt-at t) sub·alt.Post
-same-length-6 t c = c .before .before .before .before .before .before .before .before .before .before .before .before .before .before .before .before .before .before .before .before .before .pattern-match-inner .kept .1 .1 .1 .0
-
-pub same-length-7 : (t : ℕ) → lts.Need-same-length-7 (calls t) (sub·alt-at t) sub·alt.Post
-same-length-7 t c = c .before .before .before .before .before .before .before .before .before .before .before .before .before .before .before .before .before .before .before .before .before .pattern-match-inner .kept .1 .1 .1 .1 .0
-
-pub same-length-8 : (t : ℕ) → lts.Need-same-length-8 (calls t) (sub·alt-at t) sub·alt.Post
-same-length-8 t c = c .before .before .before .before .before .before .before .before .before .before .before .before .before .before .before .before .before .before .before .before .before .pattern-match-inner .kept .1 .1 .1 .1 .1 .0
-
-pub same-length-9 : (t : ℕ) → lts.Need-same-length-9 (calls t) (sub·alt-at t) sub·alt.Post
-same-length-9 t c = c .before .before .before .before .before .before .before .before .before .before .before .before .before .before .before .before .before .before .before .before .before .pattern-match-inner .kept .1 .1 .1 .1 .1 .1 .0
-
-pub same-length-10 : (t : ℕ) → lts.Need-same-length-10 (calls t) (sub·alt-at t) sub·alt.Post
-same-length-10 t c = c .before .before .visit .kept .0 ∙ c .before .before .before .before .before .before .before .before .before .before .before .before .before .before .before .before .before .before .before .before .before .pattern-match-inner .kept .1 .1 .1 .1 .1 .1 .1 .0
-
-pub returns-2 : (t : ℕ) → lts.Need-returns-2 (calls t) (sub·alt-at t) sub·alt.Post
-returns-2 t c =
-    alternative-again (patternMatchInner (c .before .before .before .before .before .before .before .before .before .before .before .before .before .before .before .before .before .before .before .before .before .before .before .before .before .before .before .before .before .before .before .before .before .before .args .image .now) (c .before .before .before .before .before .before .before .before .before .before .before .before .before .before .before .before .before .before .before .before .before .before .before .before .before .before .before .before .before .before .before .before .before .before .args .bindings .now) (tree (c .before .before .before .before .before .before .before .before .before .before .before .before .before .before .before .before .before .before .before .before .before .before .before .before .before .before .before .before .before .before .before .before .before .before .args .image .now) (c .before .before .before .before .before .before .before .before .before .before .before .before .before .before .before .before .before .before .before .before .before .before .before .before .before .before .before .before .before .before .before .before .before .before .args .q .0))) (c .before .before .before .before .before .before .before .before .before .before .before .before .before .before .before .before .before .before .before .before .before .before .before .before .before .before .before .before .before .before .before .before .before .before .args .mode) (c .before .before .before .before .before .before .before .before .before .before .before .before .before .before .before .before .before .before .before .before .before .before .before .before .before .before .before .before .before .before .before .before .before .before .args .counts) (c .before .before .before .before .before .before .before .before .before .before .before .before .before .before .before .before .before .before .before .before .before .before .before .before .before .before .before .before .before .before .before .before .before .before .args .current) (c .before .before .before .before .before .before .before .before .before .before .before .before .before .before .before .before .before .before .before .before .before .before .before .before .before .before .before .before .before .before .before .before .before .before .args .place) _ _ (c .before .before .before .before .before .before .before .before .before .before .before .before .before .before .before .before .before .before .before .before .before .before .before .before .before .before .before .before .before .before .before .before .before .before .pre .1 .0 .primed) (rw (c .before .before .before .before .before .before .before .before .before .c1 .given .1) at (c .before .before .before .before .before .before .before .before .before .before .before .before .before .before .before .before .before .before .before .before .before .pattern-match-inner .ensures)) (sym (c .before .before .before .before .before .before .before .is-check .ensures) ∙ c .before .before .before .before .before .before .if1 .left)
-    (idle-walks (c .before .before .before .before .before .before .before .before .before .before .before .before .before .before .before .before .before .before .before .before .before .before .before .before .before .before .before .before .before .before .before .before .before .before .args .image .now) (c .before .before .before .before .before .before .before .before .before .before .before .before .before .before .before .before .before .before .before .before .before .before .before .before .before .before .before .before .before .before .before .before .before .before .args .bindings .now) (c .before .before .before .before .before .before .before .before .before .before .before .before .before .before .before .before .before .before .before .before .before .before .before .before .before .before .before .before .before .before .before .before .before .before .args .q) (c .before .before .before .before .before .before .before .before .before .before .before .before .before .before .before .before .before .before .before .before .before .before .before .before .before .before .before .before .before .before .before .before .before .before .args .mode) _ _ _ _ _ (c .before .before .before .before .before .before .before .before .before .before .before .before .before .before .before .before .before .before .before .before .before .before .before .before .before .before .before .before .before .before .before .before .before .before .pre .1 .0 .image-valid) (c .before .before .before .before .before .before .before .before .before .before .before .before .before .before .before .before .before .before .before .before .before .before .before .before .before .before .before .before .before .before .before .before .before .before .pre .1 .1) ((walkable-sure (walkable-after (c .before .before .before .before .before .before .before .before .before .before .before .before .before .before .before .before .before .before .before .before .before .before .before .before .before .before .before .before .before .before .before .before .before .before .pre .1 .0) (c .before .before .before .before .before .before .before .before .before .before .before .before .before .before .before .before .before .before .before .before .before .pattern-match-inner .kept .1 .1 .1 .1 .1 .1 .1 .0) (rw (c .before .before .before .before .before .before .before .before .before .c1 .given .1) at (c .before .before .before .before .before .before .before .before .before .before .before .before .before .before .before .before .before .before .before .before .before .pattern-match-inner .ensures)))) .begins) (c .before .before .visit .ensures) (sym (c .before .before .before .before .before .nothing-to-do .ensures) ∙ c .before .before .before .before .if2 .taken) _)
+pub returns-3 : (t : ℕ) → lts.Need-returns-3 (calls t) (sub·alt-at t) sub·alt.Post
+returns-3 t c =
+    alternative-again (patternMatchInner (c .before .before .before .before .before .before .before .before .before .before .before .before .before .before .args .image .now) (c .before .before .before .before .before .before .before .before .before .before .before .before .before .before .args .bindings .now) (tree (c .before .before .before .before .before .before .before .before .before .before .before .before .before .before .args .image .now) (c .before .before .before .before .before .before .before .before .before .before .before .before .before .before .args .q .0))) (c .before .before .before .before .before .before .before .before .before .before .before .before .before .before .args .mode) (c .before .before .before .before .before .before .before .before .before .before .before .before .before .before .args .counts) (c .before .before .before .before .before .before .before .before .before .before .before .before .before .before .args .current) (c .before .before .before .before .before .before .before .before .before .before .before .before .before .before .args .place) _ _ (c .before .before .before .before .before .before .before .before .before .before .before .before .before .before .pre .1 .0 .ready) (rw (c .before .before .before .before .before .before .before .tested .given .1) at (c .before .before .before .before .before .before .before .before .before .pattern-match-inner .ensures)) (sym (c .before .before .before .before .before .is-check .ensures) ∙ c .before .before .before .before .if1 .left)
+    (idle-walks (c .before .before .before .before .before .before .before .before .before .before .before .before .before .before .args .image .now) (c .before .before .before .before .before .before .before .before .before .before .before .before .before .before .args .bindings .now) (c .before .before .before .before .before .before .before .before .before .before .before .before .before .before .args .q) (c .before .before .before .before .before .before .before .before .before .before .before .before .before .before .args .mode) _ _ _ _ _ (c .before .before .before .before .before .before .before .before .before .before .before .before .before .before .pre .1 .0 .image-valid) (c .before .before .before .before .before .before .before .before .before .before .before .before .before .before .pre .1 .1) ((walkable-sure (walkable-after (c .before .before .before .before .before .before .before .before .before .before .before .before .before .before .pre .1 .0) (rw (c .before .before .before .before .before .before .before .tested .given .1) at (c .before .before .before .before .before .before .before .before .before .pattern-match-inner .ensures)))) .begins) (c .visit .ensures) (sym (c .before .before .before .nothing-to-do .ensures) ∙ c .before .before .if2 .taken) _)
 
 pub pattern-match-inner-requires-2 : (t : ℕ) → lts.Need-pattern-match-inner-requires-2 (calls t) (sub·alt-at t) sub·alt.Post
-pattern-match-inner-requires-2 t c κs = (omega (arith, c .before .before .before .before .before .before .before .before .before .before .before .before .before .before .before .before .before .before .before .before .before .before .before .before .before .before .before .before .before .before .before .before .before .before .before .pre .0), ((walkable-sure (walkable-after (c .before .before .before .before .before .before .before .before .before .before .before .before .before .before .before .before .before .before .before .before .before .before .before .before .before .before .before .before .before .before .before .before .before .before .before .pre .1 .0) (c .before .before .before .before .before .before .before .before .before .before .before .before .before .before .before .before .before .before .before .before .before .before .pattern-match-inner .kept .1 .1 .1 .1 .1 .1 .1 .0) (rw (c .before .before .before .before .before .before .before .before .before .before .c1 .given .1) at (c .before .before .before .before .before .before .before .before .before .before .before .before .before .before .before .before .before .before .before .before .before .before .pattern-match-inner .ensures)))), c .before .before .before .before .before .before .before .before .before .before .before .before .before .before .before .before .before .before .before .before .before .before .before .before .before .before .before .before .before .before .before .before .before .before .before .pre .1 .1))
+pattern-match-inner-requires-2 t c κs = (omega (arith, c .before .before .before .before .before .before .before .before .before .before .before .before .before .before .pre .0), ((walkable-sure (walkable-after (c .before .before .before .before .before .before .before .before .before .before .before .before .before .before .pre .1 .0) (rw (c .before .before .before .before .before .before .before .tested .given .1) at (c .before .before .before .before .before .before .before .before .before .pattern-match-inner .ensures)))), c .before .before .before .before .before .before .before .before .before .before .before .before .before .before .pre .1 .1))
 
 pub with-else-requires : (t : ℕ) → lts.Need-with-else-requires (calls t) (sub·alt-at t) sub·alt.Post
 with-else-requires t c κs = tt
 
-pub same-length-11 : (t : ℕ) → lts.Need-same-length-11 (calls t) (sub·alt-at t) sub·alt.Post
-same-length-11 t c = c .before .before .before .before .before .before .before .before .before .before .before .before .before .pattern-match-inner .kept .1 .1 .1 .0
-
-pub same-length-12 : (t : ℕ) → lts.Need-same-length-12 (calls t) (sub·alt-at t) sub·alt.Post
-same-length-12 t c = c .before .before .before .before .before .before .before .before .before .before .before .before .before .pattern-match-inner .kept .1 .1 .1 .1 .0
-
-pub same-length-13 : (t : ℕ) → lts.Need-same-length-13 (calls t) (sub·alt-at t) sub·alt.Post
-same-length-13 t c = c .before .before .before .before .before .before .before .before .before .before .before .before .before .pattern-match-inner .kept .1 .1 .1 .1 .1 .0
-
-pub same-length-14 : (t : ℕ) → lts.Need-same-length-14 (calls t) (sub·alt-at t) sub·alt.Post
-same-length-14 t c = c .before .before .before .before .before .before .before .before .before .before .before .before .before .pattern-match-inner .kept .1 .1 .1 .1 .1 .1 .0
-
-pub same-length-15 : (t : ℕ) → lts.Need-same-length-15 (calls t) (sub·alt-at t) sub·alt.Post
-same-length-15 t c = c .before .before .before .before .before .before .before .before .before .before .before .before .before .pattern-match-inner .kept .1 .1 .1 .1 .1 .1 .1 .0
-
-pub returns-3 : (t : ℕ) → lts.Need-returns-3 (calls t) (sub·alt-at t) sub·alt.Post
-returns-3 t c = alternative-stops (patternMatchInner (c .before .before .before .before .before .before .before .before .before .before .before .before .before .before .before .before .before .before .before .before .before .before .before .before .before .before .args .image .now) (c .before .before .before .before .before .before .before .before .before .before .before .before .before .before .before .before .before .before .before .before .before .before .before .before .before .before .args .bindings .now) (tree (c .before .before .before .before .before .before .before .before .before .before .before .before .before .before .before .before .before .before .before .before .before .before .before .before .before .before .args .image .now) (c .before .before .before .before .before .before .before .before .before .before .before .before .before .before .before .before .before .before .before .before .before .before .before .before .before .before .args .q .0))) (c .before .before .before .before .before .before .before .before .before .before .before .before .before .before .before .before .before .before .before .before .before .before .before .before .before .before .args .mode) (c .before .before .before .before .before .before .before .before .before .before .before .before .before .before .before .before .before .before .before .before .before .before .before .before .before .before .args .counts) (c .before .before .before .before .before .before .before .before .before .before .before .before .before .before .before .before .before .before .before .before .before .before .before .before .before .before .args .current) (c .before .before .before .before .before .before .before .before .before .before .before .before .before .before .before .before .before .before .before .before .before .before .before .before .before .before .args .place) _ _ (rw (c .before .e .given .1) at (c .before .before .before .before .before .before .before .before .before .before .before .before .before .pattern-match-inner .ensures))
-
-pub same-length-16 : (t : ℕ) → lts.Need-same-length-16 (calls t) (sub·alt-at t) sub·alt.Post
-same-length-16 t c = c .before .before .before .before .before .before .before .before .before .before .before .pattern-match-inner2 .kept .1 .1 .1 .0 ∙ c .before .before .before .before .before .before .before .before .before .before .before .before .before .before .before .before .before .before .before .before .before .before .before .before .before .before .before .before .before .before .before .before .before .before .pattern-match-inner .kept .1 .1 .1 .0
-
-pub same-length-17 : (t : ℕ) → lts.Need-same-length-17 (calls t) (sub·alt-at t) sub·alt.Post
-same-length-17 t c = c .before .before .before .before .before .before .before .before .before .before .before .pattern-match-inner2 .kept .1 .1 .1 .1 .0 ∙ c .before .before .before .before .before .before .before .before .before .before .before .before .before .before .before .before .before .before .before .before .before .before .before .before .before .before .before .before .before .before .before .before .before .before .pattern-match-inner .kept .1 .1 .1 .1 .0
-
-pub same-length-18 : (t : ℕ) → lts.Need-same-length-18 (calls t) (sub·alt-at t) sub·alt.Post
-same-length-18 t c = c .before .before .before .before .before .before .before .before .before .before .before .pattern-match-inner2 .kept .1 .1 .1 .1 .1 .0 ∙ c .before .before .before .before .before .before .before .before .before .before .before .before .before .before .before .before .before .before .before .before .before .before .before .before .before .before .before .before .before .before .before .before .before .before .pattern-match-inner .kept .1 .1 .1 .1 .1 .0
-
-pub same-length-19 : (t : ℕ) → lts.Need-same-length-19 (calls t) (sub·alt-at t) sub·alt.Post
-same-length-19 t c = c .before .before .before .before .before .before .before .before .before .before .before .pattern-match-inner2 .kept .1 .1 .1 .1 .1 .1 .0 ∙ c .before .before .before .before .before .before .before .before .before .before .before .before .before .before .before .before .before .before .before .before .before .before .before .before .before .before .before .before .before .before .before .before .before .before .pattern-match-inner .kept .1 .1 .1 .1 .1 .1 .0
-
-pub same-length-20 : (t : ℕ) → lts.Need-same-length-20 (calls t) (sub·alt-at t) sub·alt.Post
-same-length-20 t c = c .before .before .before .before .before .before .before .before .before .before .before .pattern-match-inner2 .kept .1 .1 .1 .1 .1 .1 .1 .0 ∙ c .before .before .before .before .before .before .before .before .before .before .before .before .before .before .before .before .before .before .before .before .before .before .before .before .before .before .before .before .before .before .before .before .before .before .pattern-match-inner .kept .1 .1 .1 .1 .1 .1 .1 .0
-
 pub returns-4 : (t : ℕ) → lts.Need-returns-4 (calls t) (sub·alt-at t) sub·alt.Post
-returns-4 t c = again-ends (patternMatchInner (c .before .before .before .before .before .before .before .before .before .before .before .before .before .before .before .before .before .before .before .before .before .before .before .before .before .before .before .before .before .before .before .before .before .before .before .before .before .before .before .before .before .before .before .before .before .before .before .args .image .now) (c .before .before .before .before .before .before .before .before .before .before .before .before .before .before .before .before .before .before .before .before .before .before .before .before .before .before .before .before .before .before .before .before .before .before .before .before .before .before .before .before .before .before .before .before .before .before .before .args .bindings .now) (tree (c .before .before .before .before .before .before .before .before .before .before .before .before .before .before .before .before .before .before .before .before .before .before .before .before .before .before .before .before .before .before .before .before .before .before .before .before .before .before .before .before .before .before .before .before .before .before .before .args .image .now) (c .before .before .before .before .before .before .before .before .before .before .before .before .before .before .before .before .before .before .before .before .before .before .before .before .before .before .before .before .before .before .before .before .before .before .before .before .before .before .before .before .before .before .before .before .before .before .before .args .q .0))) (c .before .before .before .before .before .before .before .before .before .before .before .before .before .before .before .before .before .before .before .before .before .before .before .before .before .before .before .before .before .before .before .before .before .before .before .before .before .before .before .before .before .before .before .before .before .before .before .args .mode) (c .before .before .before .before .before .before .before .before .before .before .before .before .before .before .before .before .before .before .before .before .before .before .before .before .before .before .before .before .before .before .before .before .before .before .before .before .before .before .before .before .before .before .before .before .before .before .before .args .counts) (c .before .before .before .before .before .before .before .before .before .before .before .before .before .before .before .before .before .before .before .before .before .before .before .before .before .before .before .before .before .before .before .before .before .before .before .before .before .before .before .before .before .before .before .before .before .before .before .args .current) (c .before .before .before .before .before .before .before .before .before .before .before .before .before .before .before .before .before .before .before .before .before .before .before .before .before .before .before .before .before .before .before .before .before .before .before .before .before .before .before .before .before .before .before .before .before .before .before .args .place) _ _ (c .before .before .before .before .before .before .before .before .before .before .before .before .before .before .before .before .before .before .before .before .before .before .before .before .before .before .before .before .before .before .before .before .before .before .before .before .before .before .before .before .before .before .before .before .before .before .before .pre .1 .0 .primed) (rw (c .before .before .before .before .before .before .before .before .before .before .before .before .before .before .before .before .before .before .before .before .before .before .c1 .given .1) at (c .before .before .before .before .before .before .before .before .before .before .before .before .before .before .before .before .before .before .before .before .before .before .before .before .before .before .before .before .before .before .before .before .before .before .pattern-match-inner .ensures)) (sym (c .before .before .before .before .before .before .before .before .before .before .before .before .before .before .before .before .before .before .before .before .is-check .ensures) ∙ c .before .before .before .before .before .before .before .before .before .before .before .before .before .before .before .before .before .before .before .if1 .left) (c .before .before .before .before .before .before .before .before .before .before .before .pattern-match-inner2 .ensures) (c .with-else .ensures)
+returns-4 t c = again-ends (patternMatchInner (c .before .before .before .before .before .before .before .before .before .before .before .before .before .before .before .before .args .image .now) (c .before .before .before .before .before .before .before .before .before .before .before .before .before .before .before .before .args .bindings .now) (tree (c .before .before .before .before .before .before .before .before .before .before .before .before .before .before .before .before .args .image .now) (c .before .before .before .before .before .before .before .before .before .before .before .before .before .before .before .before .args .q .0))) (c .before .before .before .before .before .before .before .before .before .before .before .before .before .before .before .before .args .mode) (c .before .before .before .before .before .before .before .before .before .before .before .before .before .before .before .before .args .counts) (c .before .before .before .before .before .before .before .before .before .before .before .before .before .before .before .before .args .current) (c .before .before .before .before .before .before .before .before .before .before .before .before .before .before .before .before .args .place) _ _ (c .before .before .before .before .before .before .before .before .before .before .before .before .before .before .before .before .pre .1 .0 .ready) (rw (c .before .before .before .before .before .before .before .before .before .tested .given .1) at (c .before .before .before .before .before .before .before .before .before .before .before .pattern-match-inner .ensures)) (sym (c .before .before .before .before .before .before .before .is-check .ensures) ∙ c .before .before .before .before .before .before .if1 .left) (c .before .pattern-match-inner2 .ensures) (c .with-else .ensures)

@@ -11,7 +11,7 @@ use native.Mathlib.Omega.{arith}
 use borrow.Author.Needs.{needs}
 use borrow.Author.Tests.{not-true, not-false}
 use Rattle.pattern_nodes.proofs.Each.{record-fields}
-use Rattle.walking.proofs.Variants.{fields-unit, fields-tuple, fields-absent, fields-record}
+use Rattle.pattern_walk_laws.proofs.Variants.{fields-unit, fields-tuple, fields-absent, fields-record}
 
 -- what it may use of the functions that it calls
 abbrev pub calls : ℕ → lts.Claims
@@ -24,55 +24,25 @@ pub enum-known-shape : (t : ℕ) → lts.Need-enum-known-shape (calls t) (patter
 enum-known-shape t c = search needs
 
 pub pattern-match-tuple-like-requires : (t : ℕ) → lts.Need-pattern-match-tuple-like-requires (calls t) (pattern-matching-variant-fields-at t) pattern-matching-variant-fields.Post
-pattern-match-tuple-like-requires t c κs = (omega (arith, c .before .before .before .before .before .before .before .before .before .before .before .before .before .before .before .pre .0), ((c .before .before .before .before .before .before .before .before .before .before .before .before .before .before .before .pre .1 .0), ((c .before .before .before .before .before .before .before .before .before .before .before .before .before .before .before .pre .1 .1 .0), rw (c .before .before .before .before .before .before .shape .given .1) at (c .before .before .before .before .before .before .before .before .before .before .before .before .before .before .before .pre .1 .1 .1))))
+pattern-match-tuple-like-requires t c κs = (omega (arith, c .before .before .before .before .before .before .before .pre .0), ((c .before .before .before .before .before .before .before .pre .1 .0), ((c .before .before .before .before .before .before .before .pre .1 .1 .0), rw (c .before .before .before .shape .given .1) at (c .before .before .before .before .before .before .before .pre .1 .1 .1))))
 
 pub enum-known-shape-2 : (t : ℕ) → lts.Need-enum-known-shape-2 (calls t) (pattern-matching-variant-fields-at t) pattern-matching-variant-fields.Post
 enum-known-shape-2 t c = search needs
 
 pub fields-there-requires : (t : ℕ) → lts.Need-fields-there-requires (calls t) (pattern-matching-variant-fields-at t) pattern-matching-variant-fields.Post
-fields-there-requires t c κs = ((c .before .before .before .before .before .before .before .before .before .before .pre .1 .0 .image-valid), c .before .before .before .before .before .before .before .before .before .before .pre .1 .0 .whole, (rw (c .before .shape2 .given .1) at (c .before .before .before .before .before .before .before .before .before .before .pre .1 .1 .1)) .lies)
+fields-there-requires t c κs = ((c .before .before .before .before .before .pre .1 .0 .image-valid), c .before .before .before .before .before .pre .1 .0 .whole, (rw (c .before .shape2 .given .1) at (c .before .before .before .before .before .pre .1 .1 .1)) .lies)
 
 pub returns : (t : ℕ) → lts.Need-returns (calls t) (pattern-matching-variant-fields-at t) pattern-matching-variant-fields.Post
-returns t c = rw (c .before .before .before .shape2 .given .1) (fields-absent (c .before .before .before .before .before .before .before .before .before .before .before .before .args .image .now) (c .before .before .before .before .before .before .before .before .before .before .before .before .args .bindings .now) (c .before .before .before .before .before .before .before .before .before .before .before .before .args .p) (c .before .before .before .before .before .before .before .before .before .before .before .before .args .mode) (c .before .before .before .before .before .before .before .before .before .before .before .before .args .counts) (c .before .before .before .before .before .before .before .before .before .before .before .before .args .current) (c .before .before .before .before .before .before .before .before .before .before .before .before .args .els) (c .before .before .before .before .before .before .before .before .before .before .before .before .args .place) _ _ (c .before .before .before .before .before .before .before .before .before .before .before .before .args .fields) _ _ (sym (c .before .fields-there .ensures) ∙ not-true _ (c .if1 .taken)))
+returns t c = rw (c .before .before .before .shape2 .given .1) (fields-absent (c .before .before .before .before .before .before .before .args .image .now) (c .before .before .before .before .before .before .before .args .bindings .now) (c .before .before .before .before .before .before .before .args .p) (c .before .before .before .before .before .before .before .args .mode) (c .before .before .before .before .before .before .before .args .counts) (c .before .before .before .before .before .before .before .args .current) (c .before .before .before .before .before .before .before .args .els) (c .before .before .before .before .before .before .before .args .place) _ _ (c .before .before .before .before .before .before .before .args .fields) _ _ (sym (c .before .fields-there .ensures) ∙ not-true _ (c .if1 .taken)))
 
 pub pattern-match-adt-requires : (t : ℕ) → lts.Need-pattern-match-adt-requires (calls t) (pattern-matching-variant-fields-at t) pattern-matching-variant-fields.Post
-pattern-match-adt-requires t c κs = (omega (arith, c .before .before .before .before .before .before .before .before .before .before .before .before .before .before .before .before .before .pre .0), ((c .before .before .before .before .before .before .before .before .before .before .before .before .before .before .before .before .before .pre .1 .0), ((c .before .before .before .before .before .before .before .before .before .before .before .before .before .before .before .before .before .pre .1 .1 .0), record-fields _ _ _ _ (rw (c .before .before .before .before .before .before .before .before .shape2 .given .1) at (c .before .before .before .before .before .before .before .before .before .before .before .before .before .before .before .before .before .pre .1 .1 .1)) (c .before .before .before .before .before .before .before .before .before .before .before .before .before .before .before .before .before .args .fields))))
+pattern-match-adt-requires t c κs = (omega (arith, c .before .before .before .before .before .before .before .before .before .pre .0), ((c .before .before .before .before .before .before .before .before .before .pre .1 .0), ((c .before .before .before .before .before .before .before .before .before .pre .1 .1 .0), record-fields _ _ _ _ (rw (c .before .before .before .before .before .shape2 .given .1) at (c .before .before .before .before .before .before .before .before .before .pre .1 .1 .1)) (c .before .before .before .before .before .before .before .before .before .args .fields))))
 
 pub returns-2 : (t : ℕ) → lts.Need-returns-2 (calls t) (pattern-matching-variant-fields-at t) pattern-matching-variant-fields.Post
-returns-2 t c = rw (c .enum-told .given .1) (fields-unit (c .before .before .before .before .before .before .before .before .before .args .image .now) (c .before .before .before .before .before .before .before .before .before .args .bindings .now) (c .before .before .before .before .before .before .before .before .before .args .p) (c .before .before .before .before .before .before .before .before .before .args .mode) (c .before .before .before .before .before .before .before .before .before .args .counts) (c .before .before .before .before .before .before .before .before .before .args .current) (c .before .before .before .before .before .before .before .before .before .args .els) (c .before .before .before .before .before .before .before .before .before .args .place) _ _ (c .before .before .before .before .before .before .before .before .before .args .fields) (c .before .before .before .before .before .before .before .before .before .pre .1 .0 .begins))
-
-pub same-length : (t : ℕ) → lts.Need-same-length (calls t) (pattern-matching-variant-fields-at t) pattern-matching-variant-fields.Post
-same-length t c = c .before .before .before .before .before .before .before .before .before .before .pattern-match-tuple-like .kept .1 .1 .1 .0
-
-pub same-length-2 : (t : ℕ) → lts.Need-same-length-2 (calls t) (pattern-matching-variant-fields-at t) pattern-matching-variant-fields.Post
-same-length-2 t c = c .before .before .before .before .before .before .before .before .before .before .pattern-match-tuple-like .kept .1 .1 .1 .1 .0
-
-pub same-length-3 : (t : ℕ) → lts.Need-same-length-3 (calls t) (pattern-matching-variant-fields-at t) pattern-matching-variant-fields.Post
-same-length-3 t c = c .before .before .before .before .before .before .before .before .before .before .pattern-match-tuple-like .kept .1 .1 .1 .1 .1 .0
-
-pub same-length-4 : (t : ℕ) → lts.Need-same-length-4 (calls t) (pattern-matching-variant-fields-at t) pattern-matching-variant-fields.Post
-same-length-4 t c = c .before .before .before .before .before .before .before .before .before .before .pattern-match-tuple-like .kept .1 .1 .1 .1 .1 .1 .0
-
-pub same-length-5 : (t : ℕ) → lts.Need-same-length-5 (calls t) (pattern-matching-variant-fields-at t) pattern-matching-variant-fields.Post
-same-length-5 t c = c .before .before .before .before .before .before .before .before .before .before .pattern-match-tuple-like .kept .1 .1 .1 .1 .1 .1 .1 .0
+returns-2 t c = rw (c .enum-told .given .1) (fields-unit (c .before .before .before .before .args .image .now) (c .before .before .before .before .args .bindings .now) (c .before .before .before .before .args .p) (c .before .before .before .before .args .mode) (c .before .before .before .before .args .counts) (c .before .before .before .before .args .current) (c .before .before .before .before .args .els) (c .before .before .before .before .args .place) _ _ (c .before .before .before .before .args .fields) (c .before .before .before .before .pre .1 .0 .begins))
 
 pub returns-3 : (t : ℕ) → lts.Need-returns-3 (calls t) (pattern-matching-variant-fields-at t) pattern-matching-variant-fields.Post
-returns-3 t c = rw (c .before .before .before .before .before .before .before .before .before .before .before .before .before .before .before .before .before .shape .given .1) (fields-tuple (c .before .before .before .before .before .before .before .before .before .before .before .before .before .before .before .before .before .before .before .before .before .before .before .before .before .before .args .image .now) (c .before .before .before .before .before .before .before .before .before .before .before .before .before .before .before .before .before .before .before .before .before .before .before .before .before .before .args .bindings .now) (c .before .before .before .before .before .before .before .before .before .before .before .before .before .before .before .before .before .before .before .before .before .before .before .before .before .before .args .p) (c .before .before .before .before .before .before .before .before .before .before .before .before .before .before .before .before .before .before .before .before .before .before .before .before .before .before .args .mode) (c .before .before .before .before .before .before .before .before .before .before .before .before .before .before .before .before .before .before .before .before .before .before .before .before .before .before .args .counts) (c .before .before .before .before .before .before .before .before .before .before .before .before .before .before .before .before .before .before .before .before .before .before .before .before .before .before .args .current) (c .before .before .before .before .before .before .before .before .before .before .before .before .before .before .before .before .before .before .before .before .before .before .before .before .before .before .args .els) (c .before .before .before .before .before .before .before .before .before .before .before .before .before .before .before .before .before .before .before .before .before .before .before .before .before .before .args .place) _ _ (c .before .before .before .before .before .before .before .before .before .before .before .before .before .before .before .before .before .before .before .before .before .before .before .before .before .before .args .fields) _ _ _ (c .before .before .before .before .before .before .before .before .before .before .pattern-match-tuple-like .ensures))
-
-pub same-length-6 : (t : ℕ) → lts.Need-same-length-6 (calls t) (pattern-matching-variant-fields-at t) pattern-matching-variant-fields.Post
-same-length-6 t c = c .before .before .before .before .before .before .before .before .before .before .pattern-match-adt .kept .1 .1 .1 .0
-
-pub same-length-7 : (t : ℕ) → lts.Need-same-length-7 (calls t) (pattern-matching-variant-fields-at t) pattern-matching-variant-fields.Post
-same-length-7 t c = c .before .before .before .before .before .before .before .before .before .before .pattern-match-adt .kept .1 .1 .1 .1 .0
-
-pub same-length-8 : (t : ℕ) → lts.Need-same-length-8 (calls t) (pattern-matching-variant-fields-at t) pattern-matching-variant-fields.Post
-same-length-8 t c = c .before .before .before .before .before .before .before .before .before .before .pattern-match-adt .kept .1 .1 .1 .1 .1 .0
-
-pub same-length-9 : (t : ℕ) → lts.Need-same-length-9 (calls t) (pattern-matching-variant-fields-at t) pattern-matching-variant-fields.Post
-same-length-9 t c = c .before .before .before .before .before .before .before .before .before .before .pattern-match-adt .kept .1 .1 .1 .1 .1 .1 .0
-
-pub same-length-10 : (t : ℕ) → lts.Need-same-length-10 (calls t) (pattern-matching-variant-fields-at t) pattern-matching-variant-fields.Post
-same-length-10 t c = c .before .before .before .before .before .before .before .before .before .before .pattern-match-adt .kept .1 .1 .1 .1 .1 .1 .1 .0
+returns-3 t c = rw (c .before .before .before .before .shape .given .1) (fields-tuple (c .before .before .before .before .before .before .before .before .args .image .now) (c .before .before .before .before .before .before .before .before .args .bindings .now) (c .before .before .before .before .before .before .before .before .args .p) (c .before .before .before .before .before .before .before .before .args .mode) (c .before .before .before .before .before .before .before .before .args .counts) (c .before .before .before .before .before .before .before .before .args .current) (c .before .before .before .before .before .before .before .before .args .els) (c .before .before .before .before .before .before .before .before .args .place) _ _ (c .before .before .before .before .before .before .before .before .args .fields) _ _ _ (c .pattern-match-tuple-like .ensures))
 
 pub returns-4 : (t : ℕ) → lts.Need-returns-4 (calls t) (pattern-matching-variant-fields-at t) pattern-matching-variant-fields.Post
-returns-4 t c = rw (c .before .before .before .before .before .before .before .before .before .before .before .before .before .before .before .before .before .before .before .shape2 .given .1) (fields-record (c .before .before .before .before .before .before .before .before .before .before .before .before .before .before .before .before .before .before .before .before .before .before .before .before .before .before .before .before .args .image .now) (c .before .before .before .before .before .before .before .before .before .before .before .before .before .before .before .before .before .before .before .before .before .before .before .before .before .before .before .before .args .bindings .now) (c .before .before .before .before .before .before .before .before .before .before .before .before .before .before .before .before .before .before .before .before .before .before .before .before .before .before .before .before .args .p) (c .before .before .before .before .before .before .before .before .before .before .before .before .before .before .before .before .before .before .before .before .before .before .before .before .before .before .before .before .args .mode) (c .before .before .before .before .before .before .before .before .before .before .before .before .before .before .before .before .before .before .before .before .before .before .before .before .before .before .before .before .args .counts) (c .before .before .before .before .before .before .before .before .before .before .before .before .before .before .before .before .before .before .before .before .before .before .before .before .before .before .before .before .args .current) (c .before .before .before .before .before .before .before .before .before .before .before .before .before .before .before .before .before .before .before .before .before .before .before .before .before .before .before .before .args .els) (c .before .before .before .before .before .before .before .before .before .before .before .before .before .before .before .before .before .before .before .before .before .before .before .before .before .before .before .before .args .place) _ _ (c .before .before .before .before .before .before .before .before .before .before .before .before .before .before .before .before .before .before .before .before .before .before .before .before .before .before .before .before .args .fields) _ _ (omega (arith, c .before .before .before .before .before .before .before .before .before .before .before .before .before .before .before .before .before .before .before .before .before .before .before .before .before .before .before .before .fits .fields)) (sym (c .before .before .before .before .before .before .before .before .before .before .before .before .before .before .before .before .before .fields-there .ensures) ∙ not-false _ (c .before .before .before .before .before .before .before .before .before .before .before .before .before .before .before .before .if1 .left)) (c .before .before .before .before .before .before .before .before .before .before .pattern-match-adt .ensures))
+returns-4 t c = rw (c .before .before .before .before .before .before .shape2 .given .1) (fields-record (c .before .before .before .before .before .before .before .before .before .before .args .image .now) (c .before .before .before .before .before .before .before .before .before .before .args .bindings .now) (c .before .before .before .before .before .before .before .before .before .before .args .p) (c .before .before .before .before .before .before .before .before .before .before .args .mode) (c .before .before .before .before .before .before .before .before .before .before .args .counts) (c .before .before .before .before .before .before .before .before .before .before .args .current) (c .before .before .before .before .before .before .before .before .before .before .args .els) (c .before .before .before .before .before .before .before .before .before .before .args .place) _ _ (c .before .before .before .before .before .before .before .before .before .before .args .fields) _ _ (omega (arith, c .before .before .before .before .before .before .before .before .before .before .fits .fields)) (sym (c .before .before .before .before .fields-there .ensures) ∙ not-false _ (c .before .before .before .if1 .left)) (c .pattern-match-adt .ensures))

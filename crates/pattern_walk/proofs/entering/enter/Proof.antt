@@ -1,18 +1,13 @@
 use Rattle.pattern_walk.proofs.entering.enter.Statement.{statement}
 use Rattle.pattern_walk.proofs.entering.enter.Tie as tie
-use Rattle.pattern_walk.proofs.entering.enter.Reads as reads
-use Rattle.pattern_walk.proofs.entering.enter.Lts as lts
-use Rattle.image.proofs.rows.pat_at.Reads as pat-at-reads
-use Rattle.pattern_entering.proofs.deref_place.Reads as deref-place-reads
-use Rattle.pattern_entering.proofs.visit.Reads as visit-reads
-use Rattle.pattern_walk.proofs.entering.passes_on.Reads as passes-on-reads
 use mathlib.Core.Path.{refl, sym, _∙_}
 use mathlib.Core.Bool.{true}
 use mathlib.Core.Logic.{⊎-elim}
 use native.Mathlib.Omega.{arith}
+use borrow.Author.Needs.{needs}
 use borrow.Author.Tests.{not-true, not-false}
 use Rattle.pattern_nodes.proofs.Known.{limits}
-use Rattle.walking.proofs.Descending.{Descending, descending-begin, enter-full, enter-at, descending-again, behind-derefs, behind-none}
+use Rattle.pattern_walk_laws.proofs.Descending.{Descending, descending-begin, enter-full, enter-at, descending-again, behind-derefs, behind-none}
 
 abbrev Inv-loop : tie.InvT-loop
 Inv-loop image tables visits₀ mode q₀ here₀ visits q here = Descending image mode q₀ here₀ visits₀ q here visits
@@ -24,41 +19,35 @@ loop-holds : tie.Need-loop-holds Inv-loop μ-loop
 loop-holds c = descending-begin _ _ _ _ _
 
 visit-requires : tie.Need-visit-requires Inv-loop μ-loop
-visit-requires c κs = omega (arith, c .before .before .before .before .pre .3, limits _ (c .before .before .before .before .pre .0) .patterns, c .before .loop .inv .below, c .before .loop .inv .same-length, c .before .before .before .before .pre .2)
+visit-requires c κs = (search needs, omega (arith, c .before .before .before .pre .2, limits _ (c .before .before .before .pre .0) .patterns, c .before .loop .inv .below))
 
 pat-at-requires : tie.Need-pat-at-requires Inv-loop μ-loop
-pat-at-requires c κs = (c .before .before .before .before .before .before .before .pre .1, omega (arith, c .before .before .before .before .before .before .before .pre .1 .pattern-count, c .before .before .before .before .before .before .before .pre .3, c .before .before .before .before .loop .inv .below))
+pat-at-requires c κs = (c .before .before .before .before .pre .1, omega (arith, c .before .before .before .before .pre .1 .pattern-count, c .before .before .before .before .pre .2, c .before .before .loop .inv .below))
 
 deref-place-requires : tie.Need-deref-place-requires Inv-loop μ-loop
 deref-place-requires c κs = tt
 
-same-length : tie.Need-same-length Inv-loop μ-loop
-same-length c = c .before .before .before .before .before .before .before .before .before .visit .kept .0 ∙ c .before .before .before .before .before .before .before .before .before .before .before .loop .inv .same-length
-
 returns : tie.Need-returns Inv-loop μ-loop
-returns c = enter-full (c .before .before .before .before .before .before .before .before .before .before .before .loop .inv) (c .before .before .before .before .before .before .pat-at .result) (c .before .before .before .deref-place .result) (c .before .before .before .before .before .before .before .before .before .before .before .before .before .before .pre .0) (c .before .before .before .before .before .before .before .before .before .before .before .before .before .before .pre .3) (c .before .before .before .before .before .before .pat-at .ensures) (c .before .before .before .before .before .before .before .before .before .visit .kept .0) (c .before .before .before .before .before .before .before .before .before .visit .ensures) (c .before .before .before .deref-place .ensures) (not-true _ (c .if2 .taken))
+returns c = enter-full (c .before .before .before .before .before .before .before .before .before .loop .inv) (c .before .before .before .before .before .before .pat-at .result) (c .before .before .before .deref-place .result) (c .before .before .before .before .before .before .before .before .before .before .before .pre .0) (c .before .before .before .before .before .before .before .before .before .before .before .pre .2) (c .before .before .before .before .before .before .pat-at .ensures) (c .before .before .before .before .before .before .before .visit .ensures) (c .before .before .before .deref-place .ensures) (not-true _ (c .if2 .taken))
 
 passes-on-requires : tie.Need-passes-on-requires Inv-loop μ-loop
 passes-on-requires c κs = tt
 
-same-length-2 : tie.Need-same-length-2 Inv-loop μ-loop
-same-length-2 c = c .before .before .before .before .before .before .before .visit .kept .0 ∙ c .before .before .before .before .before .before .before .before .before .loop .inv .same-length
-
 returns-2 : tie.Need-returns-2 Inv-loop μ-loop
 returns-2 c =
-    enter-at (c .before .before .before .before .before .before .before .before .before .loop .inv) (c .before .before .before .before .pat-at .result) (record { ok = true; place = c .before .before .if1 .here }) (c .before .before .before .before .before .before .before .before .before .before .before .before .pre .0) (c .before .before .before .before .before .before .before .before .before .before .before .before .pre .3) (c .before .before .before .before .pat-at .ensures) (c .before .before .before .before .before .before .before .visit .kept .0) (c .before .before .before .before .before .before .before .visit .ensures)
-    (⊎-elim (λ w. behind-derefs (c .before .before .before .before .before .before .before .before .before .loop .here) (c .before .before .before .before .pat-at .result .derefs) (w .1 .result) (w .1 .ensures) (not-false _ (w .4 .left)) (w .5)) (λ w. behind-none (c .before .before .before .before .before .before .before .before .before .loop .here) (c .before .before .before .before .pat-at .result .derefs) (w .0 .left) (w .1)) (c .before .before .if1 .came)) refl
+    enter-at (c .before .before .before .before .before .before .before .loop .inv) (c .before .before .before .before .pat-at .result) (record { ok = true; place = c .before .before .if1 .here }) (c .before .before .before .before .before .before .before .before .before .pre .0) (c .before .before .before .before .before .before .before .before .before .pre .2) (c .before .before .before .before .pat-at .ensures) (c .before .before .before .before .before .visit .ensures)
+    (⊎-elim (λ w. behind-derefs (c .before .before .before .before .before .before .before .loop .here) (c .before .before .before .before .pat-at .result .derefs) (w .1 .result) (w .1 .ensures) (not-false _ (w .4 .left)) (w .5)) (λ w. behind-none (c .before .before .before .before .before .before .before .loop .here) (c .before .before .before .before .pat-at .result .derefs) (w .0 .left) (w .1)) (c .before .before .if1 .came)) refl
 
 loop-less : tie.Need-loop-less Inv-loop μ-loop
 loop-less c =
-    descending-again (c .before .before .before .before .before .before .before .before .before .loop .inv) (c .before .before .before .before .pat-at .result) (record { ok = true; place = c .before .before .if1 .here }) (c .before .before .before .before .before .before .before .before .before .before .before .before .pre .0) (c .before .before .before .before .before .before .before .before .before .before .before .before .pre .3) (c .before .before .before .before .pat-at .ensures) (c .before .before .before .before .before .before .before .visit .kept .0) (c .before .before .before .before .before .before .before .visit .ensures)
-    (⊎-elim (λ w. behind-derefs (c .before .before .before .before .before .before .before .before .before .loop .here) (c .before .before .before .before .pat-at .result .derefs) (w .1 .result) (w .1 .ensures) (not-false _ (w .4 .left)) (w .5)) (λ w. behind-none (c .before .before .before .before .before .before .before .before .before .loop .here) (c .before .before .before .before .pat-at .result .derefs) (w .0 .left) (w .1)) (c .before .before .if1 .came)) refl
+    descending-again (c .before .before .before .before .before .before .before .loop .inv) (c .before .before .before .before .pat-at .result) (record { ok = true; place = c .before .before .if1 .here }) (c .before .before .before .before .before .before .before .before .before .pre .0) (c .before .before .before .before .before .before .before .before .before .pre .2) (c .before .before .before .before .pat-at .ensures) (c .before .before .before .before .before .visit .ensures)
+    (⊎-elim (λ w. behind-derefs (c .before .before .before .before .before .before .before .loop .here) (c .before .before .before .before .pat-at .result .derefs) (w .1 .result) (w .1 .ensures) (not-false _ (w .4 .left)) (w .5)) (λ w. behind-none (c .before .before .before .before .before .before .before .loop .here) (c .before .before .before .before .pat-at .result .derefs) (w .0 .left) (w .1)) (c .before .before .if1 .came)) refl
     (sym (c .before .passes-on .ensures) ∙ not-false _ (c .if3 .left)) .1
 
 loop-again : tie.Need-loop-again Inv-loop μ-loop
 loop-again c =
-    descending-again (c .before .before .before .before .before .before .before .before .before .loop .inv) (c .before .before .before .before .pat-at .result) (record { ok = true; place = c .before .before .if1 .here }) (c .before .before .before .before .before .before .before .before .before .before .before .before .pre .0) (c .before .before .before .before .before .before .before .before .before .before .before .before .pre .3) (c .before .before .before .before .pat-at .ensures) (c .before .before .before .before .before .before .before .visit .kept .0) (c .before .before .before .before .before .before .before .visit .ensures)
-    (⊎-elim (λ w. behind-derefs (c .before .before .before .before .before .before .before .before .before .loop .here) (c .before .before .before .before .pat-at .result .derefs) (w .1 .result) (w .1 .ensures) (not-false _ (w .4 .left)) (w .5)) (λ w. behind-none (c .before .before .before .before .before .before .before .before .before .loop .here) (c .before .before .before .before .pat-at .result .derefs) (w .0 .left) (w .1)) (c .before .before .if1 .came)) refl
+    descending-again (c .before .before .before .before .before .before .before .loop .inv) (c .before .before .before .before .pat-at .result) (record { ok = true; place = c .before .before .if1 .here }) (c .before .before .before .before .before .before .before .before .before .pre .0) (c .before .before .before .before .before .before .before .before .before .pre .2) (c .before .before .before .before .pat-at .ensures) (c .before .before .before .before .before .visit .ensures)
+    (⊎-elim (λ w. behind-derefs (c .before .before .before .before .before .before .before .loop .here) (c .before .before .before .before .pat-at .result .derefs) (w .1 .result) (w .1 .ensures) (not-false _ (w .4 .left)) (w .5)) (λ w. behind-none (c .before .before .before .before .before .before .before .loop .here) (c .before .before .before .before .pat-at .result .derefs) (w .0 .left) (w .1)) (c .before .before .if1 .came)) refl
     (sym (c .before .passes-on .ensures) ∙ not-false _ (c .if3 .left)) .0
 
 pub enter-spec : {M : Type 1} → statement M
@@ -71,10 +60,8 @@ enter-spec =
     visit-requires
     pat-at-requires
     deref-place-requires
-    same-length
     returns
     passes-on-requires
-    same-length-2
     returns-2
     loop-less
     loop-again)

@@ -8,7 +8,7 @@ use Rattle.pattern_matching.proofs.is_check.Reads as is-check-reads
 use Rattle.pattern_parts.proofs.bindings.is_bind.Reads as is-bind-reads
 use mathlib.Core.Path.{sym, _∙_}
 use borrow.Author.Tests.{not-true, not-false}
-use Rattle.walking.proofs.Descending.{passes-unchecked, passes-absent, passes-by}
+use Rattle.pattern_walk_laws.proofs.Descending.{passes-unchecked, passes-absent, passes-by}
 
 is-check-requires : tie.Need-is-check-requires
 is-check-requires c κs = search needs

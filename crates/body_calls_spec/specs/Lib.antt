@@ -1,0 +1,5 @@
+pub mod Calls
+pub mod Answers
+pub mod Sizes
+pub mod Promises
+pub mod Ways

@@ -1,4 +1,0 @@
-pub mod Building
-pub mod Departing
-pub mod Emptying
-pub mod Closing

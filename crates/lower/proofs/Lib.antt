@@ -1,4 +1,0 @@
-mod Holding
-mod Marking
-mod Temporaries
-mod Joining

@@ -1,5 +1,0 @@
-mod RowWords
-pub mod Clearing
-pub mod Restoring
-pub mod Prologue
-pub mod Answering

@@ -1,0 +1,4 @@
+pub mod Starting
+pub mod Stepping
+pub mod Opening
+pub mod Matching
