@@ -52,5 +52,5 @@ self-has-its-own-local = calls.self-own-local
 
 -- "show the branch has no input left": the call with the Rust's branch for self, as the definition had it, is the call without it, whatever it is handed.
 pub the-self-branch-has-no-input : (call : ParamsHanded) →
-    callWithSelf (call .image) (call .list) (call .self) (call .bindings) (call .body) (call .visits) (call .counts) (call .start) ≡ definedOf call
+    callWithSelf (call .image) (call .list) (call .self) (call .bindings) (call .body) (call .counts) (call .start) ≡ definedOf call
 the-self-branch-has-no-input = calls.self-branch-idle

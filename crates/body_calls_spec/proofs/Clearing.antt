@@ -13,8 +13,6 @@ use Rattle.state.specs.State.{Body, body, decode, encode, padded, countsOf}
 use Rattle.state.specs.Contracts.{BlankWords, Ready}
 use Rattle.state.proofs.Words.{length-words, words-encoded}
 use Rattle.state.proofs.Answering.{block-count, statement-count, local-count, scope-count, entry-count}
-use Rattle.body_words.specs.declared.UsedWords.{UsedWords}
-use Rattle.body_words.specs.Words.{usedWords}
 use Rattle.body_calls_spec.specs.Sizes.{Sized}
 
 -- n rows, and zeros above
@@ -39,8 +37,8 @@ words-blank : (t : List ℕ) (n : ℕ) → n ≤ length t → BlankWords (cleare
 unfolding cleared
 words-blank t n h = drop-at (take n t) (zeros (length t - n)) n (length-take-le n t h) ∙ ap (λ (k : ℕ). zeros (k - n)) (sym (length-cleared t n h))
 
--- each table is cleared above its count
-abbrev clearedBody : Body → Counts → Body
+-- each table is cleared above its count: 12 words a block, 49 a statement, and one each of the others
+abbrev pub clearedBody : Body → Counts → Body
 clearedBody b c =
     body
     (cleared (b .blocks) (12 * c .blocks))
@@ -49,28 +47,16 @@ clearedBody b c =
     (cleared (b .scopes) (c .scopes))
     (cleared (b .entries) (c .entries))
 
-cleared-holds : (b : Body) (c : Counts) → Sized b c → clearedBody b c ≡ encode (decode b c)
+-- the tables then hold the rows that were found
+pub all-cleared : (b : Body) (c : Counts) → Sized b c → clearedBody b c ≡ encode (decode b c)
 unfolding encode decode
-cleared-holds b c S = λ i. record {
+all-cleared b c S = λ i. record {
   blocks = cleared-rows 12 6144 (b .blocks) (c .blocks) (S .blocks) (omega (arith, S .block-count)) i;
   statements = cleared-rows 49 50176 (b .statements) (c .statements) (S .statements) (omega (arith, S .statement-count)) i;
   locals = cleared-words 512 (b .locals) (c .locals) (S .locals) (S .local-count) i;
   scopes = cleared-words 32 (b .scopes) (c .scopes) (S .scopes) (S .scope-count) i;
   entries = cleared-words 1024 (b .entries) (c .entries) (S .entries) (S .entry-count) i;
 }
-
--- each table cleared above the words in use
-pub all-cleared : {bl s l sc e bl₁ s₁ l₁ sc₁ e₁ : List ℕ} {c : Counts} {u : UsedWords} → u ≡ usedWords c → Sized (body bl s l sc e) c → bl₁ ≡ cleared bl (u .blocks) → s₁ ≡ cleared s (u .statements) →
-    l₁ ≡ cleared l (u .locals) → sc₁ ≡ cleared sc (u .scopes) → e₁ ≡ cleared e (u .entries) → body bl₁ s₁ l₁ sc₁ e₁ ≡ encode (decode (body bl s l sc e) c)
-unfolding usedWords
-all-cleared {bl = bl} {s = s} {l = l} {sc = sc} {e = e} {c = c} is S bls ss ls scs es =
-    (λ i. body
-    ((bls ∙ ap (λ (u : UsedWords). cleared bl (u .blocks)) is) i)
-    ((ss ∙ ap (λ (u : UsedWords). cleared s (u .statements)) is) i)
-    ((ls ∙ ap (λ (u : UsedWords). cleared l (u .locals)) is) i)
-    ((scs ∙ ap (λ (u : UsedWords). cleared sc (u .scopes)) is) i)
-    ((es ∙ ap (λ (u : UsedWords). cleared e (u .entries)) is) i))
-    ∙ cleared-holds (body bl s l sc e) c S
 
 ready-cleared : (b : Body) (c : Counts) → Sized b c → Ready (clearedBody b c) c
 ready-cleared b c S =
@@ -115,7 +101,7 @@ pub record Cleared (b : Body) (c : Counts) (b₁ : Body) : Type 0 where
 
 pub clears : {b b₁ : Body} {c : Counts} → Sized b c → b₁ ≡ encode (decode b c) → Cleared b c b₁
 clears {b = b} {c = c} S is =
-    let after = is ∙ sym (cleared-holds b c S) in
+    let after = is ∙ sym (all-cleared b c S) in
     record { ready = rw after (ready-cleared b c S); same = ap (λ (x : Body). decode x c) after ∙ decode-cleared b c S; holds = is }
 
 -- tables that are ready are those of their state

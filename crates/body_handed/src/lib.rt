@@ -28,7 +28,6 @@ pub fn match_holds(
     tables: Tables,
     bindings: &[u16],
     body: &[u16],
-    visits: &[u16],
     counts: Counts,
     p: PatId,
     current: BasicBlockId,
@@ -36,13 +35,12 @@ pub fn match_holds(
     place: Place,
 ) -> bool
     requires { ⌜ (length (now body) ≡ bodyWords) × (counts .blocks ≤ 512) ⌝ }
-    ensures { λ r. ⌜ r ≡ matchHolds (namedBy tables) (now (bindings .entry)) (bodyOf (now (body .entry)) .blocks) (now (visits .entry)) counts (p .0) current els place ⌝ }
+    ensures { λ r. ⌜ r ≡ matchHolds (namedBy tables) (now (bindings .entry)) (bodyOf (now (body .entry)) .blocks) counts (p .0) current els place ⌝ }
 {
     handed::match_holds(
         tables,
         bindings,
         &body[0..STATEMENTS],
-        visits,
         counts,
         p,
         current,

@@ -24,7 +24,7 @@ use Rattle.called.proofs.Bodies.{handed, gives, counted}
 
 -- a call that is taken comes to the walk
 walks : (call : Call) → Taken call →
-    patternMatchCall (call .image) (call .bindings) (call .body) (call .visits) (call .counts) (call .pattern) (call .start) (call .else) (call .place) ≡ walked (walkOf call)
+    patternMatchCall (call .image) (call .bindings) (call .body) (call .counts) (call .pattern) (call .start) (call .else) (call .place) ≡ walked (walkOf call)
 unfolding patternMatchCall calling
 walks call T = rw (T .image-valid, T .body, T .names)
 

@@ -30,7 +30,7 @@ use Rattle.views.specs.Views.{terminatorOf, lineOf, mirOf}
 use Rattle.body_calls_spec.specs.Calls.{bodyTaken}
 use Rattle.growth.specs.Opened.{terminator, lines, Below, ElseReady, Ready, Starts}
 use Rattle.growth.proofs.Working.{below-append}
-use Rattle.handed.specs.Handed.{startHolds, elseHolds, placeHolds, bindingHolds, bindingsHold, patternHanded, matchHolds}
+use Rattle.handed.specs.Handed.{startHolds, elseHolds, placeHolds, bindingHolds, bindingsHold, matchHolds}
 use Rattle.named.specs.Named.{WordsBelow}
 use Rattle.param_runs.proofs.Words.{all-below}
 use Rattle.called.specs.Call.{Call, before, startOf}
@@ -138,7 +138,7 @@ module _ (call : Call) (T : Taken call) where
   -- the tests of what the call names
   abbrev tests : List Bool
   tests =
-      patternHanded (patternCount (call .image)) (call .visits) (call .pattern)
+      ltb (call .pattern) (patternCount (call .image))
       ∷ bindingsHold (bindingCount (call .image)) c (call .bindings)
       ∷ startHolds (call .body .blocks) c (call .start)
       ∷ elseHolds c (call .start) (call .else)
@@ -151,8 +151,7 @@ module _ (call : Call) (T : Taken call) where
   test k = all-true-at tests k (T .names)
 
   pattern-there : call .pattern < patternCount (call .image)
-  unfolding patternHanded
-  pattern-there = ltb-true _ _ (and-left (ltb (call .pattern) (patternCount (call .image))) (eqb (length (call .visits)) 512) (test 0))
+  pattern-there = ltb-true _ _ (test 0)
 
   starts : Starts (startOf call) (call .start) (call .else)
   starts = may-start (call .image) (call .body) c (call .start) (call .else) (T .body) (test 2) (test 3)

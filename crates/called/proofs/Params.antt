@@ -95,7 +95,7 @@ module _ (call : ParamsHanded) (out : ParamsHandedOut) (accepted : AcceptedParam
   unfolding paramsCall
   both =
       let (v, q, t, n, w) = passed (valid (call .image)) (listHolds (call .image) (call .self) (call .list)) (bodyTaken (call .image) (call .body) (call .counts))
-      (paramsHold (call .image) (call .self) (call .bindings) (call .body .blocks) (call .visits) (call .counts) (call .start)) (loweredOf call)
+      (paramsHold (call .image) (call .self) (call .bindings) (call .body .blocks) (call .counts) (call .start)) (loweredOf call)
       (ParamsCall.Lowered (out .counts) (out .then) (out .first)) tt accepted in
       (record { image-valid = v; list = q; body = t; names = n }, handing (loweredOf call) out w)
 
@@ -126,12 +126,12 @@ module _ (call : ParamsHanded) (out : ParamsHandedOut) (accepted : AcceptedParam
   -- each of the tests of the call's own numbers
   test : (k : ℕ) →
       getD (selfNamed (call .image) (call .self) ∷ bindingsHold (bindingCount (call .image)) (call .counts) (call .bindings)
-      ∷ startHolds (call .body .blocks) (call .counts) (call .start) ∷ eqb (length (call .visits)) 512 ∷ []) k true ≡ true
+      ∷ startHolds (call .body .blocks) (call .counts) (call .start) ∷ []) k true ≡ true
   unfolding paramsHold
   test k =
       all-true-at
       (selfNamed (call .image) (call .self) ∷ bindingsHold (bindingCount (call .image)) (call .counts) (call .bindings)
-      ∷ startHolds (call .body .blocks) (call .counts) (call .start) ∷ eqb (length (call .visits)) 512 ∷ []) k (taken .names)
+      ∷ startHolds (call .body .blocks) (call .counts) (call .start) ∷ []) k (taken .names)
 
   -- the rows that there are are as many as the counts say
   counts-same : countsOf (startOfParams call .state) ≡ call .counts
@@ -213,10 +213,10 @@ module _ (call : ParamsHanded) (out : ParamsHandedOut) (accepted : AcceptedParam
 pub self-own-local : (call : ParamsHanded) (made : Declared) → ListTaken call → NumbersTaken call → declaredOf call ≡ done made →
     SelfHas (call .self) (made .bindings) (length (startOfParams call .state .locals))
 self-own-local call made list names =
-    receivers.self-has-its-own-local (call .image) (call .list) (call .self) (call .bindings) (call .body) (call .visits) (call .counts) (call .start) list names made
+    receivers.self-has-its-own-local (call .image) (call .list) (call .self) (call .bindings) (call .body) (call .counts) (call .start) list names made
 
 -- the branch for self has no input
 pub self-branch-idle : (call : ParamsHanded) →
-    callWithSelf (call .image) (call .list) (call .self) (call .bindings) (call .body) (call .visits) (call .counts) (call .start) ≡ definedOf call
+    callWithSelf (call .image) (call .list) (call .self) (call .bindings) (call .body) (call .counts) (call .start) ≡ definedOf call
 self-branch-idle call =
-    receivers.the-step-for-self-has-no-input (call .image) (call .list) (call .self) (call .bindings) (call .body) (call .visits) (call .counts) (call .start)
+    receivers.the-step-for-self-has-no-input (call .image) (call .list) (call .self) (call .bindings) (call .body) (call .counts) (call .start)

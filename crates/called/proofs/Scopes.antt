@@ -287,12 +287,12 @@ pub params-still-once : (call : ParamsHanded) (r : ParamsCall) (tables : ParamsT
 unfolding paramsCall paramsHold
 params-still-once call r tables P =
     on-params (call .image) (call .body) (call .counts) (tables .body) _ (valid (call .image) && listHolds (call .image) (call .self) (call .list)) (bodyTaken (call .image) (call .body) (call .counts))
-    (paramsHold (call .image) (call .self) (call .bindings) (call .body .blocks) (call .visits) (call .counts) (call .start)) (loweredOf call) refl r
+    (paramsHold (call .image) (call .self) (call .bindings) (call .body .blocks) (call .counts) (call .start)) (loweredOf call) refl r
     (λ T n o e.
     params-once (call .image) (call .self) (parametersOf call) (call .bindings) (startOfParams call) (call .start) o (taken-named (call .image) (call .body) (call .counts) T)
     (words-there (call .image) (call .bindings) (call .body) (call .counts) (bindingCount (call .image)) T
     (all-true-at (selfNamed (call .image) (call .self) ∷ bindingsHold (bindingCount (call .image)) (call .counts) (call .bindings) ∷ startHolds (call .body .blocks) (call .counts) (call .start)
-    ∷ eqb (length (call .visits)) 512 ∷ []) 1 n)) e)
+    ∷ []) 1 n)) e)
     (P .tables) (P .reply) refl
 
 -- "A live mark now records its local in the last scope unless an open scope already holds it."

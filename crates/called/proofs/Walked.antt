@@ -45,7 +45,7 @@ pub taken : (call : Call) (r : MatchCall) (b : Body) (visits : List ℕ) → OfT
 unfolding patternMatchCall calling
 taken call r b visits k P =
     let (v, t, n, w) = passed (valid (call .image)) (bodyTaken (call .image) (call .body) (call .counts))
-    (matchHolds (namedIn (call .image)) (call .bindings) (call .body .blocks) (call .visits) (call .counts) (call .pattern) (call .start) (call .else) (call .place)) (walkOf call) r k P in
+    (matchHolds (namedIn (call .image)) (call .bindings) (call .body .blocks) (call .counts) (call .pattern) (call .start) (call .else) (call .place)) (walkOf call) r k P in
     (record { image-valid = v; body = t; names = n }, w)
 
 -- what an accepted walk gave, and how it was handed out

@@ -16,7 +16,7 @@ use Rattle.called.specs.Call.{Call, HandedOut, Accepted, patternOf, star
 pub record Taken (call : Call) : Type 0 where
   pub image-valid : valid (call .image) ≡ true
   pub body : bodyTaken (call .image) (call .body) (call .counts) ≡ true
-  pub names : matchHolds (namedIn (call .image)) (call .bindings) (call .body .blocks) (call .visits) (call .counts) (call .pattern) (call .start) (call .else) (call .place) ≡ true
+  pub names : matchHolds (namedIn (call .image)) (call .bindings) (call .body .blocks) (call .counts) (call .pattern) (call .start) (call .else) (call .place) ≡ true
 
 -- there is room for the call's pattern
 abbrev pub HasRoom : Call → Type 0

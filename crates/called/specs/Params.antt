@@ -44,11 +44,11 @@ abbrev pub ListTaken : ParamsHanded → Type 0
 ListTaken call = listHolds (call .image) (call .self) (call .list) ≡ true
 
 abbrev pub NumbersTaken : ParamsHanded → Type 0
-NumbersTaken call = paramsHold (call .image) (call .self) (call .bindings) (call .body .blocks) (call .visits) (call .counts) (call .start) ≡ true
+NumbersTaken call = paramsHold (call .image) (call .self) (call .bindings) (call .body .blocks) (call .counts) (call .start) ≡ true
 
 -- what the call gives, by its definition
 abbrev pub definedOf : ParamsHanded → ParamsCalled
-definedOf call = paramsCall (call .image) (call .list) (call .self) (call .bindings) (call .body) (call .visits) (call .counts) (call .start)
+definedOf call = paramsCall (call .image) (call .list) (call .self) (call .bindings) (call .body) (call .counts) (call .start)
 
 -- its contract (crates/params_call/src/lib.rt), of a call, its answer, and what is left
 abbrev pub PromisedParams : ParamsHanded → ParamsCall → ParamsTables → Type 0

@@ -1,3 +1,4 @@
+mod Defaults
 pub mod Lists
 pub mod Rows
 pub mod Known

@@ -32,7 +32,7 @@ fn wants_at(wanted: Wanted, b: BindingId, t: u16) -> bool
             }
             y == t
         }
-        Wanted::Rest(x, y, n) => false,
+        Wanted::Rest(_, _, _) => false,
         Wanted::Binding(x) => x.0 == b.0,
     }
 }
@@ -42,7 +42,7 @@ fn wants_rest(wanted: Wanted, b: BindingId, t: u16, left: u16) -> bool
     ensures { λ r. ⌜ r ≡ anyOf (meets wanted) (owned (Own.Rest b t left)) ⌝ }
 {
     match wanted {
-        Wanted::At(x, y) => false,
+        Wanted::At(_, _) => false,
         Wanted::Rest(x, y, n) => {
             if x.0 != b.0 {
                 return false;

@@ -160,15 +160,7 @@ fn rest_of_type(image: &[u8], tables: Tables, b: BindingId, t: u16, items: u16) 
             }
             Own::Rest(b, row.a, row.b - items)
         }
-        TypeKind::Integer => Own::At(b, t),
-        TypeKind::Bool => Own::At(b, t),
-        TypeKind::Char => Own::At(b, t),
-        TypeKind::Str => Own::At(b, t),
-        TypeKind::Tuple => Own::At(b, t),
-        TypeKind::Adt => Own::At(b, t),
-        TypeKind::Reference => Own::At(b, t),
-        TypeKind::Slice => Own::At(b, t),
-        TypeKind::Unknown => Own::At(b, t),
+        _ => Own::At(b, t),
     }
 }
 
@@ -179,23 +171,7 @@ fn rest_by_kind(image: &[u8], tables: Tables, kind: PatKind, a: u16, t: u16, ite
 {
     match kind {
         PatKind::Bind => rest_of_type(image, tables, BindingId(a), t, items),
-        PatKind::Missing => Own::None,
-        PatKind::Rest => Own::None,
-        PatKind::NotNull => Own::None,
-        PatKind::Wild => Own::None,
-        PatKind::Tuple => Own::None,
-        PatKind::Or => Own::None,
-        PatKind::Record => Own::None,
-        PatKind::Range => Own::None,
-        PatKind::Slice => Own::None,
-        PatKind::Path => Own::None,
-        PatKind::Lit => Own::None,
-        PatKind::TupleStruct => Own::None,
-        PatKind::Ref => Own::None,
-        PatKind::Expr => Own::None,
-        PatKind::Box => Own::None,
-        PatKind::Deref => Own::None,
-        PatKind::Unknown => Own::None,
+        _ => Own::None,
     }
 }
 
@@ -237,17 +213,7 @@ fn node_by(image: &[u8], tables: Tables, p: PatId, row: PatRow, kind: PatKind) -
         PatKind::Bind => bind_node(p, row),
         PatKind::TupleStruct => no_binding(listed(p.0, 1, row.a, row.b)),
         PatKind::Ref => no_binding(one(p.0, PatId(row.a))),
-        PatKind::Missing => no_subpatterns(p.0),
-        PatKind::Rest => no_subpatterns(p.0),
-        PatKind::NotNull => no_subpatterns(p.0),
-        PatKind::Wild => no_subpatterns(p.0),
-        PatKind::Range => no_subpatterns(p.0),
-        PatKind::Path => no_subpatterns(p.0),
-        PatKind::Lit => no_subpatterns(p.0),
-        PatKind::Expr => no_subpatterns(p.0),
-        PatKind::Box => no_subpatterns(p.0),
-        PatKind::Deref => no_subpatterns(p.0),
-        PatKind::Unknown => no_subpatterns(p.0),
+        _ => no_subpatterns(p.0),
     }
 }
 

@@ -1,3 +1,4 @@
+mod Defaults
 pub mod Agreeing
 pub mod OwnTypes
 pub mod Alternatives

@@ -71,9 +71,6 @@ pub fn own_taken(image: &[u8], tables: Tables, bindings: &[u16], row: PatRow, ki
     ensures { λ r. ⌜ r ≡ ownTaken (now (image .entry)) (now (bindings .entry)) kind row ⌝ }
 {
     match kind {
-        PatKind::Missing => false,
-        PatKind::Rest => false,
-        PatKind::NotNull => false,
         PatKind::Wild => true,
         PatKind::Tuple => tuple_taken(image, tables, row),
         PatKind::Or => true,
@@ -85,10 +82,7 @@ pub fn own_taken(image: &[u8], tables: Tables, bindings: &[u16], row: PatRow, ki
         PatKind::Bind => has_local(bindings, BindingId(row.a)),
         PatKind::TupleStruct => tuple_struct_taken(image, tables, row),
         PatKind::Ref => kind_of(image, tables, row.ty) == 7,
-        PatKind::Expr => false,
-        PatKind::Box => false,
-        PatKind::Deref => false,
-        PatKind::Unknown => false,
+        _ => false,
     }
 }
 
@@ -98,23 +92,12 @@ pub fn own_test(image: &[u8], tables: Tables, row: PatRow, kind: PatKind) -> boo
     ensures { λ r. ⌜ r ≡ ownTest (now (image .entry)) kind row ⌝ }
 {
     match kind {
-        PatKind::Missing => false,
-        PatKind::Rest => false,
-        PatKind::NotNull => false,
-        PatKind::Wild => false,
-        PatKind::Tuple => false,
-        PatKind::Or => false,
         PatKind::Record => is_enum(image, tables, row.ty),
         PatKind::Range => has_end(row.a, row.b),
         PatKind::Slice => kind_of(image, tables, row.ty) == 9,
         PatKind::Path => path_fails(image, tables, row.ty, path_kind(row.a)),
         PatKind::Lit => true,
-        PatKind::Bind => false,
         PatKind::TupleStruct => is_enum(image, tables, row.ty),
-        PatKind::Ref => false,
-        PatKind::Expr => false,
-        PatKind::Box => false,
-        PatKind::Deref => false,
-        PatKind::Unknown => false,
+        _ => false,
     }
 }

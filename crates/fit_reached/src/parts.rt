@@ -147,24 +147,8 @@ fn rest_kind_taken(bindings: &[u16], kind: PatKind, a: u16) -> bool
     ensures { λ r. ⌜ r ≡ restKindTaken (now (bindings .entry)) kind a ⌝ }
 {
     match kind {
-        PatKind::Missing => true,
-        PatKind::Rest => true,
-        PatKind::NotNull => true,
-        PatKind::Wild => true,
-        PatKind::Tuple => true,
-        PatKind::Or => true,
-        PatKind::Record => true,
-        PatKind::Range => true,
-        PatKind::Slice => true,
-        PatKind::Path => true,
-        PatKind::Lit => true,
         PatKind::Bind => has_local(bindings, BindingId(a)),
-        PatKind::TupleStruct => true,
-        PatKind::Ref => true,
-        PatKind::Expr => true,
-        PatKind::Box => true,
-        PatKind::Deref => true,
-        PatKind::Unknown => true,
+        _ => true,
     }
 }
 
@@ -196,12 +180,9 @@ pub fn path_taken(image: &[u8], tables: Tables, t: u16, kind: PathKind, b: u16) 
     ensures { λ r. ⌜ r ≡ pathTaken (tyOf (now (image .entry)) t .shape) (target kind (now (image .entry)) b) ⌝ }
 {
     match kind {
-        PathKind::Unresolved => false,
         PathKind::Variant => variant_there(image, tables, t, b),
-        PathKind::Local => false,
         PathKind::Constant => true,
-        PathKind::Other => false,
-        PathKind::Unknown => false,
+        _ => false,
     }
 }
 
@@ -211,11 +192,8 @@ pub fn path_fails(image: &[u8], tables: Tables, t: u16, kind: PathKind) -> bool
     ensures { λ r. ⌜ r ≡ pathKindFails (tyOf (now (image .entry)) t .shape) kind ⌝ }
 {
     match kind {
-        PathKind::Unresolved => false,
         PathKind::Variant => is_enum(image, tables, t),
-        PathKind::Local => false,
         PathKind::Constant => true,
-        PathKind::Other => false,
-        PathKind::Unknown => false,
+        _ => false,
     }
 }

@@ -135,24 +135,14 @@ fn below(
     ensures { λ r. ⌜ r ≡ belowReached (now (image .entry)) (now (bindings .entry)) kind row ⌝ }
 {
     match kind {
-        PatKind::Missing => Reached::Sure,
-        PatKind::Rest => Reached::Sure,
-        PatKind::NotNull => Reached::Sure,
-        PatKind::Wild => Reached::Sure,
         PatKind::Tuple => each(image, tables, bindings, p, row.a, row.b),
         PatKind::Or => alts(image, tables, bindings, p, row.a, row.b),
         PatKind::Record => pairs(image, tables, bindings, p, row.a, row.b),
-        PatKind::Range => Reached::Sure,
         PatKind::Slice => each(image, tables, bindings, p, row.a, row.b + row.c),
-        PatKind::Path => Reached::Sure,
-        PatKind::Lit => Reached::Sure,
         PatKind::Bind => sub(image, tables, bindings, p, row.b),
         PatKind::TupleStruct => each(image, tables, bindings, p, row.a, row.b),
         PatKind::Ref => reached(image, tables, bindings, PatId(row.a)),
-        PatKind::Expr => Reached::Sure,
-        PatKind::Box => Reached::Sure,
-        PatKind::Deref => Reached::Sure,
-        PatKind::Unknown => Reached::Sure,
+        _ => Reached::Sure,
     }
 }
 

@@ -1,3 +1,4 @@
+mod Defaults
 pub mod Shaped
 pub mod Numbering
 pub mod Fielding

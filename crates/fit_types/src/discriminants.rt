@@ -91,9 +91,7 @@ pub fn discriminants_differ(image: &[u8], tables: Tables, t: u16) -> bool
         return true;
     }
     match adt_kind(row.c) {
-        AdtKind::Struct => true,
         AdtKind::Enum => discriminants_apart(image, tables, row.a, row.b),
-        AdtKind::Union => true,
-        AdtKind::Unknown => true,
+        _ => true,
     }
 }

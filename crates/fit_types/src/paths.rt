@@ -19,11 +19,8 @@ pub fn path_fits(image: &[u8], tables: Tables, t: u16, kind: PathKind, b: u16) -
     ensures { λ r. ⌜ r ≡ pathFits (now (image .entry)) (tyOf (now (image .entry)) t .shape) (target kind (now (image .entry)) b) ⌝ }
 {
     match kind {
-        PathKind::Unresolved => true,
         PathKind::Variant => discriminants_differ(image, tables, t),
-        PathKind::Local => true,
         PathKind::Constant => constant_fits(image, tables, t, b),
-        PathKind::Other => true,
-        PathKind::Unknown => true,
+        _ => true,
     }
 }

@@ -36,23 +36,7 @@ fn is_rest_kind(kind: PatKind) -> bool
 {
     match kind {
         PatKind::Rest => true,
-        PatKind::Missing => false,
-        PatKind::NotNull => false,
-        PatKind::Wild => false,
-        PatKind::Tuple => false,
-        PatKind::Or => false,
-        PatKind::Record => false,
-        PatKind::Range => false,
-        PatKind::Slice => false,
-        PatKind::Path => false,
-        PatKind::Lit => false,
-        PatKind::Bind => false,
-        PatKind::TupleStruct => false,
-        PatKind::Ref => false,
-        PatKind::Expr => false,
-        PatKind::Box => false,
-        PatKind::Deref => false,
-        PatKind::Unknown => false,
+        _ => false,
     }
 }
 
@@ -80,20 +64,6 @@ pub fn rest_fits(image: &[u8], tables: Tables, rest: u16) -> bool
         PatKind::Rest => true,
         PatKind::Wild => true,
         PatKind::Bind => is_rest(image, tables, row.b),
-        PatKind::Missing => false,
-        PatKind::NotNull => false,
-        PatKind::Tuple => false,
-        PatKind::Or => false,
-        PatKind::Record => false,
-        PatKind::Range => false,
-        PatKind::Slice => false,
-        PatKind::Path => false,
-        PatKind::Lit => false,
-        PatKind::TupleStruct => false,
-        PatKind::Ref => false,
-        PatKind::Expr => false,
-        PatKind::Box => false,
-        PatKind::Deref => false,
-        PatKind::Unknown => false,
+        _ => false,
     }
 }

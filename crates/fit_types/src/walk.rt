@@ -210,10 +210,6 @@ fn parts_fit(image: &[u8], tables: Tables, p: PatId, row: PatRow, kind: PatKind)
 {
     let ty = row.ty;
     match kind {
-        PatKind::Missing => true,
-        PatKind::Rest => true,
-        PatKind::NotNull => true,
-        PatKind::Wild => true,
         PatKind::Tuple => {
             let fields = tuple_fields(image, tables, ty);
             row_fits(image, tables, p, row.a, row.b, row.c, fields)
@@ -230,10 +226,7 @@ fn parts_fit(image: &[u8], tables: Tables, p: PatId, row: PatRow, kind: PatKind)
             let behind = referent_of(image, tables, ty);
             types_fit(image, tables, behind, PatId(row.a))
         }
-        PatKind::Expr => true,
-        PatKind::Box => true,
-        PatKind::Deref => true,
-        PatKind::Unknown => true,
+        _ => true,
     }
 }
 

@@ -17,7 +17,7 @@ use Rattle.mir.specs.Blocks.{isOpen}
 use Rattle.body_row_rules.specs.Bodies.{isBlock, isLocal, elemHolds}
 use Rattle.lower_spec.specs.declared.merging.OptBlock.{OptBlock}
 use Rattle.lower_spec.specs.Promises.{Within}
-use Rattle.handed.specs.Handed.{startHolds, elseHolds, placeHolds, bindingHolds, bindingsHold, patternHanded, Named, matchHolds, selfHolds}
+use Rattle.handed.specs.Handed.{startHolds, elseHolds, placeHolds, bindingHolds, bindingsHold, Named, matchHolds, selfHolds}
 
 -- the start is a block that there is
 start-of : (blocks : List ℕ) (c : Counts) (current : BasicBlockId) → startHolds blocks c current ≡ true → current .0 < c .blocks
@@ -39,11 +39,11 @@ bindings-of count c bindings e = eqb-true _ _ (and-left (eqb (length bindings) c
 abbrev elemsHold : ℕ → Place → Bool
 elemsHold variants place = allBelow (λ i. elemHolds variants (elemOf (getD (place .elems) i 0))) (place .len)
 
-module _ (named : Named) (bindings blocks visits : List ℕ) (c : Counts) (p : ℕ) (current : BasicBlockId) (els : OptBlock) (place : Place) where
+module _ (named : Named) (bindings blocks : List ℕ) (c : Counts) (p : ℕ) (current : BasicBlockId) (els : OptBlock) (place : Place) where
   -- the tests
   abbrev rules : List Bool
   rules =
-      patternHanded (named .patterns) visits p
+      ltb p (named .patterns)
       ∷ bindingsHold (named .bindings) c bindings
       ∷ startHolds blocks c current
       ∷ elseHolds c current els
@@ -52,7 +52,7 @@ module _ (named : Named) (bindings blocks visits : List ℕ) (c : Counts) (p : �
 
   -- all that a call of `pattern_match` is handed names something
   abbrev pub Handed : Type 0
-  Handed = matchHolds named bindings blocks visits c p current els place ≡ true
+  Handed = matchHolds named bindings blocks c p current els place ≡ true
 
   -- each test is passed
   rule : Handed → (k : ℕ) → getD rules k true ≡ true
@@ -61,13 +61,7 @@ module _ (named : Named) (bindings blocks visits : List ℕ) (c : Counts) (p : �
 
   -- the pattern is there
   pub pattern-there : Handed → p < named .patterns
-  unfolding patternHanded
-  pattern-there h = ltb-true _ _ (and-left (ltb p (named .patterns)) (eqb (length visits) 512) (rule h 0))
-
-  -- the visits' table has its size
-  pub visits-sized : Handed → length visits ≡ 512
-  unfolding patternHanded
-  visits-sized h = eqb-true _ _ (and-right (ltb p (named .patterns)) (eqb (length visits) 512) (rule h 0))
+  pattern-there h = ltb-true _ _ (rule h 0)
 
   pub bindings-sized : Handed → length bindings ≡ named .bindings
   bindings-sized h = bindings-of (named .bindings) c bindings (rule h 1)

@@ -36,10 +36,6 @@ bindingHolds c l = eqb l 65535 || isLocal c l
 unfoldable pub bindingsHold : ℕ → Counts → List ℕ → Bool
 bindingsHold count c bindings = eqb (length bindings) count && allIn (bindingHolds c) bindings
 
--- the pattern is there, and the visits' table has its size: a word for each of the 512 patterns that an image may have
-unfoldable pub patternHanded : ℕ → List ℕ → ℕ → Bool
-patternHanded count visits p = ltb p count && eqb (length visits) 512
-
 -- how many variants, patterns and bindings the image has
 pub record Named : Type 0 where
   pub variants : ℕ
@@ -47,10 +43,10 @@ pub record Named : Type 0 where
   pub bindings : ℕ
 
 -- all that a call of `pattern_match` is handed names something
-unfoldable pub matchHolds : Named → List ℕ → List ℕ → List ℕ → Counts → ℕ → BasicBlockId → OptBlock → Place → Bool
-matchHolds named bindings blocks visits c p current els place =
+unfoldable pub matchHolds : Named → List ℕ → List ℕ → Counts → ℕ → BasicBlockId → OptBlock → Place → Bool
+matchHolds named bindings blocks c p current els place =
     allTrue
-    (patternHanded (named .patterns) visits p
+    (ltb p (named .patterns)
     ∷ bindingsHold (named .bindings) c bindings
     ∷ startHolds blocks c current
     ∷ elseHolds c current els

@@ -13,8 +13,7 @@ use place::elems::elem_of;
 ghost use mathlib.Core.Path.{_≡_};
 ghost use Prim.Native.Nat.{_≤_};
 ghost use lib.ListN.{length};
-ghost use Rattle.lower_spec.specs.declared.merging.OptBlock.{OptBlock};
-ghost use Rattle.handed.specs.Handed.{startHolds, elseHolds, placeHolds, bindingHolds, bindingsHold, patternHanded, matchHolds, selfHolds, isBlockOrNone, mergeHolds};
+ghost use Rattle.handed.specs.Handed.{startHolds, elseHolds, placeHolds, bindingHolds, bindingsHold, matchHolds, selfHolds, isBlockOrNone, mergeHolds};
 
 pub fn start_holds(blocks: &[u16], counts: Counts, current: BasicBlockId) -> bool
     requires { ⌜ (length (now blocks) ≡ 6144) × (counts .blocks ≤ 512) ⌝ }
@@ -86,21 +85,11 @@ pub fn bindings_hold(count: u16, counts: Counts, bindings: &[u16]) -> bool
     true
 }
 
-fn pattern_handed(count: u16, visits: &[u16], p: PatId) -> bool
-    ensures { λ r. ⌜ r ≡ patternHanded count (now (visits .entry)) (p .0) ⌝ }
-{
-    if count <= p.0 {
-        return false;
-    }
-    visits.len() == 512
-}
-
 // All that a call of `pattern_match` is handed.
 pub fn match_holds(
     tables: Tables,
     bindings: &[u16],
     blocks: &[u16],
-    visits: &[u16],
     counts: Counts,
     p: PatId,
     current: BasicBlockId,
@@ -108,9 +97,9 @@ pub fn match_holds(
     place: Place,
 ) -> bool
     requires { ⌜ (length (now blocks) ≡ 6144) × (counts .blocks ≤ 512) ⌝ }
-    ensures { λ r. ⌜ r ≡ matchHolds (record { variants = tables .variants .count; patterns = tables .patterns .count; bindings = tables .bindings .count }) (now (bindings .entry)) (now (blocks .entry)) (now (visits .entry)) counts (p .0) current els place ⌝ }
+    ensures { λ r. ⌜ r ≡ matchHolds (record { variants = tables .variants .count; patterns = tables .patterns .count; bindings = tables .bindings .count }) (now (bindings .entry)) (now (blocks .entry)) counts (p .0) current els place ⌝ }
 {
-    if !pattern_handed(tables.patterns.count, visits, p) {
+    if tables.patterns.count <= p.0 {
         return false;
     }
     if !bindings_hold(tables.bindings.count, counts, bindings) {
@@ -123,33 +112,6 @@ pub fn match_holds(
         return false;
     }
     place_holds(tables.variants.count, counts, place)
-}
-
-// All that a call of `pattern_match_assignment` is handed: it has no else.
-pub fn assignment_holds(
-    tables: Tables,
-    bindings: &[u16],
-    blocks: &[u16],
-    visits: &[u16],
-    counts: Counts,
-    p: PatId,
-    current: BasicBlockId,
-    place: Place,
-) -> bool
-    requires { ⌜ (length (now blocks) ≡ 6144) × (counts .blocks ≤ 512) ⌝ }
-    ensures { λ r. ⌜ r ≡ matchHolds (record { variants = tables .variants .count; patterns = tables .patterns .count; bindings = tables .bindings .count }) (now (bindings .entry)) (now (blocks .entry)) (now (visits .entry)) counts (p .0) current OptBlock.None place ⌝ }
-{
-    match_holds(
-        tables,
-        bindings,
-        blocks,
-        visits,
-        counts,
-        p,
-        current,
-        OptBlock::None,
-        place,
-    )
 }
 
 // All that a call of `match_self_param` is handed.

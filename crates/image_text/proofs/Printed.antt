@@ -52,12 +52,12 @@ pub record Handed (image : List ℕ) (t : ℕ) (bindings : List ℕ) (b : Body) 
 
 -- it is the call that the definition makes
 same-call : {image : List ℕ} {t : ℕ} {bindings : List ℕ} {b : Body} {v : List ℕ} {c : Counts} {p : ℕ} {place : Place} → Handed image t bindings b v c p place →
-    patternMatchCall image bindings b v c p (record { 0 = 0 }) OptBlock.None place ≡ listingCall image t
+    patternMatchCall image bindings b c p (record { 0 = 0 }) OptBlock.None place ≡ listingCall image t
 unfolding listingCall
-same-call {image} H = λ i. patternMatchCall image (H .locals i) (H .tables i) (H .visits i) (H .counts i) (H .pattern i) (record { 0 = 0 }) OptBlock.None (H .at i)
+same-call {image} H = λ i. patternMatchCall image (H .locals i) (H .tables i) (H .counts i) (H .pattern i) (record { 0 = 0 }) OptBlock.None (H .at i)
 
 pub called : {image : List ℕ} {t : ℕ} {bindings : List ℕ} {b : Body} {v : List ℕ} {c : Counts} {p : ℕ} {place : Place} {r : MatchCall} {b′ : Body} {v′ : List ℕ} →
-    Handed image t bindings b v c p place → Visits b v c (patternMatchCall image bindings b v c p (record { 0 = 0 }) OptBlock.None place) r b′ v′ →
+    Handed image t bindings b v c p place → Visits b v c (patternMatchCall image bindings b c p (record { 0 = 0 }) OptBlock.None place) r b′ v′ →
     Visits b v c (listingCall image t) r b′ v′
 called {b = b} {v = v} {c = c} {r = r} {b′ = b′} {v′ = v′} H G = subst (λ (x : Called). Visits b v c x r b′ v′) (same-call H) G
 

@@ -5,7 +5,6 @@ use mathlib.Core.Bool.{cond}
 use mathlib.Core.Option.{Option, none, some}
 use mathlib.Core.List.{List, _++_}
 use lib.ListN.{length, drop}
-use Rattle.row_tables.specs.Rows.{zeros}
 use Rattle.refusals.specs.Refusals.{breaksARule, namesNothing, refusalAt}
 use Rattle.image.specs.Valid.{valid}
 use Rattle.state.specs.State.{Body, decode, encode, countsOf}
@@ -20,7 +19,7 @@ use Rattle.listing_start.specs.Started.{lastPattern, startType, startState, bin
 -- the call of `pattern_match`: from block 0, with no else, on local 0 of the type t
 unfoldable pub listingCall : List ℕ → ℕ → Called
 listingCall image t =
-    patternMatchCall image (bindingLocals image) (encode (startState image t)) (zeros 512) (countsOf (startState image t)) (lastPattern image)
+    patternMatchCall image (bindingLocals image) (encode (startState image t)) (countsOf (startState image t)) (lastPattern image)
     (record { 0 = 0 }) OptBlock.None (localPlace (record { 0 = 0 }))
 
 -- the text of what the call gives: the listing, or the refusal

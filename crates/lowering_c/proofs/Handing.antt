@@ -29,8 +29,8 @@ refused-words is number reason = rw (is, number, reason)
 
 -- what the call gives is handed out: e is the else that its words say
 pub hands-out : (image bindings : List ℕ) (p : ℕ) (current : BasicBlockId) (place : Place) {b b′ : Body} {v v′ : List ℕ} {c : Counts} {e e′ : OptBlock} {r : MatchCall} {words : List ℕ} →
-    e ≡ e′ → Visits b v c (patternMatchCall image bindings b v c p current e place) r b′ v′ → words ≡ answerWords r →
-    Answered b v c (patternMatchCall image bindings b v c p current e′ place) words b′ v′
+    e ≡ e′ → Visits b v c (patternMatchCall image bindings b c p current e place) r b′ v′ → words ≡ answerWords r →
+    Answered b v c (patternMatchCall image bindings b c p current e′ place) words b′ v′
 hands-out image bindings p current place {b = b} {v = v} {c = c} ise G is =
-    let G′ = visits-by (λ i. patternMatchCall image bindings b v c p current (ise i) place) G in
+    let G′ = visits-by (λ i. patternMatchCall image bindings b c p current (ise i) place) G in
     record { answers = is ∙ ap answerWords (G′ .gives .reply); tables = G′ .gives .tables; visits = G′ .visits }

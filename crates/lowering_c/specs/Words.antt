@@ -49,4 +49,4 @@ pub record Answered (b : Body) (v : List ℕ) (c : Counts) (defined : Called) (w
 abbrev pub WordsGive : List ℕ → List ℕ → List ℕ → Body → List ℕ → List ℕ → Body → List ℕ → Type 0
 WordsGive image bindings words b v =
     Answered b v (countsOfWords words)
-    (patternMatchCall image bindings b v (countsOfWords words) (getD words 5 0) (record { 0 = getD words 6 0 }) (blockOrNone (getD words 7 0)) (localPlace (record { 0 = getD words 8 0 })))
+    (patternMatchCall image bindings b (countsOfWords words) (getD words 5 0) (record { 0 = getD words 6 0 }) (blockOrNone (getD words 7 0)) (localPlace (record { 0 = getD words 8 0 })))

@@ -3,8 +3,7 @@ use super::Counts;
 use place::LocalId;
 use place::place_ty::PlaceTy;
 ghost use mathlib.Core.Path.{_≡_};
-ghost use Prim.Native.Nat.{_<_};
-ghost use lib.ListN.{length, getD};
+ghost use lib.ListN.{length};
 ghost use Rattle.mir.specs.Locals.{localTy, newLocal, localsAfter};
 
 // The types of locals that the lowering makes for a test.
@@ -56,12 +55,4 @@ pub fn word_ty(word: u16) -> PlaceTy
         258 => PlaceTy::I128,
         _ => PlaceTy::Inapplicable,
     }
-}
-
-// The type of a local.
-pub fn local_ty(locals: &[u16], l: LocalId) -> PlaceTy
-    requires { ⌜ (length (now locals) ≡ 512) × (l .0 < 512) ⌝ }
-    ensures { λ r. ⌜ r ≡ localTy (getD (now (locals .entry)) (l .0) 0) ⌝ }
-{
-    word_ty(locals[l.0 as usize])
 }

@@ -31,10 +31,10 @@ pub both-taken : (image : List ℕ) (b : Body) (c : Counts) (tables : Tables) {r
     r ≡ bodyHolds (tables .types .count) (tables .variants .count) (b .blocks) (b .statements) (b .locals) (b .scopes) (b .entries) c → r ≡ true → Taken image tables b c
 both-taken image b c tables read is t = taken image b c (opens-image image b c tables read is t)
 
-module _ (image words : List ℕ) (self : SelfParam) (bindings : List ℕ) (b : Body) (visits : List ℕ) (c : Counts) (current : BasicBlockId) where
+module _ (image words : List ℕ) (self : SelfParam) (bindings : List ℕ) (b : Body) (c : Counts) (current : BasicBlockId) where
   -- what `open_params` gives
   abbrev opened : Opened
-  opened = openedParams image words self bindings b visits c current
+  opened = openedParams image words self bindings b c current
 
   -- the image breaks a rule
   pub no-image : Read.Refused ≡ readOf image → Opened.BadImage ≡ opened
@@ -56,20 +56,20 @@ module _ (image words : List ℕ) (self : SelfParam) (bindings : List ℕ) (b : 
 
       module _ (t : r ≡ true) where
         -- the call's own values do
-        pub no-call : {q : Bool} → q ≡ paramsHold image self bindings (b .blocks) visits c current → q ≡ false → Opened.BadCall ≡ opened
+        pub no-call : {q : Bool} → q ≡ paramsHold image self bindings (b .blocks) c current → q ≡ false → Opened.BadCall ≡ opened
         unfolding openedParams
         no-call is′ f = let T = both-taken image b c tables read is t in rw (T .valid-image, list, T .body, sym is′ ∙ f)
 
         -- all is taken
-        pub all-taken : {q : Bool} → q ≡ paramsHold image self bindings (b .blocks) visits c current → q ≡ true → Opened.Image tables ≡ opened
+        pub all-taken : {q : Bool} → q ≡ paramsHold image self bindings (b .blocks) c current → q ≡ true → Opened.Image tables ≡ opened
         unfolding openedParams
         all-taken is′ y = let T = both-taken image b c tables read is t in rw (T .valid-image, list, T .body, sym is′ ∙ y) (ap Opened.Image (read-valid image tables read .1))
 
-module _ (image words : List ℕ) (self : SelfParam) (bindings : List ℕ) (b : Body) (visits : List ℕ) (c : Counts) (current : BasicBlockId) where
+module _ (image words : List ℕ) (self : SelfParam) (bindings : List ℕ) (b : Body) (c : Counts) (current : BasicBlockId) where
   -- an image or a list that is refused
-  pub not-image : Opened.BadImage ≡ openedParams image words self bindings b visits c current → valid image && listHolds image self words ≡ false
+  pub not-image : Opened.BadImage ≡ openedParams image words self bindings b c current → valid image && listHolds image self words ≡ false
   unfolding openedParams
-  not-image e = go (valid image && listHolds image self words) (bodyTaken image b c && paramsHold image self bindings (b .blocks) visits c current) e
+  not-image e = go (valid image && listHolds image self words) (bodyTaken image b c && paramsHold image self bindings (b .blocks) c current) e
     where
       go : (v t : Bool) → Opened.BadImage ≡ cond v (cond t (Opened.Image (tablesOf image)) Opened.BadCall) Opened.BadImage → v ≡ false
       go true true q = absurd (let z : _≡_ {A = ℕ} 0 1 = cc in omega arith)
@@ -77,10 +77,10 @@ module _ (image words : List ℕ) (self : SelfParam) (bindings : List ℕ) (b : 
       go false t q = refl
 
   -- a body or a value that is refused
-  pub not-call : Opened.BadCall ≡ openedParams image words self bindings b visits c current →
-      (valid image && listHolds image self words ≡ true) × (bodyTaken image b c && paramsHold image self bindings (b .blocks) visits c current ≡ false)
+  pub not-call : Opened.BadCall ≡ openedParams image words self bindings b c current →
+      (valid image && listHolds image self words ≡ true) × (bodyTaken image b c && paramsHold image self bindings (b .blocks) c current ≡ false)
   unfolding openedParams
-  not-call e = go (valid image && listHolds image self words) (bodyTaken image b c && paramsHold image self bindings (b .blocks) visits c current) e
+  not-call e = go (valid image && listHolds image self words) (bodyTaken image b c && paramsHold image self bindings (b .blocks) c current) e
     where
       go : (v t : Bool) → Opened.BadCall ≡ cond v (cond t (Opened.Image (tablesOf image)) Opened.BadCall) Opened.BadImage → (v ≡ true) × (t ≡ false)
       go true true q = absurd (let z : _≡_ {A = ℕ} 0 1 = cc in omega arith)
@@ -88,17 +88,17 @@ module _ (image words : List ℕ) (self : SelfParam) (bindings : List ℕ) (b : 
       go false t q = absurd (let z : _≡_ {A = ℕ} 0 1 = cc in omega arith)
 
   -- all is taken
-  pub params-taken : {tables : Tables} → Opened.Image tables ≡ openedParams image words self bindings b visits c current →
-      ParamsTaken image tables words self bindings b visits c current
+  pub params-taken : {tables : Tables} → Opened.Image tables ≡ openedParams image words self bindings b c current →
+      ParamsTaken image tables words self bindings b c current
   unfolding openedParams
-  params-taken {tables = tables} e = go (valid image && listHolds image self words) (bodyTaken image b c && paramsHold image self bindings (b .blocks) visits c current) refl refl e
+  params-taken {tables = tables} e = go (valid image && listHolds image self words) (bodyTaken image b c && paramsHold image self bindings (b .blocks) c current) refl refl e
     where
-      go : (v t : Bool) → valid image && listHolds image self words ≡ v → bodyTaken image b c && paramsHold image self bindings (b .blocks) visits c current ≡ t →
-          Opened.Image tables ≡ cond v (cond t (Opened.Image (tablesOf image)) Opened.BadCall) Opened.BadImage → ParamsTaken image tables words self bindings b visits c current
+      go : (v t : Bool) → valid image && listHolds image self words ≡ v → bodyTaken image b c && paramsHold image self bindings (b .blocks) c current ≡ t →
+          Opened.Image tables ≡ cond v (cond t (Opened.Image (tablesOf image)) Opened.BadCall) Opened.BadImage → ParamsTaken image tables words self bindings b c current
       go true true f h q =
           let same : tables ≡ tablesOf image = cc in
           let v = and-left (valid image) (listHolds image self words) f in
-          let held = paramsHold image self bindings (b .blocks) visits c current in
+          let held = paramsHold image self bindings (b .blocks) c current in
           record {
             both = record { valid-image = v; whole = rw same (whole-of image v); body = and-left (bodyTaken image b c) held h };
             list = and-right (valid image) (listHolds image self words) f;

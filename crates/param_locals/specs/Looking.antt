@@ -16,13 +16,13 @@ use Rattle.params_spec.specs.declared.SelfParam.{SelfParam}
 use Rattle.params_spec.specs.Calls.{listHolds, paramsHold}
 
 -- the tables' places, where image, list, body and the call's own values are taken
-unfoldable pub openedParams : List ℕ → List ℕ → SelfParam → List ℕ → Body → List ℕ → Counts → BasicBlockId → Opened
-openedParams image words self bindings b visits c current =
+unfoldable pub openedParams : List ℕ → List ℕ → SelfParam → List ℕ → Body → Counts → BasicBlockId → Opened
+openedParams image words self bindings b c current =
     cond (valid image && listHolds image self words)
-    (cond (bodyTaken image b c && paramsHold image self bindings (b .blocks) visits c current) (Opened.Image (tablesOf image)) Opened.BadCall) Opened.BadImage
+    (cond (bodyTaken image b c && paramsHold image self bindings (b .blocks) c current) (Opened.Image (tablesOf image)) Opened.BadCall) Opened.BadImage
 
 -- image, list, body and the call's own values are taken
-pub record ParamsTaken (image : List ℕ) (tables : Tables) (words : List ℕ) (self : SelfParam) (bindings : List ℕ) (b : Body) (visits : List ℕ) (c : Counts) (current : BasicBlockId) : Type 0 where
+pub record ParamsTaken (image : List ℕ) (tables : Tables) (words : List ℕ) (self : SelfParam) (bindings : List ℕ) (b : Body) (c : Counts) (current : BasicBlockId) : Type 0 where
   pub both : Taken image tables b c
   pub list : listHolds image self words ≡ true
-  pub call : paramsHold image self bindings (b .blocks) visits c current ≡ true
+  pub call : paramsHold image self bindings (b .blocks) c current ≡ true

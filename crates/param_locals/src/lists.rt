@@ -9,7 +9,6 @@ use mir::BasicBlockId;
 use mir::Counts;
 use param_lists::list_holds;
 use params_spec::SelfParam;
-use pattern_entering::VISIT_WORDS;
 use read_image::Read;
 use read_image::read_image;
 ghost use mathlib.Core.Path.{_≡_};
@@ -40,12 +39,11 @@ fn params_hold(
     receiver: SelfParam,
     bindings: &[u16],
     body: &[u16; BODY_WORDS],
-    visits: &[u16],
     counts: Counts,
     current: BasicBlockId,
 ) -> bool
     requires { ⌜ Whole (now image) tables × (counts .blocks ≤ 512) ⌝ }
-    ensures { λ r. ⌜ r ≡ paramsHold (now (image .entry)) receiver (now (bindings .entry)) (bodyOf (now (body .entry)) .blocks) (now (visits .entry)) counts current ⌝ }
+    ensures { λ r. ⌜ r ≡ paramsHold (now (image .entry)) receiver (now (bindings .entry)) (bodyOf (now (body .entry)) .blocks) counts current ⌝ }
 {
     if !self_named(image, tables, receiver) {
         return false;
@@ -53,10 +51,7 @@ fn params_hold(
     if !bindings_hold(tables.bindings.count, counts, bindings) {
         return false;
     }
-    if !start_holds(body, counts, current) {
-        return false;
-    }
-    visits.len() == VISIT_WORDS
+    start_holds(body, counts, current)
 }
 
 // Image, list, body and the call's own values are taken, in this order.
@@ -66,11 +61,10 @@ pub fn open_params(
     receiver: SelfParam,
     bindings: &[u16],
     body: &[u16; BODY_WORDS],
-    visits: &[u16; VISIT_WORDS],
     counts: Counts,
     current: BasicBlockId,
 ) -> Opened
-    ensures { λ r. ⌜ r ≡ openedParams (now (image .entry)) (now (words .entry)) receiver (now (bindings .entry)) (bodyOf (now (body .entry))) (now (visits .entry)) counts current ⌝ }
+    ensures { λ r. ⌜ r ≡ openedParams (now (image .entry)) (now (words .entry)) receiver (now (bindings .entry)) (bodyOf (now (body .entry))) counts current ⌝ }
 {
     let Read::Image(tables) = read_image(image) else {
         return Opened::BadImage;
@@ -81,16 +75,7 @@ pub fn open_params(
     if !body_holds(tables.types.count, tables.variants.count, body, counts) {
         return Opened::BadCall;
     }
-    if !params_hold(
-        image,
-        tables,
-        receiver,
-        bindings,
-        body,
-        visits,
-        counts,
-        current,
-    ) {
+    if !params_hold(image, tables, receiver, bindings, body, counts, current) {
         return Opened::BadCall;
     }
     Opened::Image(tables)

@@ -50,10 +50,10 @@ lowerWithSelf image self params bindings ctx current =
     lowerAllWithSelf image (d .bindings) self params (length (ctx .state .locals)) (withState ctx (d .state)) current)
 
 -- the call with that step
-unfoldable pub callWithSelf : List ℕ → List ℕ → SelfParam → List ℕ → Body → List ℕ → Counts → BasicBlockId → ParamsCalled
-callWithSelf image words self bindings b visits c current =
+unfoldable pub callWithSelf : List ℕ → List ℕ → SelfParam → List ℕ → Body → Counts → BasicBlockId → ParamsCalled
+callWithSelf image words self bindings b c current =
     cond (valid image && listHolds image self words)
-    (cond (bodyTaken image b c && paramsHold image self bindings (b .blocks) visits c current)
+    (cond (bodyTaken image b c && paramsHold image self bindings (b .blocks) c current)
     (walked (lowerWithSelf image self (paramsOf words) bindings (ctxOf b c (zeros 512)) current)) badCall) badImage
 
 -- self's binding has the local l
@@ -108,8 +108,8 @@ module _ (image : List ℕ) (self : SelfParam) (params : List Param) (bindings :
       (self-idle image (d .bindings) self (length (ctx .state .locals)) (withState ctx (d .state)) current (self-has ctx d e)))
 
 -- what a call is handed that is taken
-module _ (image words : List ℕ) (self : SelfParam) (bindings : List ℕ) (b : Body) (visits : List ℕ) (c : Counts) (current : BasicBlockId)
-    (list : listHolds image self words ≡ true) (call : paramsHold image self bindings (b .blocks) visits c current ≡ true) where
+module _ (image words : List ℕ) (self : SelfParam) (bindings : List ℕ) (b : Body) (c : Counts) (current : BasicBlockId)
+    (list : listHolds image self words ≡ true) (call : paramsHold image self bindings (b .blocks) c current ≡ true) where
   taken-apart : receiverApart image self (paramsOf words) ≡ true
   unfolding listHolds
   taken-apart = and-right (listFormed image words) (receiverApart image self (paramsOf words)) list
@@ -142,9 +142,9 @@ guarded true false u v x y z w f = refl
 guarded false t u v x y z w f = refl
 
 -- The call with that step is the call without it, whatever it is handed.
-pub the-step-for-self-has-no-input : (image words : List ℕ) (self : SelfParam) (bindings : List ℕ) (b : Body) (visits : List ℕ) (c : Counts) (current : BasicBlockId) →
-    callWithSelf image words self bindings b visits c current ≡ paramsCall image words self bindings b visits c current
+pub the-step-for-self-has-no-input : (image words : List ℕ) (self : SelfParam) (bindings : List ℕ) (b : Body) (c : Counts) (current : BasicBlockId) →
+    callWithSelf image words self bindings b c current ≡ paramsCall image words self bindings b c current
 unfolding callWithSelf paramsCall
-the-step-for-self-has-no-input image words self bindings b visits c current =
-    guarded (valid image) (listHolds image self words) (bodyTaken image b c) (paramsHold image self bindings (b .blocks) visits c current) _ _ badCall badImage (λ list call.
-    ap walked (same-walk image words self bindings b visits c current list call))
+the-step-for-self-has-no-input image words self bindings b c current =
+    guarded (valid image) (listHolds image self words) (bodyTaken image b c) (paramsHold image self bindings (b .blocks) c current) _ _ badCall badImage (λ list call.
+    ap walked (same-walk image words self bindings b c current list call))

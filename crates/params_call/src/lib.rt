@@ -39,7 +39,7 @@ fn params_step(
     receiver: SelfParam,
     current: BasicBlockId,
 ) -> ParamsCall
-    requires { ⌜ ParamsTaken (now image) tables (now words) receiver (now bindings) (bodyOf (now body)) (now visits) counts current ⌝ }
+    requires { ⌜ ParamsTaken (now image) tables (now words) receiver (now bindings) (bodyOf (now body)) counts current ⌝ }
     ensures { λ r. ⌜ GivesParams (now (bindings .entry)) (bodyOf (now (body .entry))) (now (visits .entry)) counts (walked (lowerParamsAndBindings (now (image .entry)) receiver (paramsOf (now (words .entry))) (now (bindings .entry)) (ctxOf (bodyOf (now (body .entry))) counts (zeros 512)) current)) r (now (bindings .exit)) (bodyOf (now (body .exit))) (now (visits .exit)) ⌝ }
 {
     let row = block_row(body, current);
@@ -83,16 +83,7 @@ pub fn lower_params_and_bindings(
     ensures { λ r. ⌜ ParamsGives (now (image .entry)) (now (params .entry)) «self_param» counts current (now (bindings .entry)) (bodyOf (now (body .entry))) (now (visits .entry)) r
         (now (bindings .exit)) (bodyOf (now (body .exit))) (now (visits .exit)) ⌝ }
 {
-    match open_params(
-        image,
-        params,
-        self_param,
-        bindings,
-        body,
-        visits,
-        counts,
-        current,
-    ) {
+    match open_params(image, params, self_param, bindings, body, counts, current) {
         Opened::BadImage => ParamsCall::BadImage,
         Opened::BadCall => ParamsCall::BadCall,
         Opened::Image(tables) => params_step(

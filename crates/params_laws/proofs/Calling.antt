@@ -17,33 +17,33 @@ use Rattle.param_locals.specs.Looking.{openedParams}
 use Rattle.param_locals.proofs.Opening.{not-image, not-call, params-taken}
 use Rattle.params_laws.proofs.Stepping.{params-by}
 
-module _ (image words : List ℕ) (self : SelfParam) (bindings : List ℕ) (b : Body) (visits : List ℕ) (c : Counts) (current : BasicBlockId) where
+module _ (image words : List ℕ) (self : SelfParam) (bindings : List ℕ) (b : Body) (c : Counts) (current : BasicBlockId) where
   -- what the call comes to
-  no-image : Opened.BadImage ≡ openedParams image words self bindings b visits c current → badImage ≡ paramsCall image words self bindings b visits c current
+  no-image : Opened.BadImage ≡ openedParams image words self bindings b c current → badImage ≡ paramsCall image words self bindings b c current
   unfolding paramsCall
-  no-image e = rw (not-image image words self bindings b visits c current e)
+  no-image e = rw (not-image image words self bindings b c current e)
 
-  no-call : Opened.BadCall ≡ openedParams image words self bindings b visits c current → badCall ≡ paramsCall image words self bindings b visits c current
+  no-call : Opened.BadCall ≡ openedParams image words self bindings b c current → badCall ≡ paramsCall image words self bindings b c current
   unfolding paramsCall
-  no-call e = let n = not-call image words self bindings b visits c current e in rw (n .0, n .1)
+  no-call e = let n = not-call image words self bindings b c current e in rw (n .0, n .1)
 
-  walks : {tables : Tables} → Opened.Image tables ≡ openedParams image words self bindings b visits c current →
-      walked (lowerParamsAndBindings image self (paramsOf words) bindings (ctxOf b c (zeros 512)) current) ≡ paramsCall image words self bindings b visits c current
+  walks : {tables : Tables} → Opened.Image tables ≡ openedParams image words self bindings b c current →
+      walked (lowerParamsAndBindings image self (paramsOf words) bindings (ctxOf b c (zeros 512)) current) ≡ paramsCall image words self bindings b c current
   unfolding paramsCall
-  walks e = let T = params-taken image words self bindings b visits c current e in rw (T .both .valid-image, T .list, T .both .body, T .call)
+  walks e = let T = params-taken image words self bindings b c current e in rw (T .both .valid-image, T .list, T .both .body, T .call)
 
   -- the image or the list breaks a rule
-  pub bad-image : Opened.BadImage ≡ openedParams image words self bindings b visits c current →
-      GivesParams bindings b visits c (paramsCall image words self bindings b visits c current) ParamsCall.BadImage bindings b visits
+  pub bad-image : {visits : List ℕ} → Opened.BadImage ≡ openedParams image words self bindings b c current →
+      GivesParams bindings b visits c (paramsCall image words self bindings b c current) ParamsCall.BadImage bindings b visits
   bad-image e = params-by (no-image e) (record { reply = refl; refusal = refl; tables = refl; reads = tt; ready = tt; locals = refl; visits = refl })
 
   -- the body or a value of the call names nothing
-  pub bad-call : Opened.BadCall ≡ openedParams image words self bindings b visits c current →
-      GivesParams bindings b visits c (paramsCall image words self bindings b visits c current) ParamsCall.BadCall bindings b visits
+  pub bad-call : {visits : List ℕ} → Opened.BadCall ≡ openedParams image words self bindings b c current →
+      GivesParams bindings b visits c (paramsCall image words self bindings b c current) ParamsCall.BadCall bindings b visits
   bad-call e = params-by (no-call e) (record { reply = refl; refusal = refl; tables = refl; reads = tt; ready = tt; locals = refl; visits = refl })
 
   -- all is taken, and the call comes to its own step
-  pub goes-on : {tables : Tables} {r : ParamsCall} {m v : List ℕ} {b₁ : Body} → Opened.Image tables ≡ openedParams image words self bindings b visits c current →
+  pub goes-on : {tables : Tables} {r : ParamsCall} {visits m v : List ℕ} {b₁ : Body} → Opened.Image tables ≡ openedParams image words self bindings b c current →
       GivesParams bindings b visits c (walked (lowerParamsAndBindings image self (paramsOf words) bindings (ctxOf b c (zeros 512)) current)) r m b₁ v →
-      GivesParams bindings b visits c (paramsCall image words self bindings b visits c current) r m b₁ v
+      GivesParams bindings b visits c (paramsCall image words self bindings b c current) r m b₁ v
   goes-on e G = params-by (walks e) G

@@ -58,10 +58,10 @@ bindings-few image v =
     leb-true (bindingCount image) 256 (and-right front d (and-left (front && d) l (and-left (front && d && l) m e)))
 
 -- the call's own values name something
-module _ (image : List ℕ) (self : SelfParam) (bindings blocks visits : List ℕ) (c : Counts) (current : BasicBlockId) (h : paramsHold image self bindings blocks visits c current ≡ true) where
+module _ (image : List ℕ) (self : SelfParam) (bindings blocks : List ℕ) (c : Counts) (current : BasicBlockId) (h : paramsHold image self bindings blocks c current ≡ true) where
   -- the tests
   abbrev tests : List Bool
-  tests = selfNamed image self ∷ bindingsHold (bindingCount image) c bindings ∷ startHolds blocks c current ∷ eqb (length visits) 512 ∷ []
+  tests = selfNamed image self ∷ bindingsHold (bindingCount image) c bindings ∷ startHolds blocks c current ∷ []
 
   -- each is passed
   passed : (k : ℕ) → getD tests k true ≡ true
@@ -79,11 +79,8 @@ module _ (image : List ℕ) (self : SelfParam) (bindings blocks visits : List �
   unfolding startHolds
   start-held = ltb-true _ _ (and-left (isBlock c (current .0)) (isOpen (rowAt 12 blocks (current .0))) (passed 2))
 
-  visits-held : length visits ≡ 512
-  visits-held = eqb-true _ _ (passed 3)
-
-module _ {image : List ℕ} {tables : Tables} {words : List ℕ} {self : SelfParam} {bindings : List ℕ} {b : Body} {visits : List ℕ} {c : Counts} {current : BasicBlockId}
-    (T : ParamsTaken image tables words self bindings b visits c current) where
+module _ {image : List ℕ} {tables : Tables} {words : List ℕ} {self : SelfParam} {bindings : List ℕ} {b : Body} {c : Counts} {current : BasicBlockId}
+    (T : ParamsTaken image tables words self bindings b c current) where
   -- the body has its sizes
   pub step-sized : Sized b c
   step-sized = taken-sized image b c (T .both)
@@ -94,7 +91,7 @@ module _ {image : List ℕ} {tables : Tables} {words : List ℕ} {self : SelfPar
 
   -- the block where the walk starts is there
   step-start : current .0 < c .blocks
-  step-start = start-held image self bindings (b .blocks) visits c current (T .call)
+  step-start = start-held image self bindings (b .blocks) c current (T .call)
 
   -- its row may be read
   pub row-asked : current .0 < 512
@@ -102,16 +99,13 @@ module _ {image : List ℕ} {tables : Tables} {words : List ℕ} {self : SelfPar
 
   -- there is room for the bindings' locals
   pub save-asked : length bindings ≤ 256
-  save-asked = omega (arith, bindings-held image self bindings (b .blocks) visits c current (T .call), bindings-few image (T .both .valid-image))
+  save-asked = omega (arith, bindings-held image self bindings (b .blocks) c current (T .call), bindings-few image (T .both .valid-image))
 
-  -- b₁ is the body after zeros were written above the counts, and v₁ lies in the visits' table
-  module _ {b₁ : Body} {v₁ : List ℕ} (is : b₁ ≡ encode (decode b c)) (blank : v₁ ≡ cleared visits 0) where
+  -- b₁ is the body after zeros were written above the counts
+  module _ {b₁ : Body} (is : b₁ ≡ encode (decode b c)) where
     -- what lies in it
     step-cleared : Cleared b c b₁
     step-cleared = clears step-sized is
-
-    no-visit : v₁ ≡ zeros 512
-    no-visit = visits-cleared visits (visits-held image self bindings (b .blocks) visits c current (T .call)) blank
 
     -- the walk may start
     pub walk-asked : Startable image tables words self bindings b₁ c current
@@ -120,54 +114,60 @@ module _ {image : List ℕ} {tables : Tables} {words : List ℕ} {self : SelfPar
           image-valid = T .both .valid-image;
           whole = T .both .whole;
           list = taken-formed image words self (T .list);
-          receiver = self-held image self bindings (b .blocks) visits c current (T .call);
-          locals-of-bindings = bindings-held image self bindings (b .blocks) visits c current (T .call);
+          receiver = self-held image self bindings (b .blocks) c current (T .call);
+          locals-of-bindings = bindings-held image self bindings (b .blocks) c current (T .call);
           ready = step-cleared .ready;
           start = step-start;
         }
 
-    -- the walk is accepted
-    pub lowered : {c′ : Counts} {then : BasicBlockId} {els : OptBlock} {t : Body} {v′ m : List ℕ} {r : ParamsCall} → r ≡ ParamsCall.Lowered c′ then (record { 0 = c .locals }) →
-        WalksParams (λ ctx. lowerParamsAndBindings image self (paramsOf words) bindings ctx current) c current b₁ v₁ (Lowered.Done c′ then els) t v′ m →
-        GivesParams bindings b visits c (walked (lowerParamsAndBindings image self (paramsOf words) bindings (ctxOf b c (zeros 512)) current)) r m t v′
-    lowered {c′ = c′} {then = then} {t = t} is-answer W =
-        let A = W .answers (zeros 512) (step-cleared .ready) (no-visit ∙ no-visits) in
-        let ready = A .answers .goes .0 in
-        params-by
-        (ap walked (A .answers .says ∙ ap (λ (st : State). lowerParamsAndBindings image self (paramsOf words) bindings (record { state = st; visits = zeros 512 }) current) (step-cleared .same)))
-        (record {
-          reply = is-answer ∙ ap (λ (n : Counts). ParamsCall.Lowered n then (record { 0 = c .locals })) (sym (counted t c′ ready));
-          refusal = ap numbers is-answer;
-          tables = held t c′ ready;
-          reads = ap (decode t) (counted t c′ ready);
-          ready = subst (Ready t) (sym (counted t c′ ready)) ready;
-          locals = refl;
-          visits = A .holds;
-        })
+    -- v₁ lies in the visits' table after zeros were written there
+    module _ (visits : List ℕ) {v₁ : List ℕ} (sized : length visits ≡ 512) (blank : v₁ ≡ cleared visits 0) where
+      -- no pattern is visited yet
+      no-visit : v₁ ≡ zeros 512
+      no-visit = visits-cleared visits sized blank
 
-    -- it is refused: t is the body behind the walk, t₂ after the row of the block where it started was put back, and b₃ after zeros were written again; the bindings' locals
-    -- are put back
-    pub not-lowered : {err : MirLowerError} {q : PatId} {t t₂ b₃ : Body} {v′ m v₃ m₃ row : List ℕ} (saved : List ℕ) →
-        WalksParams (λ ctx. lowerParamsAndBindings image self (paramsOf words) bindings ctx current) c current b₁ v₁ (Lowered.Refused err q) t v′ m →
-        length (t .blocks) ≡ blockWords → length v′ ≡ 512 → length m ≡ length bindings → row ≡ rowAt blockWidth (b .blocks) (current .0) → take (length bindings) saved ≡ bindings →
-        t₂ ≡ withBlocks t (stored (t .blocks) (blockWidth * current .0) row) → b₃ ≡ encode (decode t₂ c) → v₃ ≡ cleared v′ 0 → m₃ ≡ take (length m) saved →
-        GivesParams bindings b visits c (walked (lowerParamsAndBindings image self (paramsOf words) bindings (ctxOf b c (zeros 512)) current)) (ParamsCall.Refused err q) m₃ b₃ v₃
-    not-lowered {t = t} {v′ = v′} saved W long seen many is-row kept back again blank₃ put =
-        let C = step-cleared in
-        let R = C .ready in
-        let A = W .answers (zeros 512) R (no-visit ∙ no-visits) in
-        let found = is-row ∙ row-found b c b₁ (current .0) C step-start in
-        let stored-row = back ∙ ap (λ (x : List ℕ). withBlocks t (stored (t .blocks) (blockWidth * current .0) x)) found in
-        let rest = put-back c (current .0) b₁ t step-start (R .block-count) (R .blocks) long (A .answers .kept) in
-        let same = ap (λ (x : Body). decode x c) stored-row ∙ rest ∙ C .same in
-        params-by
-        (ap walked (A .answers .says ∙ ap (λ (st : State). lowerParamsAndBindings image self (paramsOf words) bindings (record { state = st; visits = zeros 512 }) current) (C .same)))
-        (record {
-          reply = refl;
-          refusal = refl;
-          tables = again ∙ ap encode same;
-          reads = tt;
-          ready = tt;
-          locals = put ∙ ap (λ (n : ℕ). take n saved) many ∙ kept;
-          visits = visits-cleared v′ seen blank₃;
-        })
+      -- the walk is accepted
+      pub lowered : {c′ : Counts} {then : BasicBlockId} {els : OptBlock} {t : Body} {v′ m : List ℕ} {r : ParamsCall} → r ≡ ParamsCall.Lowered c′ then (record { 0 = c .locals }) →
+          WalksParams (λ ctx. lowerParamsAndBindings image self (paramsOf words) bindings ctx current) c current b₁ v₁ (Lowered.Done c′ then els) t v′ m →
+          GivesParams bindings b visits c (walked (lowerParamsAndBindings image self (paramsOf words) bindings (ctxOf b c (zeros 512)) current)) r m t v′
+      lowered {c′ = c′} {then = then} {t = t} is-answer W =
+          let A = W .answers (zeros 512) (step-cleared .ready) (no-visit ∙ no-visits) in
+          let ready = A .answers .goes .0 in
+          params-by
+          (ap walked (A .answers .says ∙ ap (λ (st : State). lowerParamsAndBindings image self (paramsOf words) bindings (record { state = st; visits = zeros 512 }) current) (step-cleared .same)))
+          (record {
+            reply = is-answer ∙ ap (λ (n : Counts). ParamsCall.Lowered n then (record { 0 = c .locals })) (sym (counted t c′ ready));
+            refusal = ap numbers is-answer;
+            tables = held t c′ ready;
+            reads = ap (decode t) (counted t c′ ready);
+            ready = subst (Ready t) (sym (counted t c′ ready)) ready;
+            locals = refl;
+            visits = A .holds;
+          })
+
+      -- it is refused: t is the body behind the walk, t₂ after the row of the block where it started was put back, and b₃ after zeros were written again; the bindings' locals
+      -- are put back
+      pub not-lowered : {err : MirLowerError} {q : PatId} {t t₂ b₃ : Body} {v′ m v₃ m₃ row : List ℕ} (saved : List ℕ) →
+          WalksParams (λ ctx. lowerParamsAndBindings image self (paramsOf words) bindings ctx current) c current b₁ v₁ (Lowered.Refused err q) t v′ m →
+          length (t .blocks) ≡ blockWords → length v′ ≡ 512 → length m ≡ length bindings → row ≡ rowAt blockWidth (b .blocks) (current .0) → take (length bindings) saved ≡ bindings →
+          t₂ ≡ withBlocks t (stored (t .blocks) (blockWidth * current .0) row) → b₃ ≡ encode (decode t₂ c) → v₃ ≡ cleared v′ 0 → m₃ ≡ take (length m) saved →
+          GivesParams bindings b visits c (walked (lowerParamsAndBindings image self (paramsOf words) bindings (ctxOf b c (zeros 512)) current)) (ParamsCall.Refused err q) m₃ b₃ v₃
+      not-lowered {t = t} {v′ = v′} saved W long seen many is-row kept back again blank₃ put =
+          let C = step-cleared in
+          let R = C .ready in
+          let A = W .answers (zeros 512) R (no-visit ∙ no-visits) in
+          let found = is-row ∙ row-found b c b₁ (current .0) C step-start in
+          let stored-row = back ∙ ap (λ (x : List ℕ). withBlocks t (stored (t .blocks) (blockWidth * current .0) x)) found in
+          let rest = put-back c (current .0) b₁ t step-start (R .block-count) (R .blocks) long (A .answers .kept) in
+          let same = ap (λ (x : Body). decode x c) stored-row ∙ rest ∙ C .same in
+          params-by
+          (ap walked (A .answers .says ∙ ap (λ (st : State). lowerParamsAndBindings image self (paramsOf words) bindings (record { state = st; visits = zeros 512 }) current) (C .same)))
+          (record {
+            reply = refl;
+            refusal = refl;
+            tables = again ∙ ap encode same;
+            reads = tt;
+            ready = tt;
+            locals = put ∙ ap (λ (n : ℕ). take n saved) many ∙ kept;
+            visits = visits-cleared v′ seen blank₃;
+          })

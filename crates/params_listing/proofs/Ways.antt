@@ -24,7 +24,7 @@ use Rattle.params_listing.specs.Listed.{startText, paramsText}
 
 -- the text of the call is what the definition prints
 pub text-is : {image : List ℕ} {opened : ℕ} {m v : List ℕ} {b : Body} {c : Counts} → Starts image opened m b v c → (self : SelfParam) (list : List ℕ) {many : ℕ} → many ≡ manyOf self (length list) →
-    callText (c .locals) many (paramsCall image list self m b v c (record { 0 = 0 })) ≡ startText image opened self list
+    callText (c .locals) many (paramsCall image list self m b c (record { 0 = 0 })) ≡ startText image opened self list
 unfolding startText
 text-is S self list is = λ i. callText (no-locals S i) (is i) (same-call S self list i)
 

@@ -71,9 +71,9 @@ selfNamed image SelfParam.None = true
 selfNamed image (SelfParam.Some b ty) = ltb (b .0) (bindingCount image) && ltb ty (typeCount image)
 
 -- all else that the call is handed names something
-unfoldable pub paramsHold : List ℕ → SelfParam → List ℕ → List ℕ → List ℕ → Counts → BasicBlockId → Bool
-paramsHold image self bindings blocks visits c current =
-    allTrue (selfNamed image self ∷ bindingsHold (bindingCount image) c bindings ∷ startHolds blocks c current ∷ eqb (length visits) 512 ∷ [])
+unfoldable pub paramsHold : List ℕ → SelfParam → List ℕ → List ℕ → Counts → BasicBlockId → Bool
+paramsHold image self bindings blocks c current =
+    allTrue (selfNamed image self ∷ bindingsHold (bindingCount image) c bindings ∷ startHolds blocks c current ∷ [])
 
 -- what the call gives: the image or the list breaks a rule, the body or a number of the call names nothing, or what the walk gives
 pub data ParamsCalled : Type 0 where
@@ -82,10 +82,10 @@ pub data ParamsCalled : Type 0 where
   walked : Walk ParamsOut → ParamsCalled
 
 -- `lower_params_and_bindings`: "1 is tried before 2, both before the walk"
-unfoldable pub paramsCall : List ℕ → List ℕ → SelfParam → List ℕ → Body → List ℕ → Counts → BasicBlockId → ParamsCalled
-paramsCall image words self bindings b visits c current =
+unfoldable pub paramsCall : List ℕ → List ℕ → SelfParam → List ℕ → Body → Counts → BasicBlockId → ParamsCalled
+paramsCall image words self bindings b c current =
     cond (valid image && listHolds image self words)
-    (cond (bodyTaken image b c && paramsHold image self bindings (b .blocks) visits c current)
+    (cond (bodyTaken image b c && paramsHold image self bindings (b .blocks) c current)
     (walked (lowerParamsAndBindings image self (paramsOf words) bindings (ctxOf b c (zeros 512)) current)) badCall) badImage
 
 -- the answer: the counts, the block to go on from and the first parameter's local, which is the next one when the call comes
@@ -176,4 +176,4 @@ pub record GivesParams (bindings : List ℕ) (b : Body) (v : List ℕ) (c : Coun
 
 -- The contract, of what the call is handed, m, b and v being the bindings' locals, the body and the visits then, its answer r, and these three when it returns.
 abbrev pub ParamsGives : List ℕ → List ℕ → SelfParam → Counts → BasicBlockId → List ℕ → Body → List ℕ → ParamsCall → List ℕ → Body → List ℕ → Type 0
-ParamsGives image words self c current m b v = GivesParams m b v c (paramsCall image words self m b v c current)
+ParamsGives image words self c current m b v = GivesParams m b v c (paramsCall image words self m b c current)

@@ -100,9 +100,9 @@ many-with-self size h is = rw (le-leb size 128 h, is)
 
 -- what the call is handed is what the definition hands it
 module _ {image : List ℕ} {opened : ℕ} {m v : List ℕ} {b : Body} {c : Counts} (S : Starts image opened m b v c) where
-  pub same-call : (self : SelfParam) (list : List ℕ) → paramsCall image list self m b v c (record { 0 = 0 }) ≡ startCall image opened self list
+  pub same-call : (self : SelfParam) (list : List ℕ) → paramsCall image list self m b c (record { 0 = 0 }) ≡ startCall image opened self list
   unfolding startCall
-  same-call self list = λ i. paramsCall image list self (S .bindings i) (S .tables i) (S .visits i) (S .counts i) (record { 0 = 0 })
+  same-call self list = λ i. paramsCall image list self (S .bindings i) (S .tables i) (S .counts i) (record { 0 = 0 })
 
   pub no-locals : c .locals ≡ 0
   unfolding countsOf startState

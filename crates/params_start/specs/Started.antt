@@ -44,7 +44,7 @@ manyOf self size = cond (leb size 128) (size / 2 + selfCount self) 0
 -- the call from the start, for an image, the opened scopes, self and the list
 unfoldable pub startCall : List ℕ → ℕ → SelfParam → List ℕ → ParamsCalled
 startCall image opened self list =
-    paramsCall image list self (unbound image) (encode (startState opened)) (zeros 512) (countsOf (startState opened)) (record { 0 = 0 })
+    paramsCall image list self (unbound image) (encode (startState opened)) (countsOf (startState opened)) (record { 0 = 0 })
 
 -- what the call is handed at the start
 pub record Starts (image : List ℕ) (opened : ℕ) (m : List ℕ) (b : Body) (v : List ℕ) (c : Counts) : Type 0 where

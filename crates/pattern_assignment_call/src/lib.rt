@@ -42,7 +42,7 @@ fn assignment_step(
     current: BasicBlockId,
     place: Place,
 ) -> MatchCall
-    requires { ⌜ Taken (now image) tables (bodyOf (now body)) counts × (matchHolds (namedIn (now image)) (now bindings) (bodyOf (now body) .blocks) (now visits) counts (p .0) current OptBlock.None place ≡ true) ⌝ }
+    requires { ⌜ Taken (now image) tables (bodyOf (now body)) counts × (matchHolds (namedIn (now image)) (now bindings) (bodyOf (now body) .blocks) counts (p .0) current OptBlock.None place ≡ true) ⌝ }
     ensures { λ r. ⌜ Visits (bodyOf (now (body .entry))) (now (visits .entry)) counts (walked (patternMatchAssignment (now (image .entry)) (now (bindings .entry)) (tree (now (image .entry)) (p .0)) (startCtx (bodyOf (now (body .entry))) counts) current place)) r (bodyOf (now (body .exit))) (now (visits .exit)) ⌝ }
 {
     let row = block_row(body, current);
@@ -92,7 +92,6 @@ pub fn pattern_match_assignment(
                 tables,
                 bindings,
                 body,
-                visits,
                 counts,
                 p,
                 current,

@@ -22,30 +22,26 @@ use Rattle.pattern_matching.specs.Walking.{Ctx, Out, Walk}
 use Rattle.pattern_walk_spec.specs.declared.Lowered.{Lowered}
 use Rattle.pattern_walk_spec.specs.Answers.{Walks}
 use Rattle.pattern_walk_laws.specs.Walk.{Walkable}
-use Rattle.handed.proofs.Handing.{Handed, pattern-there, visits-sized, bindings-sized, start-there, else-there, root-there, elems-within}
+use Rattle.handed.proofs.Handing.{Handed, pattern-there, bindings-sized, start-there, else-there, root-there, elems-within}
 use Rattle.pattern_calls_spec.specs.declared.MatchCall.{MatchCall}
 use Rattle.pattern_calls_spec.specs.Calls.{namedIn, walked, startCtx, Visits}
 use Rattle.pattern_calls_spec.proofs.Starting.{visits-cleared, cleared-now, placed-of}
 use Rattle.pattern_calls_spec.proofs.Stepping.{accepted, refused-back}
 
 -- image, body and numbers were looked at
-module _ {image : List ℕ} {tables : Tables} {b : Body} {c : Counts} (bindings visits : List ℕ) (p : ℕ) (current : BasicBlockId) (els : OptBlock) (place : Place) (T : Taken image tables b c) (H : Handed (namedIn image) bindings (b .blocks) visits c p current els place) where
+module _ {image : List ℕ} {tables : Tables} {b : Body} {c : Counts} (bindings : List ℕ) (p : ℕ) (current : BasicBlockId) (els : OptBlock) (place : Place) (T : Taken image tables b c) (H : Handed (namedIn image) bindings (b .blocks) c p current els place) where
   -- the block where the walk starts is there
   starts : current .0 < c .blocks
-  starts = start-there (namedIn image) bindings (b .blocks) visits c p current els place H
+  starts = start-there (namedIn image) bindings (b .blocks) c p current els place H
 
   -- its row may be read
   pub row-asked : current .0 < 512
   row-asked = omega (arith, starts, taken-sized image b c T .block-count)
 
-  -- b₁ and v₁ are body and visits after zeros were written above the counts, and in the visits' table
-  module _ {b₁ : Body} {v₁ : List ℕ} (blank : b₁ ≡ encode (decode b c)) (unseen : v₁ ≡ cleared visits 0) where
+  -- b₁ is the body after zeros were written above the counts
+  module _ {b₁ : Body} (blank : b₁ ≡ encode (decode b c)) where
     ready-body : Cleared b c b₁
     ready-body = cleared-now T blank
-
-    -- no pattern is visited yet
-    no-visit : v₁ ≡ zeros 512
-    no-visit = visits-cleared visits (visits-sized (namedIn image) bindings (b .blocks) visits c p current els place H) unseen
 
     -- the pattern is there, and a walk may start
     pub walk-asked : Walkable image tables bindings b₁ c current els place × (p < patternCount image)
@@ -53,26 +49,32 @@ module _ {image : List ℕ} {tables : Tables} {b : Body} {c : Counts} (bindings 
       record {
         image-valid = T .valid-image;
         whole = T .whole;
-        locals-of-bindings = bindings-sized (namedIn image) bindings (b .blocks) visits c p current els place H;
+        locals-of-bindings = bindings-sized (namedIn image) bindings (b .blocks) c p current els place H;
         ready = ready-body .ready;
-        begins = record { start = starts; else = else-there (namedIn image) bindings (b .blocks) visits c p current els place H };
+        begins = record { start = starts; else = else-there (namedIn image) bindings (b .blocks) c p current els place H };
         placed = placed-of b₁ place T ready-body
-            (root-there (namedIn image) bindings (b .blocks) visits c p current els place H)
-            (elems-within (namedIn image) bindings (b .blocks) visits c p current els place H);
+            (root-there (namedIn image) bindings (b .blocks) c p current els place H)
+            (elems-within (namedIn image) bindings (b .blocks) c p current els place H);
       },
-      pattern-there (namedIn image) bindings (b .blocks) visits c p current els place H,
+      pattern-there (namedIn image) bindings (b .blocks) c p current els place H,
     )
 
-    -- the walk gives `defined`
-    module _ (defined : Ctx → Walk Out) {b₂ : Body} {v₂ : List ℕ} where
-      -- and is accepted
-      pub matched : {c′ : Counts} {then : BasicBlockId} {els′ : OptBlock} → Walks defined c current els b₁ v₁ (Lowered.Done c′ then els′) b₂ v₂ →
-          Visits b visits c (walked (defined (startCtx b c))) (MatchCall.Matched c′ then els′) b₂ v₂
-      matched W = accepted defined ready-body no-visit W
+    -- v₁ lies in the visits' table after zeros were written there
+    module _ (visits : List ℕ) {v₁ : List ℕ} (sized : length visits ≡ 512) (unseen : v₁ ≡ cleared visits 0) where
+      -- no pattern is visited yet
+      no-visit : v₁ ≡ zeros 512
+      no-visit = visits-cleared visits sized unseen
 
-      -- or refused: the row of the block is put back, and zeros are written again
-      pub not-matched : {err : MirLowerError} {q : PatId} {row v₄ : List ℕ} {b₃ b₄ : Body} → Walks defined c current els b₁ v₁ (Lowered.Refused err q) b₂ v₂ →
-          length (b₂ .blocks) ≡ blockWords → length v₂ ≡ 512 → row ≡ rowAt blockWidth (b .blocks) (current .0) →
-          b₃ ≡ withBlocks b₂ (stored (b₂ .blocks) (blockWidth * current .0) row) → b₄ ≡ encode (decode b₃ c) → v₄ ≡ cleared v₂ 0 →
-          Visits b visits c (walked (defined (startCtx b c))) (MatchCall.Refused err q) b₄ v₄
-      not-matched W long seen is-row back is unseen₄ = refused-back defined ready-body no-visit W starts long is-row back is (visits-cleared v₂ seen unseen₄)
+      -- the walk gives `defined`
+      module _ (defined : Ctx → Walk Out) {b₂ : Body} {v₂ : List ℕ} where
+        -- and is accepted
+        pub matched : {c′ : Counts} {then : BasicBlockId} {els′ : OptBlock} → Walks defined c current els b₁ v₁ (Lowered.Done c′ then els′) b₂ v₂ →
+            Visits b visits c (walked (defined (startCtx b c))) (MatchCall.Matched c′ then els′) b₂ v₂
+        matched W = accepted defined ready-body no-visit W
+
+        -- or refused: the row of the block is put back, and zeros are written again
+        pub not-matched : {err : MirLowerError} {q : PatId} {row v₄ : List ℕ} {b₃ b₄ : Body} → Walks defined c current els b₁ v₁ (Lowered.Refused err q) b₂ v₂ →
+            length (b₂ .blocks) ≡ blockWords → length v₂ ≡ 512 → row ≡ rowAt blockWidth (b .blocks) (current .0) →
+            b₃ ≡ withBlocks b₂ (stored (b₂ .blocks) (blockWidth * current .0) row) → b₄ ≡ encode (decode b₃ c) → v₄ ≡ cleared v₂ 0 →
+            Visits b visits c (walked (defined (startCtx b c))) (MatchCall.Refused err q) b₄ v₄
+        not-matched W long seen is-row back is unseen₄ = refused-back defined ready-body no-visit W starts long is-row back is (visits-cleared v₂ seen unseen₄)

@@ -26,10 +26,10 @@ named-same : {image : List ℕ} {tables : Tables} → Whole image tables → nam
 named-same W = λ i. record { variants = W .variant-count i; patterns = W .pattern-count i; bindings = W .binding-count i }
 
 -- the test of what the call is handed, by the tables
-pub handed-by : {image : List ℕ} {tables : Tables} (bindings blocks visits : List ℕ) (c : Counts) (p : ℕ) (current : BasicBlockId) (els : OptBlock) (place : Place) {r : Bool} →
-    Whole image tables → r ≡ matchHolds (namedBy tables) bindings blocks visits c p current els place → matchHolds (namedIn image) bindings blocks visits c p current els place ≡ r
-handed-by bindings blocks visits c p current els place W is =
-    sym (is ∙ ap (λ (n : Named). matchHolds n bindings blocks visits c p current els place) (named-same W))
+pub handed-by : {image : List ℕ} {tables : Tables} (bindings blocks : List ℕ) (c : Counts) (p : ℕ) (current : BasicBlockId) (els : OptBlock) (place : Place) {r : Bool} →
+    Whole image tables → r ≡ matchHolds (namedBy tables) bindings blocks c p current els place → matchHolds (namedIn image) bindings blocks c p current els place ≡ r
+handed-by bindings blocks c p current els place W is =
+    sym (is ∙ ap (λ (n : Named). matchHolds n bindings blocks c p current els place) (named-same W))
 
 pub self-by : {image : List ℕ} {tables : Tables} (bindings blocks : List ℕ) (c : Counts) (binding : ℕ) (current : BasicBlockId) (l : ℕ) {r : Bool} →
     Whole image tables → r ≡ selfHolds (namedBy tables) bindings blocks c binding current l → selfHolds (namedIn image) bindings blocks c binding current l ≡ r

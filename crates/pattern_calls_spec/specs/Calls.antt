@@ -42,15 +42,15 @@ abbrev pub startCtx : Body → Counts → Ctx
 startCtx b c = ctxOf b c (zeros 512)
 
 -- `pattern_match`
-unfoldable pub patternMatchCall : List ℕ → List ℕ → Body → List ℕ → Counts → ℕ → BasicBlockId → OptBlock → Place → Called
-patternMatchCall image bindings b visits c p current els place =
-    call image b c (matchHolds (namedIn image) bindings (b .blocks) visits c p current els place)
+unfoldable pub patternMatchCall : List ℕ → List ℕ → Body → Counts → ℕ → BasicBlockId → OptBlock → Place → Called
+patternMatchCall image bindings b c p current els place =
+    call image b c (matchHolds (namedIn image) bindings (b .blocks) c p current els place)
     (patternMatch image bindings (tree image p) (startCtx b c) current els place)
 
 -- `pattern_match_assignment`: it has no else
-unfoldable pub patternMatchAssignmentCall : List ℕ → List ℕ → Body → List ℕ → Counts → ℕ → BasicBlockId → Place → Called
-patternMatchAssignmentCall image bindings b visits c p current place =
-    call image b c (matchHolds (namedIn image) bindings (b .blocks) visits c p current OptBlock.None place)
+unfoldable pub patternMatchAssignmentCall : List ℕ → List ℕ → Body → Counts → ℕ → BasicBlockId → Place → Called
+patternMatchAssignmentCall image bindings b c p current place =
+    call image b c (matchHolds (namedIn image) bindings (b .blocks) c p current OptBlock.None place)
     (patternMatchAssignment image bindings (tree image p) (startCtx b c) current place)
 
 -- `match_self_param`: it visits no pattern
@@ -141,11 +141,11 @@ pub record Visits (b : Body) (v : List ℕ) (c : Counts) (defined : Called) (r :
 
 -- The contracts, of what a call is handed, b and v being the body and the visits then, its answer r, and the body and the visits when it returns. `pattern_match`:
 abbrev pub MatchGives : List ℕ → List ℕ → Counts → ℕ → BasicBlockId → OptBlock → Place → Body → List ℕ → MatchCall → Body → List ℕ → Type 0
-MatchGives image bindings c p current els place b v = Visits b v c (patternMatchCall image bindings b v c p current els place)
+MatchGives image bindings c p current els place b v = Visits b v c (patternMatchCall image bindings b c p current els place)
 
 -- `pattern_match_assignment`
 abbrev pub AssignmentGives : List ℕ → List ℕ → Counts → ℕ → BasicBlockId → Place → Body → List ℕ → MatchCall → Body → List ℕ → Type 0
-AssignmentGives image bindings c p current place b v = Visits b v c (patternMatchAssignmentCall image bindings b v c p current place)
+AssignmentGives image bindings c p current place b v = Visits b v c (patternMatchAssignmentCall image bindings b c p current place)
 
 -- `match_self_param`
 abbrev pub SelfGives : List ℕ → List ℕ → Counts → ℕ → BasicBlockId → LocalId → Body → MatchCall → Body → Type 0

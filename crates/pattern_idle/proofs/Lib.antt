@@ -1,1 +1,2 @@
+mod Defaults
 pub mod Idling

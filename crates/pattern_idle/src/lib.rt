@@ -26,24 +26,9 @@ fn idle_in_check(kind: PatKind, b: u16) -> bool
     ensures { λ r. ⌜ r ≡ idleInCheck kind b ⌝ }
 {
     match kind {
-        PatKind::Missing => false,
-        PatKind::Rest => false,
-        PatKind::NotNull => false,
         PatKind::Wild => true,
-        PatKind::Tuple => false,
-        PatKind::Or => false,
-        PatKind::Record => false,
-        PatKind::Range => false,
-        PatKind::Slice => false,
-        PatKind::Path => false,
-        PatKind::Lit => false,
         PatKind::Bind => b == 65535,
-        PatKind::TupleStruct => false,
-        PatKind::Ref => false,
-        PatKind::Expr => false,
-        PatKind::Box => false,
-        PatKind::Deref => false,
-        PatKind::Unknown => false,
+        _ => false,
     }
 }
 
@@ -52,12 +37,8 @@ fn names_constant(kind: PathKind) -> bool
     ensures { λ r. ⌜ r ≡ namesConstant kind ⌝ }
 {
     match kind {
-        PathKind::Unresolved => false,
-        PathKind::Variant => false,
-        PathKind::Local => false,
         PathKind::Constant => true,
-        PathKind::Other => false,
-        PathKind::Unknown => false,
+        _ => false,
     }
 }
 
@@ -67,24 +48,11 @@ fn idle_beyond_check(image: &[u8], tables: Tables, kind: PatKind, row: PatRow) -
     ensures { λ r. ⌜ r ≡ idleBeyondCheck kind (now (image .entry)) row ⌝ }
 {
     match kind {
-        PatKind::Missing => false,
-        PatKind::Rest => false,
-        PatKind::NotNull => false,
         PatKind::Wild => true,
-        PatKind::Tuple => false,
-        PatKind::Or => false,
-        PatKind::Record => false,
         PatKind::Range => true,
-        PatKind::Slice => false,
         PatKind::Path => names_constant(path_kind(row.a)),
         PatKind::Lit => is_literal(operand_kind(operand_at(image, tables, row.a).kind)),
-        PatKind::Bind => false,
-        PatKind::TupleStruct => false,
-        PatKind::Ref => false,
-        PatKind::Expr => false,
-        PatKind::Box => false,
-        PatKind::Deref => false,
-        PatKind::Unknown => false,
+        _ => false,
     }
 }
 

@@ -17,6 +17,7 @@ use Rattle.image.specs.Patterns.{operandOrAbsent, pathHolds, patternShapeHolds}
 use Rattle.image.specs.Rows.{operandAt}
 use Rattle.image.specs.Rules.{isFlag}
 use Rattle.image.specs.Tables.{bindingCount}
+use Rattle.image.specs.Tree.{other}
 use Rattle.image.specs.Types.{operandOf}
 use Rattle.image.proofs.Bools.{and-left, and-right}
 use Rattle.place.specs.declared.Place.{Place}
@@ -80,13 +81,9 @@ module _ (image bindings : List ℕ) (t : Body) (c : Counts) (mode : MatchingMod
   path-compared is L = rw is L
 
   -- something else
-  pub path-other : {kind : PathKind} {r : Lowered} → kind ≡ PathKind.Other → Begins c current els → r ≡ otherPath c mode p current els → Path kind r t
-  unfolding pathLeaf pathPattern
-  path-other is h same = rw (is, same) (other-lowers c p current els t mode h)
-
-  pub path-unknown : {kind : PathKind} {r : Lowered} → kind ≡ PathKind.Unknown → Begins c current els → r ≡ otherPath c mode p current els → Path kind r t
-  unfolding pathLeaf pathPattern
-  path-unknown is h same = rw (is, same) (other-lowers c p current els t mode h)
+  pub path-other : (kind : PathKind) {r : Lowered} → pathPattern other image bindings (p .0) ty ≡ pathLeaf kind image bindings (p .0) ty b → Begins c current els → r ≡ otherPath c mode p current els → Path kind r t
+  unfolding pathPattern
+  path-other kind is h same = rw (← is, same) (other-lowers c p current els t mode h)
 
 -- what holds of a row, by the kind that is read
 module _ (image : List ℕ) (row : PatRow) {kind : PatKind} (read : kind ≡ patKind (row .kind)) (holds : patternShapeHolds (patKind (row .kind)) image row ≡ true) where

@@ -1,3 +1,4 @@
+mod Defaults
 mod Checking
 pub mod Leafing
 mod Ending

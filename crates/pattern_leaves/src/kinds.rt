@@ -25,7 +25,7 @@ ghost use mathlib.Core.Bool.{true};
 ghost use Prim.Native.Nat.{_<_};
 ghost use lib.ListN.{length};
 ghost use Rattle.image.specs.Tables.{Whole, typeCount, bindingCount};
-ghost use Rattle.image.specs.Kinds.{patKind, pathKind};
+ghost use Rattle.image.specs.Kinds.{patKind};
 ghost use Rattle.image.specs.Patterns.{pathHolds, patternShapeHolds};
 ghost use Rattle.image.specs.Valid.{valid};
 ghost use Rattle.pattern_walk_spec.specs.Answers.{Begins, Lowers};
@@ -39,31 +39,18 @@ pub fn is_leaf(kind: PatKind, path: PathKind) -> bool
     ensures { λ r. ⌜ r ≡ isLeaf kind path ⌝ }
 {
     match kind {
-        PatKind::Missing => true,
-        PatKind::Rest => true,
-        PatKind::NotNull => true,
-        PatKind::Wild => true,
-        PatKind::Tuple => false,
-        PatKind::Or => false,
-        PatKind::Record => false,
-        PatKind::Range => true,
-        PatKind::Slice => false,
+        PatKind::Tuple
+        | PatKind::Or
+        | PatKind::Record
+        | PatKind::Slice
+        | PatKind::Bind
+        | PatKind::TupleStruct
+        | PatKind::Ref => false,
         PatKind::Path => match path {
-            PathKind::Unresolved => true,
             PathKind::Variant => false,
-            PathKind::Local => true,
-            PathKind::Constant => true,
-            PathKind::Other => true,
-            PathKind::Unknown => true,
+            _ => true,
         },
-        PatKind::Lit => true,
-        PatKind::Bind => false,
-        PatKind::TupleStruct => false,
-        PatKind::Ref => false,
-        PatKind::Expr => true,
-        PatKind::Box => true,
-        PatKind::Deref => true,
-        PatKind::Unknown => true,
+        _ => true,
     }
 }
 
@@ -114,8 +101,7 @@ fn path_leaf(
             els,
             place,
         ),
-        PathKind::Other => other_path(counts, mode, p, current, els),
-        PathKind::Unknown => other_path(counts, mode, p, current, els),
+        _ => other_path(counts, mode, p, current, els),
     }
 }
 
@@ -154,13 +140,7 @@ pub fn pattern_match_leaf(
     ensures { λ r. ⌜ Lowers (λ ctx. leafPattern (patKind (row .kind)) (now (image .entry)) (now (bindings .entry)) (p .0) row mode ctx current els place) counts current els (bodyOf (now (body .entry))) r (bodyOf (now (body .exit))) ⌝ }
 {
     match pat_kind(row.kind) {
-        PatKind::Missing => Lowered::Refused(MirLowerError::IncompletePattern, p),
-        PatKind::Rest => Lowered::Refused(MirLowerError::IncompletePattern, p),
-        PatKind::NotNull => Lowered::Refused(MirLowerError::IncompletePattern, p),
         PatKind::Wild => Lowered::Done(counts, current, els),
-        PatKind::Tuple => Lowered::Refused(MirLowerError::IncompletePattern, p),
-        PatKind::Or => Lowered::Refused(MirLowerError::IncompletePattern, p),
-        PatKind::Record => Lowered::Refused(MirLowerError::IncompletePattern, p),
         PatKind::Range => pattern_match_range(
             image,
             tables,
@@ -176,7 +156,6 @@ pub fn pattern_match_leaf(
             els,
             place,
         ),
-        PatKind::Slice => Lowered::Refused(MirLowerError::IncompletePattern, p),
         PatKind::Path => path_leaf(
             image,
             tables,
@@ -205,12 +184,9 @@ pub fn pattern_match_leaf(
             els,
             place,
         ),
-        PatKind::Bind => Lowered::Refused(MirLowerError::IncompletePattern, p),
-        PatKind::TupleStruct => Lowered::Refused(MirLowerError::IncompletePattern, p),
-        PatKind::Ref => Lowered::Refused(MirLowerError::IncompletePattern, p),
         PatKind::Expr => Lowered::Refused(MirLowerError::Expr, p),
         PatKind::Box => Lowered::Refused(MirLowerError::NotSupported, p),
         PatKind::Deref => Lowered::Refused(MirLowerError::NotSupported, p),
-        PatKind::Unknown => Lowered::Refused(MirLowerError::IncompletePattern, p),
+        _ => Lowered::Refused(MirLowerError::IncompletePattern, p),
     }
 }

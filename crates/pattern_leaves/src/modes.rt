@@ -143,11 +143,9 @@ pub fn alternatives_end(
         set_terminator(body, left, Terminator::Unreachable);
         return Lowered::Done(counts, join, els);
     }
-    match else_block(counts, els) {
-        NewBlock::Full => Lowered::Refused(MirLowerError::Limit, p),
-        NewBlock::Block(c1, other) => {
-            set_goto(body, left, other);
-            Lowered::Done(c1, join, OptBlock::Some(other))
-        }
-    }
+    let NewBlock::Block(c1, other) = else_block(counts, els) else {
+        return Lowered::Refused(MirLowerError::Limit, p);
+    };
+    set_goto(body, left, other);
+    Lowered::Done(c1, join, OptBlock::Some(other))
 }

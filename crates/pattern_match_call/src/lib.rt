@@ -40,7 +40,7 @@ fn match_step(
     els: OptBlock,
     place: Place,
 ) -> MatchCall
-    requires { ⌜ Taken (now image) tables (bodyOf (now body)) counts × (matchHolds (namedIn (now image)) (now bindings) (bodyOf (now body) .blocks) (now visits) counts (p .0) current els place ≡ true) ⌝ }
+    requires { ⌜ Taken (now image) tables (bodyOf (now body)) counts × (matchHolds (namedIn (now image)) (now bindings) (bodyOf (now body) .blocks) counts (p .0) current els place ≡ true) ⌝ }
     ensures { λ r. ⌜ Visits (bodyOf (now (body .entry))) (now (visits .entry)) counts (walked (patternMatch (now (image .entry)) (now (bindings .entry)) (tree (now (image .entry)) (p .0)) (startCtx (bodyOf (now (body .entry))) counts) current els place)) r (bodyOf (now (body .exit))) (now (visits .exit)) ⌝ }
 {
     let row = block_row(body, current);
@@ -86,17 +86,7 @@ pub fn pattern_match(
         Opened::BadImage => MatchCall::BadImage,
         Opened::BadCall => MatchCall::BadCall,
         Opened::Image(tables) => {
-            if !match_holds(
-                tables,
-                bindings,
-                body,
-                visits,
-                counts,
-                p,
-                current,
-                els,
-                place,
-            ) {
+            if !match_holds(tables, bindings, body, counts, p, current, els, place) {
                 return MatchCall::BadCall;
             }
             match_step(

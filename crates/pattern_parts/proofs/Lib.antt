@@ -1,3 +1,4 @@
+mod Defaults
 mod Typing
 pub mod Needed
 mod Filling

@@ -67,11 +67,8 @@ fn needed_ty(ty: PlaceTy) -> NeededTy
     match ty {
         PlaceTy::Ty(t) => NeededTy::Ty(t),
         PlaceTy::Variant(e, _) => NeededTy::Ty(e),
-        PlaceTy::Part(_) => NeededTy::Other,
-        PlaceTy::Bool => NeededTy::Other,
-        PlaceTy::Usize => NeededTy::Other,
-        PlaceTy::I128 => NeededTy::Other,
         PlaceTy::Inapplicable => NeededTy::Inapplicable,
+        _ => NeededTy::Other,
     }
 }
 
@@ -86,16 +83,8 @@ pub fn tuple_at(image: &[u8], tables: Tables, ty: PlaceTy) -> TupleAt
         NeededTy::Ty(t) => {
             let row = type_at(image, tables, t);
             match type_kind(row.kind) {
-                TypeKind::Integer => TupleAt::Refused(MirLowerError::TypeError(1)),
-                TypeKind::Bool => TupleAt::Refused(MirLowerError::TypeError(1)),
-                TypeKind::Char => TupleAt::Refused(MirLowerError::TypeError(1)),
-                TypeKind::Str => TupleAt::Refused(MirLowerError::TypeError(1)),
                 TypeKind::Tuple => TupleAt::Fields(row.b),
-                TypeKind::Adt => TupleAt::Refused(MirLowerError::TypeError(1)),
-                TypeKind::Reference => TupleAt::Refused(MirLowerError::TypeError(1)),
-                TypeKind::Array => TupleAt::Refused(MirLowerError::TypeError(1)),
-                TypeKind::Slice => TupleAt::Refused(MirLowerError::TypeError(1)),
-                TypeKind::Unknown => TupleAt::Refused(MirLowerError::TypeError(1)),
+                _ => TupleAt::Refused(MirLowerError::TypeError(1)),
             }
         }
     }
@@ -110,16 +99,8 @@ pub fn reference_at(image: &[u8], tables: Tables, ty: PlaceTy) -> ReferenceAt
         NeededTy::Inapplicable => ReferenceAt::Refused(MirLowerError::PlaceType),
         NeededTy::Other => ReferenceAt::Refused(MirLowerError::TypeError(3)),
         NeededTy::Ty(t) => match type_kind(type_at(image, tables, t).kind) {
-            TypeKind::Integer => ReferenceAt::Refused(MirLowerError::TypeError(3)),
-            TypeKind::Bool => ReferenceAt::Refused(MirLowerError::TypeError(3)),
-            TypeKind::Char => ReferenceAt::Refused(MirLowerError::TypeError(3)),
-            TypeKind::Str => ReferenceAt::Refused(MirLowerError::TypeError(3)),
-            TypeKind::Tuple => ReferenceAt::Refused(MirLowerError::TypeError(3)),
-            TypeKind::Adt => ReferenceAt::Refused(MirLowerError::TypeError(3)),
             TypeKind::Reference => ReferenceAt::Reference,
-            TypeKind::Array => ReferenceAt::Refused(MirLowerError::TypeError(3)),
-            TypeKind::Slice => ReferenceAt::Refused(MirLowerError::TypeError(3)),
-            TypeKind::Unknown => ReferenceAt::Refused(MirLowerError::TypeError(3)),
+            _ => ReferenceAt::Refused(MirLowerError::TypeError(3)),
         },
     }
 }
@@ -137,8 +118,7 @@ fn variant_of(kind: AdtKind, from: u16, count: u16, v: u16) -> AdtAt
     match kind {
         AdtKind::Struct => AdtAt::Struct,
         AdtKind::Enum => AdtAt::Enum,
-        AdtKind::Union => AdtAt::Refused(MirLowerError::TypeError(6)),
-        AdtKind::Unknown => AdtAt::Refused(MirLowerError::TypeError(6)),
+        _ => AdtAt::Refused(MirLowerError::TypeError(6)),
     }
 }
 
@@ -153,16 +133,8 @@ pub fn adt_at(image: &[u8], tables: Tables, ty: PlaceTy, v: u16) -> AdtAt
         NeededTy::Ty(t) => {
             let row = type_at(image, tables, t);
             match type_kind(row.kind) {
-                TypeKind::Integer => AdtAt::Refused(MirLowerError::TypeError(4)),
-                TypeKind::Bool => AdtAt::Refused(MirLowerError::TypeError(4)),
-                TypeKind::Char => AdtAt::Refused(MirLowerError::TypeError(4)),
-                TypeKind::Str => AdtAt::Refused(MirLowerError::TypeError(4)),
-                TypeKind::Tuple => AdtAt::Refused(MirLowerError::TypeError(4)),
                 TypeKind::Adt => variant_of(adt_kind(row.c), row.a, row.b, v),
-                TypeKind::Reference => AdtAt::Refused(MirLowerError::TypeError(4)),
-                TypeKind::Array => AdtAt::Refused(MirLowerError::TypeError(4)),
-                TypeKind::Slice => AdtAt::Refused(MirLowerError::TypeError(4)),
-                TypeKind::Unknown => AdtAt::Refused(MirLowerError::TypeError(4)),
+                _ => AdtAt::Refused(MirLowerError::TypeError(4)),
             }
         }
     }

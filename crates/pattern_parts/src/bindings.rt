@@ -45,10 +45,9 @@ fn binding_rvalue(how: BindingMode) -> PlaceRvalue
     ensures { λ r. ⌜ r ≡ bindingRvalue how ⌝ }
 {
     match how {
-        BindingMode::Value => PlaceRvalue::Copy,
         BindingMode::Ref => PlaceRvalue::Ref,
         BindingMode::RefMut => PlaceRvalue::Mut,
-        BindingMode::Unknown => PlaceRvalue::Copy,
+        _ => PlaceRvalue::Copy,
     }
 }
 
@@ -72,17 +71,19 @@ pub fn pattern_match_binding(
         BoundLocal::Refused(e) => Lowered::Refused(e, q),
         BoundLocal::Local(l) => match push_storage_live_for_local(body, counts, l, current) {
             Stepped::Refused(e) => Lowered::Refused(e, p),
-            Stepped::Now(c1) => match push_assignment(
-                body,
-                c1,
-                current,
-                l,
-                binding_rvalue(how),
-                place,
-            ) {
-                Counted::Full => Lowered::Refused(MirLowerError::Limit, p),
-                Counted::Now(c2) => Lowered::Done(c2, current, els),
-            },
+            Stepped::Now(c1) => {
+                let Counted::Now(c2) = push_assignment(
+                    body,
+                    c1,
+                    current,
+                    l,
+                    binding_rvalue(how),
+                    place,
+                ) else {
+                    return Lowered::Refused(MirLowerError::Limit, p);
+                };
+                Lowered::Done(c2, current, els)
+            }
         },
     }
 }
@@ -107,17 +108,19 @@ pub fn local_path(
         MatchingMode::Bind => Lowered::Done(counts, current, els),
         MatchingMode::Assign => match binding_local(bindings, b) {
             BoundLocal::Refused(e) => Lowered::Refused(e, p),
-            BoundLocal::Local(l) => match push_assignment(
-                body,
-                counts,
-                current,
-                l,
-                PlaceRvalue::Copy,
-                place,
-            ) {
-                Counted::Full => Lowered::Refused(MirLowerError::Limit, p),
-                Counted::Now(c1) => Lowered::Done(c1, current, els),
-            },
+            BoundLocal::Local(l) => {
+                let Counted::Now(c1) = push_assignment(
+                    body,
+                    counts,
+                    current,
+                    l,
+                    PlaceRvalue::Copy,
+                    place,
+                ) else {
+                    return Lowered::Refused(MirLowerError::Limit, p);
+                };
+                Lowered::Done(c1, current, els)
+            }
         },
     }
 }
@@ -126,24 +129,8 @@ pub fn is_bind(kind: PatKind) -> bool
     ensures { λ r. ⌜ r ≡ isBind kind ⌝ }
 {
     match kind {
-        PatKind::Missing => false,
-        PatKind::Rest => false,
-        PatKind::NotNull => false,
-        PatKind::Wild => false,
-        PatKind::Tuple => false,
-        PatKind::Or => false,
-        PatKind::Record => false,
-        PatKind::Range => false,
-        PatKind::Slice => false,
-        PatKind::Path => false,
-        PatKind::Lit => false,
         PatKind::Bind => true,
-        PatKind::TupleStruct => false,
-        PatKind::Ref => false,
-        PatKind::Expr => false,
-        PatKind::Box => false,
-        PatKind::Deref => false,
-        PatKind::Unknown => false,
+        _ => false,
     }
 }
 

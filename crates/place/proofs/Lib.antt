@@ -1,3 +1,4 @@
+mod Defaults
 pub mod Projecting
 pub mod Fields
 pub mod Ranges

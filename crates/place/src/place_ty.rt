@@ -13,9 +13,10 @@ use image::rows::type_at;
 use image::rows::variant_at;
 ghost use mathlib.Core.Path.{_≡_};
 ghost use mathlib.Core.Bool.{true};
-ghost use Prim.Native.Nat.{_+_, _<_, _≤_};
+ghost use mathlib.Core.List.{List};
+ghost use Prim.Native.Nat.{ℕ, _+_, _<_, _≤_};
 ghost use Rattle.image.specs.Tables.{Whole, typeCount, variantCount, listCount};
-ghost use Rattle.image.specs.Lists.{upFrom, member};
+ghost use Rattle.image.specs.Lists.{upFrom};
 ghost use Rattle.image.specs.Rules.{listed, typeShapeHolds};
 ghost use Rattle.image.specs.Types.{shapeBy, variantOf};
 ghost use Rattle.image.specs.Valid.{valid};
@@ -56,33 +57,24 @@ fn variant_field(image: &[u8], tables: Tables, v: u16, i: u16) -> PlaceTy
 }
 
 // What a reference refers to.
-fn deref_ty(image: &[u8], row: TypeRow, kind: TypeKind) -> PlaceTy
-    ensures { λ r. ⌜ r ≡ derefTy (shapeBy kind (now (image .entry)) row) ⌝ }
+fn deref_ty(row: TypeRow, kind: TypeKind) -> PlaceTy
+    ensures { λ r. ⌜ ((image : List ℕ) → r ≡ derefTy (shapeBy kind image row)) ⌝ }
 {
     match kind {
-        TypeKind::Integer => PlaceTy::Inapplicable,
-        TypeKind::Bool => PlaceTy::Inapplicable,
-        TypeKind::Char => PlaceTy::Inapplicable,
-        TypeKind::Str => PlaceTy::Inapplicable,
-        TypeKind::Tuple => PlaceTy::Inapplicable,
-        TypeKind::Adt => PlaceTy::Inapplicable,
         TypeKind::Reference => PlaceTy::Ty(row.a),
-        TypeKind::Array => PlaceTy::Inapplicable,
-        TypeKind::Slice => PlaceTy::Inapplicable,
-        TypeKind::Unknown => PlaceTy::Inapplicable,
+        _ => PlaceTy::Inapplicable,
     }
 }
 
 // A field of a struct or a union, whose one variant is v.
-fn adt_field_ty(image: &[u8], tables: Tables, kind: AdtKind, v: u16, count: u16, i: u16) -> PlaceTy
-    requires { ⌜ Whole (now image) tables × (valid (now image) ≡ true) × (0 < count) × (v + count ≤ variantCount (now image)) ⌝ }
-    ensures { λ r. ⌜ r ≡ adtFieldTy kind (now (image .entry)) (upFrom v count) i ⌝ }
+fn adt_field_ty(image: &[u8], tables: Tables, kind: AdtKind, v: u16, i: u16) -> PlaceTy
+    requires { ⌜ Whole (now image) tables × (valid (now image) ≡ true) × (v < variantCount (now image)) ⌝ }
+    ensures { λ r. ⌜ ((count : ℕ) → 0 < count → r ≡ adtFieldTy kind (now (image .entry)) (upFrom v count) i) ⌝ }
 {
     match kind {
         AdtKind::Struct => variant_field(image, tables, v, i),
-        AdtKind::Enum => PlaceTy::Inapplicable,
         AdtKind::Union => variant_field(image, tables, v, i),
-        AdtKind::Unknown => PlaceTy::Inapplicable,
+        _ => PlaceTy::Inapplicable,
     }
 }
 
@@ -92,52 +84,31 @@ fn field_ty(image: &[u8], tables: Tables, row: TypeRow, kind: TypeKind, i: u16) 
     ensures { λ r. ⌜ r ≡ fieldTy (shapeBy kind (now (image .entry)) row) (now (image .entry)) i ⌝ }
 {
     match kind {
-        TypeKind::Integer => PlaceTy::Inapplicable,
-        TypeKind::Bool => PlaceTy::Inapplicable,
-        TypeKind::Char => PlaceTy::Inapplicable,
-        TypeKind::Str => PlaceTy::Inapplicable,
         TypeKind::Tuple => field_of(image, tables, row.a, row.b, i),
-        TypeKind::Adt => adt_field_ty(image, tables, adt_kind(row.c), row.a, row.b, i),
-        TypeKind::Reference => PlaceTy::Inapplicable,
-        TypeKind::Array => PlaceTy::Inapplicable,
-        TypeKind::Slice => PlaceTy::Inapplicable,
-        TypeKind::Unknown => PlaceTy::Inapplicable,
+        TypeKind::Adt => adt_field_ty(image, tables, adt_kind(row.c), row.a, i),
+        _ => PlaceTy::Inapplicable,
     }
 }
 
 // An element of an array or a slice.
-fn element_ty(image: &[u8], row: TypeRow, kind: TypeKind) -> PlaceTy
-    ensures { λ r. ⌜ r ≡ elementTy (shapeBy kind (now (image .entry)) row) ⌝ }
+fn element_ty(row: TypeRow, kind: TypeKind) -> PlaceTy
+    ensures { λ r. ⌜ ((image : List ℕ) → r ≡ elementTy (shapeBy kind image row)) ⌝ }
 {
     match kind {
-        TypeKind::Integer => PlaceTy::Inapplicable,
-        TypeKind::Bool => PlaceTy::Inapplicable,
-        TypeKind::Char => PlaceTy::Inapplicable,
-        TypeKind::Str => PlaceTy::Inapplicable,
-        TypeKind::Tuple => PlaceTy::Inapplicable,
-        TypeKind::Adt => PlaceTy::Inapplicable,
-        TypeKind::Reference => PlaceTy::Inapplicable,
         TypeKind::Array => PlaceTy::Ty(row.a),
         TypeKind::Slice => PlaceTy::Ty(row.a),
-        TypeKind::Unknown => PlaceTy::Inapplicable,
+        _ => PlaceTy::Inapplicable,
     }
 }
 
 // A part of the slice type s, or of an array.
-fn subslice_ty(image: &[u8], s: u16, row: TypeRow, kind: TypeKind) -> PlaceTy
-    ensures { λ r. ⌜ r ≡ subsliceTy s (shapeBy kind (now (image .entry)) row) ⌝ }
+fn subslice_ty(s: u16, row: TypeRow, kind: TypeKind) -> PlaceTy
+    ensures { λ r. ⌜ ((image : List ℕ) → r ≡ subsliceTy s (shapeBy kind image row)) ⌝ }
 {
     match kind {
-        TypeKind::Integer => PlaceTy::Inapplicable,
-        TypeKind::Bool => PlaceTy::Inapplicable,
-        TypeKind::Char => PlaceTy::Inapplicable,
-        TypeKind::Str => PlaceTy::Inapplicable,
-        TypeKind::Tuple => PlaceTy::Inapplicable,
-        TypeKind::Adt => PlaceTy::Inapplicable,
-        TypeKind::Reference => PlaceTy::Inapplicable,
         TypeKind::Array => PlaceTy::Part(row.a),
         TypeKind::Slice => PlaceTy::Ty(s),
-        TypeKind::Unknown => PlaceTy::Inapplicable,
+        _ => PlaceTy::Inapplicable,
     }
 }
 
@@ -158,28 +129,18 @@ fn adt_downcast_ty(kind: AdtKind, e: u16, v: u16, from: u16, count: u16) -> Plac
     ensures { λ r. ⌜ r ≡ adtDowncastTy kind e v (upFrom from count) ⌝ }
 {
     match kind {
-        AdtKind::Struct => PlaceTy::Inapplicable,
         AdtKind::Enum => enum_downcast_ty(e, v, from, count),
-        AdtKind::Union => PlaceTy::Inapplicable,
-        AdtKind::Unknown => PlaceTy::Inapplicable,
+        _ => PlaceTy::Inapplicable,
     }
 }
 
 // The variant v of the type e.
-fn downcast_ty(image: &[u8], e: u16, v: u16, row: TypeRow, kind: TypeKind) -> PlaceTy
-    ensures { λ r. ⌜ r ≡ downcastTy e v (shapeBy kind (now (image .entry)) row) ⌝ }
+fn downcast_ty(e: u16, v: u16, row: TypeRow, kind: TypeKind) -> PlaceTy
+    ensures { λ r. ⌜ ((image : List ℕ) → r ≡ downcastTy e v (shapeBy kind image row)) ⌝ }
 {
     match kind {
-        TypeKind::Integer => PlaceTy::Inapplicable,
-        TypeKind::Bool => PlaceTy::Inapplicable,
-        TypeKind::Char => PlaceTy::Inapplicable,
-        TypeKind::Str => PlaceTy::Inapplicable,
-        TypeKind::Tuple => PlaceTy::Inapplicable,
         TypeKind::Adt => adt_downcast_ty(adt_kind(row.c), e, v, row.a, row.b),
-        TypeKind::Reference => PlaceTy::Inapplicable,
-        TypeKind::Array => PlaceTy::Inapplicable,
-        TypeKind::Slice => PlaceTy::Inapplicable,
-        TypeKind::Unknown => PlaceTy::Inapplicable,
+        _ => PlaceTy::Inapplicable,
     }
 }
 
@@ -191,12 +152,12 @@ fn ty_projection(image: &[u8], tables: Tables, t: u16, elem: ProjectionElem) -> 
     let row = type_at(image, tables, t);
     let kind = type_kind(row.kind);
     match elem {
-        ProjectionElem::Deref => deref_ty(image, row, kind),
+        ProjectionElem::Deref => deref_ty(row, kind),
         ProjectionElem::Field(i) => field_ty(image, tables, row, kind, i),
-        ProjectionElem::Index(_) => element_ty(image, row, kind),
-        ProjectionElem::IndexFromEnd(_) => element_ty(image, row, kind),
-        ProjectionElem::Subslice(_, _) => subslice_ty(image, t, row, kind),
-        ProjectionElem::Downcast(v) => downcast_ty(image, t, v, row, kind),
+        ProjectionElem::Index(_) => element_ty(row, kind),
+        ProjectionElem::IndexFromEnd(_) => element_ty(row, kind),
+        ProjectionElem::Subslice(_, _) => subslice_ty(t, row, kind),
+        ProjectionElem::Downcast(v) => downcast_ty(t, v, row, kind),
         ProjectionElem::Unknown => PlaceTy::Inapplicable,
     }
 }
@@ -207,13 +168,8 @@ fn variant_projection(image: &[u8], tables: Tables, v: u16, elem: ProjectionElem
     ensures { λ r. ⌜ r ≡ variantProjection elem (now (image .entry)) v ⌝ }
 {
     match elem {
-        ProjectionElem::Deref => PlaceTy::Inapplicable,
         ProjectionElem::Field(i) => variant_field(image, tables, v, i),
-        ProjectionElem::Index(_) => PlaceTy::Inapplicable,
-        ProjectionElem::IndexFromEnd(_) => PlaceTy::Inapplicable,
-        ProjectionElem::Subslice(_, _) => PlaceTy::Inapplicable,
-        ProjectionElem::Downcast(_) => PlaceTy::Inapplicable,
-        ProjectionElem::Unknown => PlaceTy::Inapplicable,
+        _ => PlaceTy::Inapplicable,
     }
 }
 
@@ -222,13 +178,10 @@ fn part_projection(t: u16, elem: ProjectionElem) -> PlaceTy
     ensures { λ r. ⌜ r ≡ partProjection elem t ⌝ }
 {
     match elem {
-        ProjectionElem::Deref => PlaceTy::Inapplicable,
-        ProjectionElem::Field(_) => PlaceTy::Inapplicable,
         ProjectionElem::Index(_) => PlaceTy::Ty(t),
         ProjectionElem::IndexFromEnd(_) => PlaceTy::Ty(t),
         ProjectionElem::Subslice(_, _) => PlaceTy::Part(t),
-        ProjectionElem::Downcast(_) => PlaceTy::Inapplicable,
-        ProjectionElem::Unknown => PlaceTy::Inapplicable,
+        _ => PlaceTy::Inapplicable,
     }
 }
 
@@ -241,10 +194,7 @@ pub fn projection_ty(image: &[u8], tables: Tables, ty: PlaceTy, elem: Projection
         PlaceTy::Ty(t) => ty_projection(image, tables, t, elem),
         PlaceTy::Variant(_, v) => variant_projection(image, tables, v, elem),
         PlaceTy::Part(t) => part_projection(t, elem),
-        PlaceTy::Bool => PlaceTy::Inapplicable,
-        PlaceTy::Usize => PlaceTy::Inapplicable,
-        PlaceTy::I128 => PlaceTy::Inapplicable,
-        PlaceTy::Inapplicable => PlaceTy::Inapplicable,
+        _ => PlaceTy::Inapplicable,
     }
 }
 

@@ -15,7 +15,7 @@ clear-above-requires : tie.Need-clear-above-requires
 clear-above-requires c κs = counts-asked (c .before .before .before .before .before .before .before .before .before .pre)
 
 walk-params-requires : tie.Need-walk-params-requires
-walk-params-requires c κs = walk-asked (c .before .before .before .before .before .before .before .before .before .before .before .before .before .before .before .pre) (c .before .before .before .before .before .clear-above .ensures) (c .before .before .before .clear-from .ensures)
+walk-params-requires c κs = walk-asked (c .before .before .before .before .before .before .before .before .before .before .before .before .before .before .before .pre) (c .before .before .before .before .before .clear-above .ensures)
 
 put-back-requires : tie.Need-put-back-requires
 put-back-requires c κs = (search needs, row-asked (c .before .before .before .before .before .before .before .before .before .before .before .before .before .before .before .before .before .before .before .before .before .before .pre))
@@ -27,10 +27,10 @@ put-words-requires : tie.Need-put-words-requires
 put-words-requires c κs = omega (arith, c .before .before .before .before .before .before .before .before .before .before .before .before .before .walk-params .kept, save-asked (c .before .before .before .before .before .before .before .before .before .before .before .before .before .before .before .before .before .before .before .before .before .before .before .before .before .before .before .before .before .pre), c .before .before .before .before .before .before .before .before .before .before .before .before .before .before .before .before .before .before .before .before .before .saved-words .ensures .0)
 
 returns : tie.Need-returns
-returns c = lowered (c .before .before .before .before .before .before .before .before .before .before .before .before .before .before .before .before .before .before .before .before .before .before .pre) (c .before .before .before .before .before .before .before .before .before .before .before .before .clear-above .ensures) (c .before .before .before .before .before .before .before .before .before .before .clear-from .ensures) (c .lowered-answer .ensures) (rw (c .before .before .c .given .1) at (c .before .before .before .before .before .before .walk-params .ensures))
+returns c = lowered (c .before .before .before .before .before .before .before .before .before .before .before .before .before .before .before .before .before .before .before .before .before .before .pre) (c .before .before .before .before .before .before .before .before .before .before .before .before .clear-above .ensures) (c .before .before .before .before .before .before .before .before .before .before .before .before .before .before .before .before .before .before .before .before .before .before .args .visits .now) (search (needs, c .before .before .before .before .before .before .before .before .before .before .before .clear-from-arg .given)) (c .before .before .before .before .before .before .before .before .before .before .clear-from .ensures) (c .lowered-answer .ensures) (rw (c .before .before .c .given .1) at (c .before .before .before .before .before .before .walk-params .ensures))
 
 returns-2 : tie.Need-returns-2
-returns-2 c = not-lowered (c .before .before .before .before .before .before .before .before .before .before .before .before .before .before .before .before .before .before .before .before .before .before .before .before .before .before .before .before .before .before .before .before .pre) (c .before .before .before .before .before .before .before .before .before .before .before .before .before .before .before .before .before .before .before .before .before .before .clear-above .ensures) (c .before .before .before .before .before .before .before .before .before .before .before .before .before .before .before .before .before .before .before .before .clear-from .ensures) _ (rw (c .before .before .before .before .before .before .before .before .before .before .before .before .e .given .1) at (c .before .before .before .before .before .before .before .before .before .before .before .before .before .before .before .before .walk-params .ensures)) (lengths-of _ (search needs) .blocks) (search needs) (omega (arith, c .before .before .before .before .before .before .before .before .before .before .before .before .before .before .before .before .walk-params .kept)) (c .before .before .before .before .before .before .before .before .before .before .before .before .before .before .before .before .before .before .before .before .before .before .before .before .before .before .block-row .ensures) (c .before .before .before .before .before .before .before .before .before .before .before .before .before .before .before .before .before .before .before .before .before .before .before .before .saved-words .ensures .1) (c .before .before .before .before .before .before .before .before .before .put-back .ensures) (c .before .before .before .before .before .before .before .clear-above2 .ensures) (c .before .before .before .before .before .clear-from2 .ensures) (c .before .before .put-words .ensures)
+returns-2 c = not-lowered (c .before .before .before .before .before .before .before .before .before .before .before .before .before .before .before .before .before .before .before .before .before .before .before .before .before .before .before .before .before .before .before .before .pre) (c .before .before .before .before .before .before .before .before .before .before .before .before .before .before .before .before .before .before .before .before .before .before .clear-above .ensures) (c .before .before .before .before .before .before .before .before .before .before .before .before .before .before .before .before .before .before .before .before .before .before .before .before .before .before .before .before .before .before .before .before .args .visits .now) (search (needs, c .before .before .before .before .before .before .before .before .before .before .before .before .before .before .before .before .before .before .before .before .before .clear-from-arg .given)) (c .before .before .before .before .before .before .before .before .before .before .before .before .before .before .before .before .before .before .before .before .clear-from .ensures) _ (rw (c .before .before .before .before .before .before .before .before .before .before .before .before .e .given .1) at (c .before .before .before .before .before .before .before .before .before .before .before .before .before .before .before .before .walk-params .ensures)) (lengths-of _ (search needs) .blocks) (search needs) (omega (arith, c .before .before .before .before .before .before .before .before .before .before .before .before .before .before .before .before .walk-params .kept)) (c .before .before .before .before .before .before .before .before .before .before .before .before .before .before .before .before .before .before .before .before .before .before .before .before .before .before .block-row .ensures) (c .before .before .before .before .before .before .before .before .before .before .before .before .before .before .before .before .before .before .before .before .before .before .before .before .saved-words .ensures .1) (c .before .before .before .before .before .before .before .before .before .put-back .ensures) (c .before .before .before .before .before .before .before .clear-above2 .ensures) (c .before .before .before .before .before .clear-from2 .ensures) (c .before .before .put-words .ensures)
 
 pub params-step-spec : {M : Type 1} → statement M
 params-step-spec =

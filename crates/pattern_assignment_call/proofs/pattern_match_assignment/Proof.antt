@@ -8,18 +8,18 @@ use Rattle.pattern_calls_spec.specs.Calls.{patternMatchAssignmentCall}
 use Rattle.pattern_calls_spec.proofs.Opening.{handed-by, bad-image, bad-body, bad-number, goes-on}
 
 match-holds-requires : tie.Need-match-holds-requires
-match-holds-requires c κs = (search needs, taken-sized _ _ _ (taken _ _ _ (sym (c .before .before .before .before .before .tables .given .1) ∙ c .before .before .before .before .before .before .before .«open» .ensures)) .block-count)
+match-holds-requires c κs = (search needs, taken-sized _ _ _ (taken _ _ _ (sym (c .before .before .before .tables .given .1) ∙ c .before .before .before .before .before .«open» .ensures)) .block-count)
 
 returns : tie.Need-returns
 unfolding patternMatchAssignmentCall
 returns c =
-    let opened = sym (c .before .before .before .before .before .before .before .tables .given .1) ∙ c .before .before .before .before .before .before .before .before .before .«open» .ensures in
-    bad-number _ _ _ _ _ opened (handed-by _ _ _ _ _ _ _ _ (taken _ _ _ opened .whole) (c .before .match-holds .ensures) ∙ not-true (c .before .match-holds .result) (c .if1 .taken))
+    let opened = sym (c .before .before .before .before .before .tables .given .1) ∙ c .before .before .before .before .before .before .before .«open» .ensures in
+    bad-number _ _ _ _ _ opened (handed-by _ _ _ _ _ _ _ (taken _ _ _ opened .whole) (c .before .match-holds .ensures) ∙ not-true (c .before .match-holds .result) (c .if1 .taken))
 
 assignment-step-requires : tie.Need-assignment-step-requires
 assignment-step-requires c κs =
-    let T = taken _ _ _ (sym (c .before .before .before .before .before .before .before .before .before .tables .given .1) ∙ c .before .before .before .before .before .before .before .before .before .before .before .«open» .ensures) in
-    (T, handed-by _ _ _ _ _ _ _ _ (T .whole) (c .before .before .before .match-holds .ensures) ∙ not-false (c .before .before .before .match-holds .result) (c .before .before .if1 .left))
+    let T = taken _ _ _ (sym (c .before .before .before .before .before .before .before .tables .given .1) ∙ c .before .before .before .before .before .before .before .before .before .«open» .ensures) in
+    (T, handed-by _ _ _ _ _ _ _ (T .whole) (c .before .before .before .match-holds .ensures) ∙ not-false (c .before .before .before .match-holds .result) (c .before .before .if1 .left))
 
 returns-2 : tie.Need-returns-2
 unfolding patternMatchAssignmentCall
@@ -32,8 +32,8 @@ returns-3 c = bad-body _ _ _ _ _ (sym (c .enum-told2 .given .1) ∙ c .before .b
 returns-4 : tie.Need-returns-4
 unfolding patternMatchAssignmentCall
 returns-4 c =
-    let opened = sym (c .before .before .before .before .before .before .before .before .before .before .tables .given .1) ∙ c .before .before .before .before .before .before .before .before .before .before .before .before .«open» .ensures in
-    goes-on _ _ _ _ _ opened (handed-by _ _ _ _ _ _ _ _ (taken _ _ _ opened .whole) (c .before .before .before .before .match-holds .ensures) ∙ not-false (c .before .before .before .before .match-holds .result) (c .before .before .before .if1 .left)) (c .assignment-step .ensures)
+    let opened = sym (c .before .before .before .before .before .before .before .before .tables .given .1) ∙ c .before .before .before .before .before .before .before .before .before .before .«open» .ensures in
+    goes-on _ _ _ _ _ opened (handed-by _ _ _ _ _ _ _ (taken _ _ _ opened .whole) (c .before .before .before .before .match-holds .ensures) ∙ not-false (c .before .before .before .before .match-holds .result) (c .before .before .before .if1 .left)) (c .assignment-step .ensures)
 
 pub pattern-match-assignment-spec : {M : Type 1} → statement M
 pattern-match-assignment-spec =

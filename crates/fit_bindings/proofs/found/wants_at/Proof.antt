@@ -12,10 +12,10 @@ returns-2 : tie.Need-returns-2
 returns-2 c = rw (c .before .before .before .before .wanted .given .1) (at-same _ _ _ _ (c .if1 .left))
 
 returns-3 : tie.Need-returns-3
-returns-3 c = rw (c .before .wanted2 .given .1) (at-rest _ _ _ _ _)
+returns-3 c = rw (c .enum-told .given .1) (at-rest _ _ _ _ _)
 
 returns-4 : tie.Need-returns-4
-returns-4 c = rw (c .before .before .before .wanted3 .given .1) (at-binding _ _ _)
+returns-4 c = rw (c .before .before .before .wanted2 .given .1) (at-binding _ _ _)
 
 pub wants-at-spec : {M : Type 1} → statement M
 wants-at-spec =

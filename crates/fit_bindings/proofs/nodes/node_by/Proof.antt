@@ -14,6 +14,7 @@ use mathlib.Core.Path.{ap, sym, _∙_}
 use native.Mathlib.Omega.{arith}
 use Rattle.fit_bindings.specs.Nodes.{plain, alternativesNode, nodeBy}
 use Rattle.fit_bindings.proofs.Known.{record-place}
+use Rattle.fit_bindings.proofs.Defaults.{node-bare}
 
 add-listed : tie.Need-add-listed
 add-listed c =
@@ -55,48 +56,7 @@ unfolding nodeBy
 returns-7 c = rw (c .before .before .enum-told7 .given .1) (c .no-binding4 .ensures ∙ ap plain (c .before .one .ensures))
 
 returns-8 : tie.Need-returns-8
-unfolding nodeBy
-returns-8 c = rw (c .before .enum-told8 .given .1) (c .no-subpatterns .ensures)
-
-returns-9 : tie.Need-returns-9
-unfolding nodeBy
-returns-9 c = rw (c .before .enum-told9 .given .1) (c .no-subpatterns2 .ensures)
-
-returns-10 : tie.Need-returns-10
-unfolding nodeBy
-returns-10 c = rw (c .before .enum-told10 .given .1) (c .no-subpatterns3 .ensures)
-
-returns-11 : tie.Need-returns-11
-unfolding nodeBy
-returns-11 c = rw (c .before .enum-told11 .given .1) (c .no-subpatterns4 .ensures)
-
-returns-12 : tie.Need-returns-12
-unfolding nodeBy
-returns-12 c = rw (c .before .enum-told12 .given .1) (c .no-subpatterns5 .ensures)
-
-returns-13 : tie.Need-returns-13
-unfolding nodeBy
-returns-13 c = rw (c .before .enum-told13 .given .1) (c .no-subpatterns6 .ensures)
-
-returns-14 : tie.Need-returns-14
-unfolding nodeBy
-returns-14 c = rw (c .before .enum-told14 .given .1) (c .no-subpatterns7 .ensures)
-
-returns-15 : tie.Need-returns-15
-unfolding nodeBy
-returns-15 c = rw (c .before .enum-told15 .given .1) (c .no-subpatterns8 .ensures)
-
-returns-16 : tie.Need-returns-16
-unfolding nodeBy
-returns-16 c = rw (c .before .enum-told16 .given .1) (c .no-subpatterns9 .ensures)
-
-returns-17 : tie.Need-returns-17
-unfolding nodeBy
-returns-17 c = rw (c .before .enum-told17 .given .1) (c .no-subpatterns10 .ensures)
-
-returns-18 : tie.Need-returns-18
-unfolding nodeBy
-returns-18 c = rw (c .before .enum-told18 .given .1) (c .no-subpatterns11 .ensures)
+returns-8 c = c .no-subpatterns .ensures ∙ node-bare _ _ _ _ (c .before .match .keys8)
 
 pub node-by-spec : {M : Type 1} → statement M
 node-by-spec =
@@ -122,27 +82,6 @@ node-by-spec =
     (λ c. search needs)
     (λ c κs. search needs)
     (λ c κs. search needs)
-    (λ c. search needs)
-    (λ c κs. search needs)
-    (λ c. search needs)
-    (λ c κs. search needs)
-    (λ c. search needs)
-    (λ c κs. search needs)
-    (λ c. search needs)
-    (λ c κs. search needs)
-    (λ c. search needs)
-    (λ c κs. search needs)
-    (λ c. search needs)
-    (λ c κs. search needs)
-    (λ c. search needs)
-    (λ c κs. search needs)
-    (λ c. search needs)
-    (λ c κs. search needs)
-    (λ c. search needs)
-    (λ c κs. search needs)
-    (λ c. search needs)
-    (λ c κs. search needs)
-    (λ c. search needs)
     (λ c κs. search needs)
     returns
     returns-2
@@ -151,14 +90,4 @@ node-by-spec =
     returns-5
     returns-6
     returns-7
-    returns-8
-    returns-9
-    returns-10
-    returns-11
-    returns-12
-    returns-13
-    returns-14
-    returns-15
-    returns-16
-    returns-17
-    returns-18)
+    returns-8)

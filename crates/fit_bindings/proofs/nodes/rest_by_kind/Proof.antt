@@ -4,80 +4,15 @@ use Rattle.fit_bindings.proofs.nodes.rest_by_kind.Tie as tie
 use Rattle.fit_bindings.proofs.nodes.rest_by_kind.Reads as reads
 use Rattle.fit_bindings.proofs.nodes.rest_by_kind.Lts as lts
 use Rattle.fit_bindings.proofs.nodes.rest_of_type.Reads as rest-of-type-reads
-use mathlib.Core.Path.{refl}
 use Rattle.fit_bindings.specs.Nodes.{restByKind}
+use Rattle.fit_bindings.proofs.Defaults.{rest-unbound}
 
 returns : tie.Need-returns
 unfolding restByKind
 returns c = rw (c .before .enum-told .given .1) (c .rest-of-type .ensures)
 
 returns-2 : tie.Need-returns-2
-unfolding restByKind
-returns-2 c = rw (c .enum-told2 .given .1) refl
-
-returns-3 : tie.Need-returns-3
-unfolding restByKind
-returns-3 c = rw (c .enum-told3 .given .1) refl
-
-returns-4 : tie.Need-returns-4
-unfolding restByKind
-returns-4 c = rw (c .enum-told4 .given .1) refl
-
-returns-5 : tie.Need-returns-5
-unfolding restByKind
-returns-5 c = rw (c .enum-told5 .given .1) refl
-
-returns-6 : tie.Need-returns-6
-unfolding restByKind
-returns-6 c = rw (c .enum-told6 .given .1) refl
-
-returns-7 : tie.Need-returns-7
-unfolding restByKind
-returns-7 c = rw (c .enum-told7 .given .1) refl
-
-returns-8 : tie.Need-returns-8
-unfolding restByKind
-returns-8 c = rw (c .enum-told8 .given .1) refl
-
-returns-9 : tie.Need-returns-9
-unfolding restByKind
-returns-9 c = rw (c .enum-told9 .given .1) refl
-
-returns-10 : tie.Need-returns-10
-unfolding restByKind
-returns-10 c = rw (c .enum-told10 .given .1) refl
-
-returns-11 : tie.Need-returns-11
-unfolding restByKind
-returns-11 c = rw (c .enum-told11 .given .1) refl
-
-returns-12 : tie.Need-returns-12
-unfolding restByKind
-returns-12 c = rw (c .enum-told12 .given .1) refl
-
-returns-13 : tie.Need-returns-13
-unfolding restByKind
-returns-13 c = rw (c .enum-told13 .given .1) refl
-
-returns-14 : tie.Need-returns-14
-unfolding restByKind
-returns-14 c = rw (c .enum-told14 .given .1) refl
-
-returns-15 : tie.Need-returns-15
-unfolding restByKind
-returns-15 c = rw (c .enum-told15 .given .1) refl
-
-returns-16 : tie.Need-returns-16
-unfolding restByKind
-returns-16 c = rw (c .enum-told16 .given .1) refl
-
-returns-17 : tie.Need-returns-17
-unfolding restByKind
-returns-17 c = rw (c .enum-told17 .given .1) refl
-
-returns-18 : tie.Need-returns-18
-unfolding restByKind
-returns-18 c = rw (c .enum-told18 .given .1) refl
+returns-2 c = rest-unbound _ _ _ _ _ (c .match .keys2)
 
 pub rest-by-kind-spec : {M : Type 1} → statement M
 rest-by-kind-spec =
@@ -85,38 +20,5 @@ rest-by-kind-spec =
     (tie.spec
     (λ c. search needs)
     (λ c κs. search needs)
-    (λ c. search needs)
-    (λ c. search needs)
-    (λ c. search needs)
-    (λ c. search needs)
-    (λ c. search needs)
-    (λ c. search needs)
-    (λ c. search needs)
-    (λ c. search needs)
-    (λ c. search needs)
-    (λ c. search needs)
-    (λ c. search needs)
-    (λ c. search needs)
-    (λ c. search needs)
-    (λ c. search needs)
-    (λ c. search needs)
-    (λ c. search needs)
-    (λ c. search needs)
     returns
-    returns-2
-    returns-3
-    returns-4
-    returns-5
-    returns-6
-    returns-7
-    returns-8
-    returns-9
-    returns-10
-    returns-11
-    returns-12
-    returns-13
-    returns-14
-    returns-15
-    returns-16
-    returns-17
-    returns-18)
+    returns-2)

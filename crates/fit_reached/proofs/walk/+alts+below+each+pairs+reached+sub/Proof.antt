@@ -19,7 +19,7 @@ use Rattle.fit_reached.proofs.walk.+alts+below+each+pairs+reached+sub.T
 use borrow.Author.Needs.{needs}
 use Rattle.fit_reached.proofs.walk.+alts+below+each+pairs+reached+sub.Proof.Measures.{μ-alts, μ-below, μ-each, μ-pairs, μ-reached, μ-sub, alts-at, below-at, each-at, pairs-at, reached-at, reached-below, sub-at, alts-Inv-loop, alts-μ-loop, alts-calls, below-calls, each-calls, pairs-calls, reached-calls, each-Inv-loop, each-μ-loop, pairs-Inv-loop, pairs-μ-loop}
 use Rattle.fit_reached.proofs.walk.+alts+below+each+pairs+reached+sub.Proof.Lists.{alts-loop-holds, alts-list-at-requires, alts-add-i, alts-sub-left, alts-reached-requires, alts-returns, alts-returns-2, alts-loop-less, alts-loop-again, alts-returns-3, each-loop-holds, each-list-at-requires, each-add-i, each-sub-left, each-reached-requires, each-returns, each-loop-less, each-loop-again, each-loop-less-2, each-loop-again-2, each-returns-2, pairs-loop-holds, pairs-add-list-at, pairs-list-at-requires, pairs-add-i, pairs-sub-left, pairs-reached-requires, pairs-returns, pairs-loop-less, pairs-loop-again, pairs-loop-less-2, pairs-loop-again-2, pairs-returns-2, sub-returns, sub-reached-requires, sub-returns-2}
-use Rattle.fit_reached.proofs.walk.+alts+below+each+pairs+reached+sub.Proof.Nodes.{below-each-requires, below-alts-requires, below-pairs-requires, below-add-each, below-each-requires-2, below-sub-requires, below-each-requires-3, below-reached-requires, below-returns, below-returns-2, below-returns-3, below-returns-4, below-returns-5, below-returns-6, below-returns-7, below-returns-8, below-returns-9, below-returns-10, below-returns-11, below-returns-12, below-returns-13, below-returns-14, below-returns-15, below-returns-16, below-returns-17, below-returns-18, reached-pat-at-requires, reached-own-taken-requires, reached-returns, reached-below-requires, reached-own-test-requires, reached-returns-2}
+use Rattle.fit_reached.proofs.walk.+alts+below+each+pairs+reached+sub.Proof.Nodes.{below-each-requires, below-alts-requires, below-pairs-requires, below-add-each, below-each-requires-2, below-sub-requires, below-each-requires-3, below-reached-requires, below-returns, below-returns-2, below-returns-3, below-returns-4, below-returns-5, below-returns-6, below-returns-7, below-returns-8, reached-pat-at-requires, reached-own-taken-requires, reached-returns, reached-below-requires, reached-own-test-requires, reached-returns-2}
 
 pub +alts+below+each+pairs+reached+sub-spec : {M : Type 1} → statement M
 +alts+below+each+pairs+reached+sub-spec =
@@ -43,31 +43,20 @@ pub +alts+below+each+pairs+reached+sub-spec : {M : Type 1} → statement M
     (λ t. below-lts.spec (below-calls t) (below-at t)
     below.Post
     (λ c. search needs)
-    (λ c. search needs)
-    (λ c. search needs)
-    (λ c. search needs)
-    (λ c. search needs)
     (below-each-requires t)
     (λ c. search needs)
     (below-alts-requires t)
     (λ c. search needs)
     (below-pairs-requires t)
     (λ c. search needs)
-    (λ c. search needs)
     (below-add-each t)
     (below-each-requires-2 t)
-    (λ c. search needs)
-    (λ c. search needs)
     (λ c. search needs)
     (below-sub-requires t)
     (λ c. search needs)
     (below-each-requires-3 t)
     (λ c. search needs)
     (below-reached-requires t)
-    (λ c. search needs)
-    (λ c. search needs)
-    (λ c. search needs)
-    (λ c. search needs)
     (below-returns t)
     (below-returns-2 t)
     (below-returns-3 t)
@@ -75,17 +64,7 @@ pub +alts+below+each+pairs+reached+sub-spec : {M : Type 1} → statement M
     (below-returns-5 t)
     (below-returns-6 t)
     (below-returns-7 t)
-    (below-returns-8 t)
-    (below-returns-9 t)
-    (below-returns-10 t)
-    (below-returns-11 t)
-    (below-returns-12 t)
-    (below-returns-13 t)
-    (below-returns-14 t)
-    (below-returns-15 t)
-    (below-returns-16 t)
-    (below-returns-17 t)
-    (below-returns-18 t))
+    (below-returns-8 t))
     (λ t. each-lts.spec (each-calls t) (each-at t)
     each.Post
     each-Inv-loop

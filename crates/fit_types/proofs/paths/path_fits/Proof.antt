@@ -8,49 +8,30 @@ use Rattle.fit_types.proofs.discriminants.discriminants_differ.Reads as
 use Rattle.image.specs.Tree.{target}
 use Rattle.meaning.specs.Fit.{pathFits}
 use Rattle.fit_types.proofs.Nodes.{constant-holds}
+use Rattle.fit_types.proofs.Defaults.{path-asks-nothing}
 
 constant-fits-requires : tie.Need-constant-fits-requires
-constant-fits-requires c κs = (c .before .before .before .pre .1, c .before .before .before .pre .2, constant-holds _ _ (c .enum-told4 .given .1) (c .before .before .before .pre .3))
+constant-fits-requires c κs = (c .before .before .before .pre .1, c .before .before .before .pre .2, constant-holds _ _ (c .enum-told2 .given .1) (c .before .before .before .pre .3))
 
 returns : tie.Need-returns
 unfolding pathFits target
-returns c = rw (c .enum-told .given .1)
+returns c = rw (c .before .enum-told .given .1) (c .discriminants-differ .ensures)
 
 returns-2 : tie.Need-returns-2
 unfolding pathFits target
-returns-2 c = rw (c .before .enum-told2 .given .1) (c .discriminants-differ .ensures)
+returns-2 c = rw (c .before .enum-told2 .given .1) (c .constant-fits .ensures)
 
 returns-3 : tie.Need-returns-3
-unfolding pathFits target
-returns-3 c = rw (c .enum-told3 .given .1)
-
-returns-4 : tie.Need-returns-4
-unfolding pathFits target
-returns-4 c = rw (c .before .enum-told4 .given .1) (c .constant-fits .ensures)
-
-returns-5 : tie.Need-returns-5
-unfolding pathFits target
-returns-5 c = rw (c .enum-told5 .given .1)
-
-returns-6 : tie.Need-returns-6
-unfolding pathFits target
-returns-6 c = rw (c .enum-told6 .given .1)
+returns-3 c = path-asks-nothing _ _ _ _ (c .match .keys3)
 
 pub path-fits-spec : {M : Type 1} → statement M
 path-fits-spec =
     tie.close
     (tie.spec
     (λ c. search needs)
-    (λ c. search needs)
     (λ c κs. search needs)
     (λ c. search needs)
-    (λ c. search needs)
     constant-fits-requires
-    (λ c. search needs)
-    (λ c. search needs)
     returns
     returns-2
-    returns-3
-    returns-4
-    returns-5
-    returns-6)
+    returns-3)

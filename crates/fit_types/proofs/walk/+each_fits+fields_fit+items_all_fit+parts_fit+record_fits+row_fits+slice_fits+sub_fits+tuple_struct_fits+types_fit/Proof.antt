@@ -29,7 +29,7 @@ use borrow.Author.Needs.{needs}
 use Rattle.fit_types.proofs.walk.+each_fits+fields_fit+items_all_fit+parts_fit+record_fits+row_fits+slice_fits+sub_fits+tuple_struct_fits+types_fit.Proof.Measures.{μ-each-fits, μ-fields-fit, μ-items-all-fit, μ-parts-fit, μ-record-fits, μ-row-fits, μ-slice-fits, μ-sub-fits, μ-tuple-struct-fits, μ-types-fit, each-fits-at, each-fits-below, fields-fit-at, items-all-fit-at, parts-fit-at, record-fits-at, row-fits-at, slice-fits-at, sub-fits-at, tuple-struct-fits-at, types-fit-at, types-fit-below, each-fits-Inv-loop, each-fits-μ-loop, each-fits-calls, fields-fit-calls, items-all-fit-calls, parts-fit-calls, record-fits-calls, slice-fits-calls, tuple-struct-fits-calls, types-fit-calls, fields-fit-Inv-loop, fields-fit-μ-loop, items-all-fit-Inv-loop, items-all-fit-μ-loop}
 use Rattle.fit_types.proofs.walk.+each_fits+fields_fit+items_all_fit+parts_fit+record_fits+row_fits+slice_fits+sub_fits+tuple_struct_fits+types_fit.Proof.Lists.{each-fits-loop-holds, each-fits-list-at-requires, each-fits-list-at-requires-2, each-fits-types-fit-requires, each-fits-returns, each-fits-add-i, each-fits-add-t, each-fits-sub-left, each-fits-loop-less, each-fits-loop-again, each-fits-returns-2, fields-fit-loop-holds, fields-fit-list-at-requires, fields-fit-add-list-at, fields-fit-list-at-requires-2, fields-fit-field-type-requires, fields-fit-types-fit-requires, fields-fit-returns, fields-fit-add-i, fields-fit-sub-left, fields-fit-loop-less, fields-fit-loop-again, fields-fit-returns-2, items-all-fit-loop-holds, items-all-fit-list-at-requires, items-all-fit-types-fit-requires, items-all-fit-returns, items-all-fit-add-i, items-all-fit-sub-left, items-all-fit-loop-less, items-all-fit-loop-again, items-all-fit-returns-2, sub-fits-returns, sub-fits-types-fit-requires, sub-fits-returns-2}
 use Rattle.fit_types.proofs.walk.+each_fits+fields_fit+items_all_fit+parts_fit+record_fits+row_fits+slice_fits+sub_fits+tuple_struct_fits+types_fit.Proof.Rows.{record-fits-record-fields-differ-requires, record-fits-returns, record-fits-discriminants-differ-requires, record-fits-returns-2, record-fits-variant-fields-requires, record-fits-fields-fit-requires, record-fits-returns-3, row-fits-returns, row-fits-each-fits-requires, row-fits-returns-2, row-fits-returns-3, row-fits-each-fits-requires-2, row-fits-returns-4, row-fits-each-fits-requires-3, row-fits-returns-5, row-fits-sub-behind, row-fits-sub-skipped, row-fits-add-each-fits, row-fits-add-each-fits-2, row-fits-each-fits-requires-4, row-fits-returns-6, slice-fits-add-items-fit, slice-fits-items-fit-requires, slice-fits-returns, slice-fits-rest-fits-requires, slice-fits-returns-2, slice-fits-element-type-requires, slice-fits-items-all-fit-requires, slice-fits-returns-3, slice-fits-add-items-all-fit, slice-fits-items-all-fit-requires-2, slice-fits-returns-4, tuple-struct-fits-discriminants-differ-requires, tuple-struct-fits-returns, tuple-struct-fits-variant-fields-requires, tuple-struct-fits-row-fits-requires, tuple-struct-fits-returns-2}
-use Rattle.fit_types.proofs.walk.+each_fits+fields_fit+items_all_fit+parts_fit+record_fits+row_fits+slice_fits+sub_fits+tuple_struct_fits+types_fit.Proof.Nodes.{parts-fit-tuple-fields-requires, parts-fit-row-fits-requires, parts-fit-items-all-fit-requires, parts-fit-record-fits-requires, parts-fit-ends-fit-requires, parts-fit-slice-fits-requires, parts-fit-path-fits-requires, parts-fit-literal-fits-requires, parts-fit-sub-fits-requires, parts-fit-tuple-struct-fits-requires, parts-fit-referent-of-requires, parts-fit-types-fit-requires, parts-fit-returns, parts-fit-returns-2, parts-fit-returns-3, parts-fit-returns-4, parts-fit-returns-5, parts-fit-returns-6, parts-fit-returns-7, parts-fit-returns-8, parts-fit-returns-9, parts-fit-returns-10, parts-fit-returns-11, parts-fit-returns-12, parts-fit-returns-13, parts-fit-returns-14, parts-fit-returns-15, parts-fit-returns-16, parts-fit-returns-17, parts-fit-returns-18, types-fit-pat-at-requires, types-fit-type-is-the-places-requires, types-fit-returns, types-fit-parts-fit-requires, types-fit-returns-2}
+use Rattle.fit_types.proofs.walk.+each_fits+fields_fit+items_all_fit+parts_fit+record_fits+row_fits+slice_fits+sub_fits+tuple_struct_fits+types_fit.Proof.Nodes.{parts-fit-tuple-fields-requires, parts-fit-row-fits-requires, parts-fit-items-all-fit-requires, parts-fit-record-fits-requires, parts-fit-ends-fit-requires, parts-fit-slice-fits-requires, parts-fit-path-fits-requires, parts-fit-literal-fits-requires, parts-fit-sub-fits-requires, parts-fit-tuple-struct-fits-requires, parts-fit-referent-of-requires, parts-fit-types-fit-requires, parts-fit-returns, parts-fit-returns-2, parts-fit-returns-3, parts-fit-returns-4, parts-fit-returns-5, parts-fit-returns-6, parts-fit-returns-7, parts-fit-returns-8, parts-fit-returns-9, parts-fit-returns-10, parts-fit-returns-11, types-fit-pat-at-requires, types-fit-type-is-the-places-requires, types-fit-returns, types-fit-parts-fit-requires, types-fit-returns-2}
 
 pub +each-fits+fields-fit+items-all-fit+parts-fit+record-fits+row-fits+slice-fits+sub-fits+tuple-struct-fits+types-fit-spec :
     {M : Type 1} → statement M
@@ -92,10 +92,6 @@ pub +each-fits+fields-fit+items-all-fit+parts-fit+record-fits+row-fits+slice-fit
     (λ t. parts-fit-lts.spec (parts-fit-calls t) (parts-fit-at t)
     parts-fit.Post
     (λ c. search needs)
-    (λ c. search needs)
-    (λ c. search needs)
-    (λ c. search needs)
-    (λ c. search needs)
     (parts-fit-tuple-fields-requires t)
     (parts-fit-row-fits-requires t)
     (λ c. search needs)
@@ -118,10 +114,6 @@ pub +each-fits+fields-fit+items-all-fit+parts-fit+record-fits+row-fits+slice-fit
     (λ c. search needs)
     (parts-fit-referent-of-requires t)
     (parts-fit-types-fit-requires t)
-    (λ c. search needs)
-    (λ c. search needs)
-    (λ c. search needs)
-    (λ c. search needs)
     (parts-fit-returns t)
     (parts-fit-returns-2 t)
     (parts-fit-returns-3 t)
@@ -132,14 +124,7 @@ pub +each-fits+fields-fit+items-all-fit+parts-fit+record-fits+row-fits+slice-fit
     (parts-fit-returns-8 t)
     (parts-fit-returns-9 t)
     (parts-fit-returns-10 t)
-    (parts-fit-returns-11 t)
-    (parts-fit-returns-12 t)
-    (parts-fit-returns-13 t)
-    (parts-fit-returns-14 t)
-    (parts-fit-returns-15 t)
-    (parts-fit-returns-16 t)
-    (parts-fit-returns-17 t)
-    (parts-fit-returns-18 t))
+    (parts-fit-returns-11 t))
     (λ t. record-fits-lts.spec (record-fits-calls t) (record-fits-at t)
     record-fits.Post
     (record-fits-record-fields-differ-requires t)

@@ -12,15 +12,11 @@ returns c = rw (← c .before .self-named .ensures, not-true (c .before .self-na
 
 returns-2 : tie.Need-returns-2
 unfolding paramsHold allTrue
-returns-2 c = rw (← c .before .before .before .self-named .ensures, not-false (c .before .before .before .self-named .result) (c .before .before .if1 .left), ← c .before .before .before .before .before .before .before .pre .0 .binding-count, ← c .before .bindings-hold .ensures, not-true (c .before .bindings-hold .result) (c .if2 .taken))
+returns-2 c = rw (← c .before .before .before .self-named .ensures, not-false (c .before .before .before .self-named .result) (c .before .before .if1 .left), ← c .before .before .before .before .before .before .pre .0 .binding-count, ← c .before .bindings-hold .ensures, not-true (c .before .bindings-hold .result) (c .if2 .taken))
 
 returns-3 : tie.Need-returns-3
 unfolding paramsHold allTrue
-returns-3 c = rw (← c .before .before .before .before .before .before .self-named .ensures, not-false (c .before .before .before .before .before .before .self-named .result) (c .before .before .before .before .before .if1 .left), ← c .before .before .before .before .before .before .before .before .before .before .pre .0 .binding-count, ← c .before .before .before .before .bindings-hold .ensures, not-false (c .before .before .before .before .bindings-hold .result) (c .before .before .before .if2 .left), ← c .before .start-holds .ensures, not-true (c .before .start-holds .result) (c .if3 .taken))
-
-returns-4 : tie.Need-returns-4
-unfolding paramsHold allTrue
-returns-4 c = rw (← c .before .before .before .before .before .before .self-named .ensures, not-false (c .before .before .before .before .before .before .self-named .result) (c .before .before .before .before .before .if1 .left), ← c .before .before .before .before .before .before .before .before .before .before .pre .0 .binding-count, ← c .before .before .before .before .bindings-hold .ensures, not-false (c .before .before .before .before .bindings-hold .result) (c .before .before .before .if2 .left), ← c .before .start-holds .ensures, not-false (c .before .start-holds .result) (c .if3 .left), and-true)
+returns-3 c = rw (← c .before .before .before .before .before .self-named .ensures, not-false (c .before .before .before .before .before .self-named .result) (c .before .before .before .before .if1 .left), ← c .before .before .before .before .before .before .before .before .pre .0 .binding-count, ← c .before .before .before .bindings-hold .ensures, not-false (c .before .before .before .bindings-hold .result) (c .before .before .if2 .left), and-true) (c .start-holds .ensures)
 
 pub params-hold-spec : {M : Type 1} → statement M
 params-hold-spec =
@@ -31,5 +27,4 @@ params-hold-spec =
     (λ c κs. search needs)
     returns-2
     (λ c κs. search needs)
-    returns-3
-    returns-4)
+    returns-3)

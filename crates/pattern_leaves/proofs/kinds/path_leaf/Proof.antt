@@ -6,7 +6,8 @@ use Rattle.pattern_leaves.proofs.kinds.path_leaf.Lts as lts
 use Rattle.pattern_leaves.proofs.kinds.other_path.Reads as other-path-reads
 use Rattle.pattern_parts.proofs.bindings.local_path.Reads as local-path-reads
 use Rattle.pattern_tests.proofs.consts.constant_path.Reads as constant-path-reads
-use Rattle.pattern_leaves.proofs.Leafing.{path-binding, path-operand, path-constant, path-unresolved, path-variant, path-local, path-compared, path-other, path-unknown}
+use Rattle.pattern_leaves.proofs.Leafing.{path-binding, path-operand, path-constant, path-unresolved, path-variant, path-local, path-compared, path-other}
+use Rattle.pattern_leaves.proofs.Defaults.{something-else}
 
 local-path-requires : tie.Need-local-path-requires
 local-path-requires c κs = (path-binding _ _ (c .before .before .before .before .before .pre .0 .1) (c .before .enum-told3 .given .1) (c .before .before .before .before .before .pre .0 .2), c .before .before .before .before .before .pre .1 .1)
@@ -27,10 +28,7 @@ returns-4 : tie.Need-returns-4
 returns-4 c = path-compared _ _ _ _ _ _ _ _ _ _ _ (c .before .before .enum-told4 .given .1) (c .constant-path .ensures)
 
 returns-5 : tie.Need-returns-5
-returns-5 c = path-other _ _ _ _ _ _ _ _ _ _ _ (c .before .enum-told5 .given .1) (c .before .before .before .before .before .pre .1 .1) (c .other-path .ensures)
-
-returns-6 : tie.Need-returns-6
-returns-6 c = path-unknown _ _ _ _ _ _ _ _ _ _ _ (c .before .enum-told6 .given .1) (c .before .before .before .before .before .pre .1 .1) (c .other-path2 .ensures)
+returns-5 c = path-other _ _ _ _ _ _ _ _ _ _ _ _ (something-else _ _ _ _ _ _ (c .before .match .keys5)) (c .before .before .before .before .pre .1 .1) (c .other-path .ensures)
 
 pub path-leaf-spec : {M : Type 1} → statement M
 path-leaf-spec =
@@ -42,13 +40,9 @@ path-leaf-spec =
     local-path-requires
     (λ c. search needs)
     constant-path-requires
-    (λ c. search needs)
-    (λ c κs. search needs)
-    (λ c. search needs)
     (λ c κs. search needs)
     returns
     returns-2
     returns-3
     returns-4
-    returns-5
-    returns-6)
+    returns-5)

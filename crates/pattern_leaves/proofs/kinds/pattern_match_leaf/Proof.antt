@@ -11,33 +11,33 @@ use Rattle.pattern_tests.proofs.consts.pattern_match_lit.Reads as pattern-match
 use mathlib.Core.Path.{refl, sym, _∙_}
 use Rattle.pattern_nodes.specs.Leaves.{leafPattern}
 use Rattle.pattern_leaves.proofs.Leafing.{range-holds, path-holds, literal-holds, leaf-lowers, leaf-refused, leaf-passed, leaf-path}
+use Rattle.pattern_leaves.proofs.Defaults.{incomplete}
 
 pattern-match-range-requires : tie.Need-pattern-match-range-requires
 pattern-match-range-requires c κs =
-    let ends = range-holds (c .before .before .before .before .before .before .args .image .now) (c .before .before .before .before .before .before .args .row) (sym (c .before .enum-told8 .given .1) ∙ c .before .before .before .pat-kind .ensures) (c .before .before .before .before .before .before .pre .0 .3) refl in
+    let ends = range-holds (c .before .before .before .before .before .before .args .image .now) (c .before .before .before .before .before .before .args .row) (sym (c .before .enum-told2 .given .1) ∙ c .before .before .before .pat-kind .ensures) (c .before .before .before .before .before .before .pre .0 .3) refl in
     ((c .before .before .before .before .before .before .pre .0 .0, c .before .before .before .before .before .before .pre .0 .1, c .before .before .before .before .before .before .pre .0 .2, ends .0, ends .1), c .before .before .before .before .before .before .pre .1)
 
 path-leaf-requires : tie.Need-path-leaf-requires
-path-leaf-requires c κs = ((c .before .before .before .before .before .before .before .pre .0 .1, path-holds (c .before .before .before .before .before .before .before .args .image .now) (c .before .before .before .before .before .before .before .args .row) (sym (c .before .before .enum-told10 .given .1) ∙ c .before .before .before .before .pat-kind .ensures) (c .before .before .before .before .before .before .before .pre .0 .3) refl (c .path-kind .ensures), c .before .before .before .before .before .before .before .pre .0 .4), c .before .before .before .before .before .before .before .pre .1)
+path-leaf-requires c κs = ((c .before .before .before .before .before .before .before .pre .0 .1, path-holds (c .before .before .before .before .before .before .before .args .image .now) (c .before .before .before .before .before .before .before .args .row) (sym (c .before .before .enum-told3 .given .1) ∙ c .before .before .before .before .pat-kind .ensures) (c .before .before .before .before .before .before .before .pre .0 .3) refl (c .path-kind .ensures), c .before .before .before .before .before .before .before .pre .0 .4), c .before .before .before .before .before .before .before .pre .1)
 
 pattern-match-lit-requires : tie.Need-pattern-match-lit-requires
-pattern-match-lit-requires c κs = ((c .before .before .before .before .before .before .pre .0 .0, c .before .before .before .before .before .before .pre .0 .1, c .before .before .before .before .before .before .pre .0 .2, literal-holds (c .before .before .before .before .before .before .args .image .now) (c .before .before .before .before .before .before .args .row) (sym (c .before .enum-told11 .given .1) ∙ c .before .before .before .pat-kind .ensures) (c .before .before .before .before .before .before .pre .0 .3) refl), c .before .before .before .before .before .before .pre .1)
+pattern-match-lit-requires c κs = ((c .before .before .before .before .before .before .pre .0 .0, c .before .before .before .before .before .before .pre .0 .1, c .before .before .before .before .before .before .pre .0 .2, literal-holds (c .before .before .before .before .before .before .args .image .now) (c .before .before .before .before .before .before .args .row) (sym (c .before .enum-told4 .given .1) ∙ c .before .before .before .pat-kind .ensures) (c .before .before .before .before .before .before .pre .0 .3) refl), c .before .before .before .before .before .before .pre .1)
 
 returns : tie.Need-returns
 unfolding leafPattern
-returns c = leaf-refused (c .before .before .before .before .before .args .image .now) (c .before .before .before .before .before .args .bindings .now) _ _ (c .before .before .before .before .before .args .mode) (c .before .before .before .before .before .args .p) (c .before .before .before .before .before .args .row) _ _ (c .before .before .before .before .before .args .place) (sym (c .enum-told .given .1) ∙ c .before .before .pat-kind .ensures) refl
+returns c = leaf-passed (c .before .before .before .before .before .args .image .now) (c .before .before .before .before .before .args .bindings .now) _ _ (c .before .before .before .before .before .args .mode) (c .before .before .before .before .before .args .p) (c .before .before .before .before .before .args .row) _ _ (c .before .before .before .before .before .args .place) (sym (c .enum-told .given .1) ∙ c .before .before .pat-kind .ensures) refl (c .before .before .before .before .before .pre .1 .1)
 
 returns-2 : tie.Need-returns-2
 unfolding leafPattern
-returns-2 c = leaf-refused (c .before .before .before .before .before .args .image .now) (c .before .before .before .before .before .args .bindings .now) _ _ (c .before .before .before .before .before .args .mode) (c .before .before .before .before .before .args .p) (c .before .before .before .before .before .args .row) _ _ (c .before .before .before .before .before .args .place) (sym (c .enum-told2 .given .1) ∙ c .before .before .pat-kind .ensures) refl
+returns-2 c = leaf-lowers (c .before .before .before .before .before .before .before .args .image .now) (c .before .before .before .before .before .before .before .args .bindings .now) _ _ (c .before .before .before .before .before .before .before .args .mode) (c .before .before .before .before .before .before .before .args .p) (c .before .before .before .before .before .before .before .args .row) _ _ (c .before .before .before .before .before .before .before .args .place) (sym (c .before .before .enum-told2 .given .1) ∙ c .before .before .before .before .pat-kind .ensures) _ refl (c .pattern-match-range .ensures)
 
 returns-3 : tie.Need-returns-3
-unfolding leafPattern
-returns-3 c = leaf-refused (c .before .before .before .before .before .args .image .now) (c .before .before .before .before .before .args .bindings .now) _ _ (c .before .before .before .before .before .args .mode) (c .before .before .before .before .before .args .p) (c .before .before .before .before .before .args .row) _ _ (c .before .before .before .before .before .args .place) (sym (c .enum-told3 .given .1) ∙ c .before .before .pat-kind .ensures) refl
+returns-3 c = leaf-path (c .before .before .before .before .before .before .before .before .args .image .now) (c .before .before .before .before .before .before .before .before .args .bindings .now) _ _ (c .before .before .before .before .before .before .before .before .args .mode) (c .before .before .before .before .before .before .before .before .args .p) (c .before .before .before .before .before .before .before .before .args .row) _ _ (c .before .before .before .before .before .before .before .before .args .place) (sym (c .before .before .before .enum-told3 .given .1) ∙ c .before .before .before .before .before .pat-kind .ensures) refl (c .before .path-kind .ensures) (c .path-leaf .ensures)
 
 returns-4 : tie.Need-returns-4
 unfolding leafPattern
-returns-4 c = leaf-passed (c .before .before .before .before .before .args .image .now) (c .before .before .before .before .before .args .bindings .now) _ _ (c .before .before .before .before .before .args .mode) (c .before .before .before .before .before .args .p) (c .before .before .before .before .before .args .row) _ _ (c .before .before .before .before .before .args .place) (sym (c .enum-told4 .given .1) ∙ c .before .before .pat-kind .ensures) refl (c .before .before .before .before .before .pre .1 .1)
+returns-4 c = leaf-lowers (c .before .before .before .before .before .before .before .args .image .now) (c .before .before .before .before .before .before .before .args .bindings .now) _ _ (c .before .before .before .before .before .before .before .args .mode) (c .before .before .before .before .before .before .before .args .p) (c .before .before .before .before .before .before .before .args .row) _ _ (c .before .before .before .before .before .before .before .args .place) (sym (c .before .before .enum-told4 .given .1) ∙ c .before .before .before .before .pat-kind .ensures) _ refl (c .pattern-match-lit .ensures)
 
 returns-5 : tie.Need-returns-5
 unfolding leafPattern
@@ -52,47 +52,7 @@ unfolding leafPattern
 returns-7 c = leaf-refused (c .before .before .before .before .before .args .image .now) (c .before .before .before .before .before .args .bindings .now) _ _ (c .before .before .before .before .before .args .mode) (c .before .before .before .before .before .args .p) (c .before .before .before .before .before .args .row) _ _ (c .before .before .before .before .before .args .place) (sym (c .enum-told7 .given .1) ∙ c .before .before .pat-kind .ensures) refl
 
 returns-8 : tie.Need-returns-8
-unfolding leafPattern
-returns-8 c = leaf-lowers (c .before .before .before .before .before .before .before .args .image .now) (c .before .before .before .before .before .before .before .args .bindings .now) _ _ (c .before .before .before .before .before .before .before .args .mode) (c .before .before .before .before .before .before .before .args .p) (c .before .before .before .before .before .before .before .args .row) _ _ (c .before .before .before .before .before .before .before .args .place) (sym (c .before .before .enum-told8 .given .1) ∙ c .before .before .before .before .pat-kind .ensures) _ refl (c .pattern-match-range .ensures)
-
-returns-9 : tie.Need-returns-9
-unfolding leafPattern
-returns-9 c = leaf-refused (c .before .before .before .before .before .args .image .now) (c .before .before .before .before .before .args .bindings .now) _ _ (c .before .before .before .before .before .args .mode) (c .before .before .before .before .before .args .p) (c .before .before .before .before .before .args .row) _ _ (c .before .before .before .before .before .args .place) (sym (c .enum-told9 .given .1) ∙ c .before .before .pat-kind .ensures) refl
-
-returns-10 : tie.Need-returns-10
-returns-10 c = leaf-path (c .before .before .before .before .before .before .before .before .args .image .now) (c .before .before .before .before .before .before .before .before .args .bindings .now) _ _ (c .before .before .before .before .before .before .before .before .args .mode) (c .before .before .before .before .before .before .before .before .args .p) (c .before .before .before .before .before .before .before .before .args .row) _ _ (c .before .before .before .before .before .before .before .before .args .place) (sym (c .before .before .before .enum-told10 .given .1) ∙ c .before .before .before .before .before .pat-kind .ensures) refl (c .before .path-kind .ensures) (c .path-leaf .ensures)
-
-returns-11 : tie.Need-returns-11
-unfolding leafPattern
-returns-11 c = leaf-lowers (c .before .before .before .before .before .before .before .args .image .now) (c .before .before .before .before .before .before .before .args .bindings .now) _ _ (c .before .before .before .before .before .before .before .args .mode) (c .before .before .before .before .before .before .before .args .p) (c .before .before .before .before .before .before .before .args .row) _ _ (c .before .before .before .before .before .before .before .args .place) (sym (c .before .before .enum-told11 .given .1) ∙ c .before .before .before .before .pat-kind .ensures) _ refl (c .pattern-match-lit .ensures)
-
-returns-12 : tie.Need-returns-12
-unfolding leafPattern
-returns-12 c = leaf-refused (c .before .before .before .before .before .args .image .now) (c .before .before .before .before .before .args .bindings .now) _ _ (c .before .before .before .before .before .args .mode) (c .before .before .before .before .before .args .p) (c .before .before .before .before .before .args .row) _ _ (c .before .before .before .before .before .args .place) (sym (c .enum-told12 .given .1) ∙ c .before .before .pat-kind .ensures) refl
-
-returns-13 : tie.Need-returns-13
-unfolding leafPattern
-returns-13 c = leaf-refused (c .before .before .before .before .before .args .image .now) (c .before .before .before .before .before .args .bindings .now) _ _ (c .before .before .before .before .before .args .mode) (c .before .before .before .before .before .args .p) (c .before .before .before .before .before .args .row) _ _ (c .before .before .before .before .before .args .place) (sym (c .enum-told13 .given .1) ∙ c .before .before .pat-kind .ensures) refl
-
-returns-14 : tie.Need-returns-14
-unfolding leafPattern
-returns-14 c = leaf-refused (c .before .before .before .before .before .args .image .now) (c .before .before .before .before .before .args .bindings .now) _ _ (c .before .before .before .before .before .args .mode) (c .before .before .before .before .before .args .p) (c .before .before .before .before .before .args .row) _ _ (c .before .before .before .before .before .args .place) (sym (c .enum-told14 .given .1) ∙ c .before .before .pat-kind .ensures) refl
-
-returns-15 : tie.Need-returns-15
-unfolding leafPattern
-returns-15 c = leaf-refused (c .before .before .before .before .before .args .image .now) (c .before .before .before .before .before .args .bindings .now) _ _ (c .before .before .before .before .before .args .mode) (c .before .before .before .before .before .args .p) (c .before .before .before .before .before .args .row) _ _ (c .before .before .before .before .before .args .place) (sym (c .enum-told15 .given .1) ∙ c .before .before .pat-kind .ensures) refl
-
-returns-16 : tie.Need-returns-16
-unfolding leafPattern
-returns-16 c = leaf-refused (c .before .before .before .before .before .args .image .now) (c .before .before .before .before .before .args .bindings .now) _ _ (c .before .before .before .before .before .args .mode) (c .before .before .before .before .before .args .p) (c .before .before .before .before .before .args .row) _ _ (c .before .before .before .before .before .args .place) (sym (c .enum-told16 .given .1) ∙ c .before .before .pat-kind .ensures) refl
-
-returns-17 : tie.Need-returns-17
-unfolding leafPattern
-returns-17 c = leaf-refused (c .before .before .before .before .before .args .image .now) (c .before .before .before .before .before .args .bindings .now) _ _ (c .before .before .before .before .before .args .mode) (c .before .before .before .before .before .args .p) (c .before .before .before .before .before .args .row) _ _ (c .before .before .before .before .before .args .place) (sym (c .enum-told17 .given .1) ∙ c .before .before .pat-kind .ensures) refl
-
-returns-18 : tie.Need-returns-18
-unfolding leafPattern
-returns-18 c = leaf-refused (c .before .before .before .before .before .args .image .now) (c .before .before .before .before .before .args .bindings .now) _ _ (c .before .before .before .before .before .args .mode) (c .before .before .before .before .before .args .p) (c .before .before .before .before .before .args .row) _ _ (c .before .before .before .before .before .args .place) (sym (c .enum-told18 .given .1) ∙ c .before .before .pat-kind .ensures) refl
+returns-8 c = leaf-refused (c .before .before .before .before .args .image .now) (c .before .before .before .before .args .bindings .now) _ _ (c .before .before .before .before .args .mode) (c .before .before .before .before .args .p) (c .before .before .before .before .args .row) _ _ (c .before .before .before .before .args .place) (c .before .pat-kind .ensures) (incomplete _ _ _ _ _ (c .match .keys8))
 
 pub pattern-match-leaf-spec : {M : Type 1} → statement M
 pattern-match-leaf-spec =
@@ -101,23 +61,12 @@ pattern-match-leaf-spec =
     (λ c κs. search needs)
     (λ c. search needs)
     (λ c. search needs)
-    (λ c. search needs)
-    (λ c. search needs)
-    (λ c. search needs)
-    (λ c. search needs)
-    (λ c. search needs)
-    (λ c. search needs)
     pattern-match-range-requires
-    (λ c. search needs)
     (λ c. search needs)
     (λ c κs. search needs)
     path-leaf-requires
     (λ c. search needs)
     pattern-match-lit-requires
-    (λ c. search needs)
-    (λ c. search needs)
-    (λ c. search needs)
-    (λ c. search needs)
     (λ c. search needs)
     (λ c. search needs)
     (λ c. search needs)
@@ -128,14 +77,4 @@ pattern-match-leaf-spec =
     returns-5
     returns-6
     returns-7
-    returns-8
-    returns-9
-    returns-10
-    returns-11
-    returns-12
-    returns-13
-    returns-14
-    returns-15
-    returns-16
-    returns-17
-    returns-18)
+    returns-8)

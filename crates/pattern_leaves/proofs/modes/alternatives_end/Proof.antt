@@ -30,6 +30,6 @@ alternatives-end-spec =
     (λ c κs. search needs)
     (λ c. search needs)
     (λ c. search needs)
-    (λ c κs. search needs)
     returns-2
+    (λ c κs. search needs)
     returns-3)

@@ -4,6 +4,7 @@ use Rattle.pattern_parts.proofs.adts.needed_ty.Tie as tie
 use Rattle.pattern_parts.proofs.adts.needed_ty.Reads as reads
 use Rattle.pattern_parts.proofs.adts.needed_ty.Lts as lts
 use Rattle.pattern_parts.specs.Parts.{neededTy}
+use Rattle.pattern_parts.proofs.Defaults.{not-needed}
 
 returns : tie.Need-returns
 unfolding neededTy
@@ -18,36 +19,7 @@ unfolding neededTy
 returns-3 c = rw (c .enum-told .given .1)
 
 returns-4 : tie.Need-returns-4
-unfolding neededTy
-returns-4 c = rw (c .enum-told2 .given .1)
-
-returns-5 : tie.Need-returns-5
-unfolding neededTy
-returns-5 c = rw (c .enum-told3 .given .1)
-
-returns-6 : tie.Need-returns-6
-unfolding neededTy
-returns-6 c = rw (c .enum-told4 .given .1)
-
-returns-7 : tie.Need-returns-7
-unfolding neededTy
-returns-7 c = rw (c .enum-told5 .given .1)
+returns-4 c = not-needed _ (c .match .keys4)
 
 pub needed-ty-spec : {M : Type 1} → statement M
-needed-ty-spec =
-    tie.close
-    (tie.spec
-    (λ c. search needs)
-    (λ c. search needs)
-    (λ c. search needs)
-    (λ c. search needs)
-    (λ c. search needs)
-    (λ c. search needs)
-    (λ c. search needs)
-    returns
-    returns-2
-    returns-3
-    returns-4
-    returns-5
-    returns-6
-    returns-7)
+needed-ty-spec = tie.close (tie.spec (λ c. search needs) (λ c. search needs) (λ c. search needs) returns returns-2 returns-3 returns-4)

@@ -11,6 +11,7 @@ use mathlib.Core.Path.{refl, sym, _∙_}
 use Rattle.image.specs.Types.{shapeBy}
 use Rattle.pattern_parts.specs.Parts.{tupleAt}
 use Rattle.pattern_parts.proofs.Typing.{needed-named, shape-known, shape-none, shape-other}
+use Rattle.pattern_parts.proofs.Defaults.{no-tuple}
 use Rattle.place.proofs.Fields.{length-listed}
 
 type-at-requires : tie.Need-type-at-requires
@@ -25,43 +26,10 @@ returns-2 c = sym (shape-other _ _ (sym (c .enum-told2 .given .1) ∙ c .before 
 
 returns-3 : tie.Need-returns-3
 unfolding tupleAt shapeBy
-returns-3 c = rw (shape-known _ _ (sym (c .before .before .before .before .before .t .given .1) ∙ c .before .before .before .before .before .before .before .needed-ty .ensures) (c .before .before .before .type-at .ensures) (sym (c .enum-told3 .given .1) ∙ c .before .before .type-kind .ensures)) refl
+returns-3 c = rw (shape-known _ _ (sym (c .before .before .before .before .before .t .given .1) ∙ c .before .before .before .before .before .before .before .needed-ty .ensures) (c .before .before .before .type-at .ensures) (sym (c .enum-told3 .given .1) ∙ c .before .before .type-kind .ensures), length-listed _ _ _ _) refl
 
 returns-4 : tie.Need-returns-4
-unfolding tupleAt shapeBy
-returns-4 c = rw (shape-known _ _ (sym (c .before .before .before .before .before .t .given .1) ∙ c .before .before .before .before .before .before .before .needed-ty .ensures) (c .before .before .before .type-at .ensures) (sym (c .enum-told4 .given .1) ∙ c .before .before .type-kind .ensures)) refl
-
-returns-5 : tie.Need-returns-5
-unfolding tupleAt shapeBy
-returns-5 c = rw (shape-known _ _ (sym (c .before .before .before .before .before .t .given .1) ∙ c .before .before .before .before .before .before .before .needed-ty .ensures) (c .before .before .before .type-at .ensures) (sym (c .enum-told5 .given .1) ∙ c .before .before .type-kind .ensures)) refl
-
-returns-6 : tie.Need-returns-6
-unfolding tupleAt shapeBy
-returns-6 c = rw (shape-known _ _ (sym (c .before .before .before .before .before .t .given .1) ∙ c .before .before .before .before .before .before .before .needed-ty .ensures) (c .before .before .before .type-at .ensures) (sym (c .enum-told6 .given .1) ∙ c .before .before .type-kind .ensures)) refl
-
-returns-7 : tie.Need-returns-7
-unfolding tupleAt shapeBy
-returns-7 c = rw (shape-known _ _ (sym (c .before .before .before .before .before .t .given .1) ∙ c .before .before .before .before .before .before .before .needed-ty .ensures) (c .before .before .before .type-at .ensures) (sym (c .enum-told7 .given .1) ∙ c .before .before .type-kind .ensures), length-listed _ _ _ _) refl
-
-returns-8 : tie.Need-returns-8
-unfolding tupleAt shapeBy
-returns-8 c = rw (shape-known _ _ (sym (c .before .before .before .before .before .t .given .1) ∙ c .before .before .before .before .before .before .before .needed-ty .ensures) (c .before .before .before .type-at .ensures) (sym (c .enum-told8 .given .1) ∙ c .before .before .type-kind .ensures)) refl
-
-returns-9 : tie.Need-returns-9
-unfolding tupleAt shapeBy
-returns-9 c = rw (shape-known _ _ (sym (c .before .before .before .before .before .t .given .1) ∙ c .before .before .before .before .before .before .before .needed-ty .ensures) (c .before .before .before .type-at .ensures) (sym (c .enum-told9 .given .1) ∙ c .before .before .type-kind .ensures)) refl
-
-returns-10 : tie.Need-returns-10
-unfolding tupleAt shapeBy
-returns-10 c = rw (shape-known _ _ (sym (c .before .before .before .before .before .t .given .1) ∙ c .before .before .before .before .before .before .before .needed-ty .ensures) (c .before .before .before .type-at .ensures) (sym (c .enum-told10 .given .1) ∙ c .before .before .type-kind .ensures)) refl
-
-returns-11 : tie.Need-returns-11
-unfolding tupleAt shapeBy
-returns-11 c = rw (shape-known _ _ (sym (c .before .before .before .before .before .t .given .1) ∙ c .before .before .before .before .before .before .before .needed-ty .ensures) (c .before .before .before .type-at .ensures) (sym (c .enum-told11 .given .1) ∙ c .before .before .type-kind .ensures)) refl
-
-returns-12 : tie.Need-returns-12
-unfolding tupleAt shapeBy
-returns-12 c = rw (shape-known _ _ (sym (c .before .before .before .before .before .t .given .1) ∙ c .before .before .before .before .before .before .before .needed-ty .ensures) (c .before .before .before .type-at .ensures) (sym (c .enum-told12 .given .1) ∙ c .before .before .type-kind .ensures)) refl
+returns-4 c = rw (shape-known _ _ (sym (c .before .before .before .before .t .given .1) ∙ c .before .before .before .before .before .before .needed-ty .ensures) (c .before .before .type-at .ensures) (c .before .type-kind .ensures)) (no-tuple _ _ _ (c .match2 .keys2))
 
 pub tuple-at-spec : {M : Type 1} → statement M
 tuple-at-spec =
@@ -74,24 +42,7 @@ tuple-at-spec =
     type-at-requires
     (λ c κs. search needs)
     (λ c. search needs)
-    (λ c. search needs)
-    (λ c. search needs)
-    (λ c. search needs)
-    (λ c. search needs)
-    (λ c. search needs)
-    (λ c. search needs)
-    (λ c. search needs)
-    (λ c. search needs)
-    (λ c. search needs)
     returns
     returns-2
     returns-3
-    returns-4
-    returns-5
-    returns-6
-    returns-7
-    returns-8
-    returns-9
-    returns-10
-    returns-11
-    returns-12)
+    returns-4)

@@ -37,16 +37,16 @@ enum-known-c1 : tie.Need-enum-known-c1
 enum-known-c1 c = search needs
 
 returns : tie.Need-returns
-returns c = rw (c .enum-told .given .1) (path-check _ _ _ _ _ _ _ _)
+returns c = rw (c .before .before .before .before .before .before .before .before .enum-told3 .given .1) (path-assigned _ _ _ _ _ _ _ _ Counted.Full (search (needs, c .before .before .before .before .before .before .before .before .before .before .before .good .1 .1 .1 .1 .1 .1 .1 .1 .0)) (c .before .before .before .before .before .before .before .before .before .before .before .pre .1) (rw (c .before .before .before .before .before .l .given .1) at (c .before .before .before .before .before .before .before .binding-local .ensures)) (sym (c .enum-told4 .given .1) ∙ c .before .before .push-assignment .ensures .0) (c .before .before .push-assignment .ensures .1))
 
 returns-2 : tie.Need-returns-2
-returns-2 c = rw (c .enum-told2 .given .1) (path-bind _ _ _ _ _ _ _ _ (c .before .before .before .pre .1))
+returns-2 c = rw (c .enum-told .given .1) (path-check _ _ _ _ _ _ _ _)
 
 returns-3 : tie.Need-returns-3
-returns-3 c = rw (c .before .before .before .before .enum-told3 .given .1) (path-absent _ _ _ _ _ _ _ _ (rw (c .before .e .given .1) at (c .before .before .before .binding-local .ensures)))
+returns-3 c = rw (c .enum-told2 .given .1) (path-bind _ _ _ _ _ _ _ _ (c .before .before .before .pre .1))
 
 returns-4 : tie.Need-returns-4
-returns-4 c = rw (c .before .before .before .before .before .before .before .before .enum-told3 .given .1) (path-assigned _ _ _ _ _ _ _ _ Counted.Full (search (needs, c .before .before .before .before .before .before .before .before .before .before .before .good .1 .1 .1 .1 .1 .1 .1 .1 .0)) (c .before .before .before .before .before .before .before .before .before .before .before .pre .1) (rw (c .before .before .before .before .before .l .given .1) at (c .before .before .before .before .before .before .before .binding-local .ensures)) (sym (c .enum-told4 .given .1) ∙ c .before .before .push-assignment .ensures .0) (c .before .before .push-assignment .ensures .1))
+returns-4 c = rw (c .before .before .before .before .enum-told3 .given .1) (path-absent _ _ _ _ _ _ _ _ (rw (c .before .e .given .1) at (c .before .before .before .binding-local .ensures)))
 
 returns-5 : tie.Need-returns-5
 returns-5 c = rw (c .before .before .before .before .before .before .before .before .before .enum-told3 .given .1) (path-assigned _ _ _ _ _ _ _ _ (Counted.Now _) (search (needs, c .before .before .before .before .before .before .before .before .before .before .before .before .good .1 .1 .1 .1 .1 .1 .1 .1 .0)) (c .before .before .before .before .before .before .before .before .before .before .before .before .pre .1) (rw (c .before .before .before .before .before .before .l .given .1) at (c .before .before .before .before .before .before .before .before .binding-local .ensures)) (sym (c .before .c1 .given .1) ∙ c .before .before .before .push-assignment .ensures .0) (c .before .before .before .push-assignment .ensures .1))
@@ -62,8 +62,8 @@ local-path-spec =
     enum-known-e
     enum-known-l
     push-assignment-requires
-    enum-told-4
     enum-known-c1
+    enum-told-4
     returns
     returns-2
     returns-3

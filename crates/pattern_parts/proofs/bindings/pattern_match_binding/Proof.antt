@@ -42,13 +42,13 @@ enum-known-c2 : tie.Need-enum-known-c2
 enum-known-c2 c = search needs
 
 returns : tie.Need-returns
-returns c = binding-absent _ _ _ _ _ _ _ _ _ _ (rw (c .before .e .given .1) at (c .before .before .before .binding-local .ensures))
+returns c = binding-filled _ _ _ _ _ _ _ _ _ _ (rw (c .before .before .before .before .before .before .before .before .before .before .before .l .given .1) at (c .before .before .before .before .before .before .before .before .before .before .before .before .before .binding-local .ensures)) Counted.Full (search (needs, c .before .before .before .before .before .before .before .before .before .before .before .before .before .before .before .good .1 .1 .1 .1 .1 .1 .1 .1 .1 .0)) (c .before .before .before .before .before .before .before .before .before .before .before .before .before .before .before .pre .1) (c .before .before .before .before .before .before .before .before .before .before .before .before .before .before .before .pre .2) (rw (c .before .before .before .before .before .before .c1 .given .1) at (c .before .before .before .before .before .before .before .before .push-storage-live-for-local .ensures)) (c .before .before .before .binding-rvalue .ensures) (sym (c .enum-told .given .1) ∙ c .before .before .push-assignment .ensures .0) (c .before .before .push-assignment .ensures .1)
 
 returns-2 : tie.Need-returns-2
-returns-2 c = binding-unmarked _ _ _ _ _ _ _ _ _ _ (rw (c .before .before .before .before .before .before .l .given .1) at (c .before .before .before .before .before .before .before .before .binding-local .ensures)) (rw (c .before .e2 .given .1) at (c .before .before .before .push-storage-live-for-local .ensures))
+returns-2 c = binding-absent _ _ _ _ _ _ _ _ _ _ (rw (c .before .e .given .1) at (c .before .before .before .binding-local .ensures))
 
 returns-3 : tie.Need-returns-3
-returns-3 c = binding-filled _ _ _ _ _ _ _ _ _ _ (rw (c .before .before .before .before .before .before .before .before .before .before .before .l .given .1) at (c .before .before .before .before .before .before .before .before .before .before .before .before .before .binding-local .ensures)) Counted.Full (search (needs, c .before .before .before .before .before .before .before .before .before .before .before .before .before .before .before .good .1 .1 .1 .1 .1 .1 .1 .1 .1 .0)) (c .before .before .before .before .before .before .before .before .before .before .before .before .before .before .before .pre .1) (c .before .before .before .before .before .before .before .before .before .before .before .before .before .before .before .pre .2) (rw (c .before .before .before .before .before .before .c1 .given .1) at (c .before .before .before .before .before .before .before .before .push-storage-live-for-local .ensures)) (c .before .before .before .binding-rvalue .ensures) (sym (c .enum-told .given .1) ∙ c .before .before .push-assignment .ensures .0) (c .before .before .push-assignment .ensures .1)
+returns-3 c = binding-unmarked _ _ _ _ _ _ _ _ _ _ (rw (c .before .before .before .before .before .before .l .given .1) at (c .before .before .before .before .before .before .before .before .binding-local .ensures)) (rw (c .before .e2 .given .1) at (c .before .before .before .push-storage-live-for-local .ensures))
 
 returns-4 : tie.Need-returns-4
 returns-4 c = binding-filled _ _ _ _ _ _ _ _ _ _ (rw (c .before .before .before .before .before .before .before .before .before .before .before .before .l .given .1) at (c .before .before .before .before .before .before .before .before .before .before .before .before .before .before .binding-local .ensures)) (Counted.Now _) (search (needs, c .before .before .before .before .before .before .before .before .before .before .before .before .before .before .before .before .good .1 .1 .1 .1 .1 .1 .1 .1 .1 .0)) (c .before .before .before .before .before .before .before .before .before .before .before .before .before .before .before .before .pre .1) (c .before .before .before .before .before .before .before .before .before .before .before .before .before .before .before .before .pre .2) (rw (c .before .before .before .before .before .before .before .c1 .given .1) at (c .before .before .before .before .before .before .before .before .before .push-storage-live-for-local .ensures)) (c .before .before .before .before .binding-rvalue .ensures) (sym (c .before .c2 .given .1) ∙ c .before .before .before .push-assignment .ensures .0) (c .before .before .before .push-assignment .ensures .1)
@@ -65,8 +65,8 @@ pattern-match-binding-spec =
     enum-known-c1
     binding-rvalue-requires
     push-assignment-requires
-    enum-told
     enum-known-c2
+    enum-told
     returns
     returns-2
     returns-3

@@ -4,6 +4,7 @@ use Rattle.place.proofs.place_ty.part_projection.Tie as tie
 use Rattle.place.proofs.place_ty.part_projection.Reads as reads
 use Rattle.place.proofs.place_ty.part_projection.Lts as lts
 use Rattle.place.specs.PlaceTypes.{partProjection}
+use Rattle.place.proofs.Defaults.{not-of-part}
 
 returns : tie.Need-returns
 unfolding partProjection
@@ -18,20 +19,7 @@ unfolding partProjection
 returns-3 c = rw (c .enum-told3 .given .1)
 
 returns-4 : tie.Need-returns-4
-unfolding partProjection
-returns-4 c = rw (c .enum-told4 .given .1)
-
-returns-5 : tie.Need-returns-5
-unfolding partProjection
-returns-5 c = rw (c .enum-told5 .given .1)
-
-returns-6 : tie.Need-returns-6
-unfolding partProjection
-returns-6 c = rw (c .enum-told6 .given .1)
-
-returns-7 : tie.Need-returns-7
-unfolding partProjection
-returns-7 c = rw (c .enum-told7 .given .1)
+returns-4 c = not-of-part _ _ (c .match .keys4)
 
 pub part-projection-spec : {M : Type 1} → statement M
 part-projection-spec =
@@ -40,14 +28,7 @@ part-projection-spec =
     (λ c. search needs)
     (λ c. search needs)
     (λ c. search needs)
-    (λ c. search needs)
-    (λ c. search needs)
-    (λ c. search needs)
-    (λ c. search needs)
     returns
     returns-2
     returns-3
-    returns-4
-    returns-5
-    returns-6
-    returns-7)
+    returns-4)

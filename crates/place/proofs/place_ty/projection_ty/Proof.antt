@@ -7,6 +7,7 @@ use Rattle.place.proofs.place_ty.part_projection.Reads as part-projecti
 use Rattle.place.proofs.place_ty.ty_projection.Reads as ty-projection-reads
 use Rattle.place.proofs.place_ty.variant_projection.Reads as variant-projection-reads
 use Rattle.place.specs.PlaceTypes.{projectionTy}
+use Rattle.place.proofs.Defaults.{leads-nowhere}
 
 ty-projection-requires : tie.Need-ty-projection-requires
 ty-projection-requires c κs = (c .before .before .before .before .pre .0, c .before .before .before .before .pre .1, rw (c .before .ty .given .1) at (c .before .before .before .before .pre .2))
@@ -29,20 +30,7 @@ unfolding projectionTy
 returns-3 c = rw (c .before .before .ty3 .given .1) (c .part-projection .ensures)
 
 returns-4 : tie.Need-returns-4
-unfolding projectionTy
-returns-4 c = rw (c .enum-told .given .1)
-
-returns-5 : tie.Need-returns-5
-unfolding projectionTy
-returns-5 c = rw (c .enum-told2 .given .1)
-
-returns-6 : tie.Need-returns-6
-unfolding projectionTy
-returns-6 c = rw (c .enum-told3 .given .1)
-
-returns-7 : tie.Need-returns-7
-unfolding projectionTy
-returns-7 c = rw (c .enum-told4 .given .1)
+returns-4 c = leads-nowhere _ _ _ (c .match .keys4)
 
 pub projection-ty-spec : {M : Type 1} → statement M
 projection-ty-spec =
@@ -54,14 +42,7 @@ projection-ty-spec =
     variant-projection-requires
     (λ c. search needs)
     (λ c κs. search needs)
-    (λ c. search needs)
-    (λ c. search needs)
-    (λ c. search needs)
-    (λ c. search needs)
     returns
     returns-2
     returns-3
-    returns-4
-    returns-5
-    returns-6
-    returns-7)
+    returns-4)

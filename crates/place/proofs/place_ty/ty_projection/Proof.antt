@@ -19,7 +19,7 @@ field-ty-requires c κs = (c .before .before .before .before .before .before .pr
 
 returns : tie.Need-returns
 unfolding tyProjection tyOf
-returns c = rw (c .before .enum-told .given .1, ← c .before .before .before .before .type-at .ensures, ← c .before .before .before .type-kind .ensures) (c .deref-ty .ensures)
+returns c = rw (c .before .enum-told .given .1, ← c .before .before .before .before .type-at .ensures, ← c .before .before .before .type-kind .ensures) (c .deref-ty .ensures _)
 
 returns-2 : tie.Need-returns-2
 unfolding tyProjection tyOf
@@ -27,19 +27,19 @@ returns-2 c = rw (c .before .before .elem .given .1, ← c .before .before .befo
 
 returns-3 : tie.Need-returns-3
 unfolding tyProjection tyOf
-returns-3 c = rw (c .before .enum-told2 .given .1, ← c .before .before .before .before .type-at .ensures, ← c .before .before .before .type-kind .ensures) (c .element-ty .ensures)
+returns-3 c = rw (c .before .enum-told2 .given .1, ← c .before .before .before .before .type-at .ensures, ← c .before .before .before .type-kind .ensures) (c .element-ty .ensures _)
 
 returns-4 : tie.Need-returns-4
 unfolding tyProjection tyOf
-returns-4 c = rw (c .before .enum-told3 .given .1, ← c .before .before .before .before .type-at .ensures, ← c .before .before .before .type-kind .ensures) (c .element-ty2 .ensures)
+returns-4 c = rw (c .before .enum-told3 .given .1, ← c .before .before .before .before .type-at .ensures, ← c .before .before .before .type-kind .ensures) (c .element-ty2 .ensures _)
 
 returns-5 : tie.Need-returns-5
 unfolding tyProjection tyOf
-returns-5 c = rw (c .before .enum-told4 .given .1, ← c .before .before .before .before .type-at .ensures, ← c .before .before .before .type-kind .ensures) (c .subslice-ty .ensures)
+returns-5 c = rw (c .before .enum-told4 .given .1, ← c .before .before .before .before .type-at .ensures, ← c .before .before .before .type-kind .ensures) (c .subslice-ty .ensures _)
 
 returns-6 : tie.Need-returns-6
 unfolding tyProjection tyOf
-returns-6 c = rw (c .before .before .elem2 .given .1, ← c .before .before .before .before .before .type-at .ensures, ← c .before .before .before .before .type-kind .ensures) (c .downcast-ty .ensures)
+returns-6 c = rw (c .before .before .elem2 .given .1, ← c .before .before .before .before .before .type-at .ensures, ← c .before .before .before .before .type-kind .ensures) (c .downcast-ty .ensures _)
 
 returns-7 : tie.Need-returns-7
 unfolding tyProjection tyOf

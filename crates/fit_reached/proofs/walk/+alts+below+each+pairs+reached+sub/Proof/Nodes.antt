@@ -13,105 +13,65 @@ use Rattle.fit_reached.specs.Rows.{belowReached}
 use Rattle.fit_reached.proofs.Wording.{row-of}
 use Rattle.fit_reached.proofs.Stepping.{slice-items}
 use Rattle.fit_reached.proofs.Nodes.{refused-here, taken-here}
+use Rattle.fit_reached.proofs.Defaults.{none-below}
 use Rattle.fit_reached.proofs.walk.+alts+below+each+pairs+reached+sub.Proof.Measures.{below-at, reached-at, below-calls, reached-calls}
 
 pub below-each-requires : (t : ℕ) → below-lts.Need-each-requires (below-calls t) (below-at t) below.Post
-below-each-requires t c κs = (omega (arith, c .before .before .before .before .pre .0), (c .before .before .before .before .pre .1 .0 .parent, tuple-items (node-is PatKind.Tuple (c .enum-told5 .given .1) (c .before .before .before .before .pre .1 .0)), c .before .before .before .before .pre .1 .1))
+below-each-requires t c κs = (omega (arith, c .before .before .before .before .pre .0), (c .before .before .before .before .pre .1 .0 .parent, tuple-items (node-is PatKind.Tuple (c .enum-told .given .1) (c .before .before .before .before .pre .1 .0)), c .before .before .before .before .pre .1 .1))
 
 pub below-alts-requires : (t : ℕ) → below-lts.Need-alts-requires (below-calls t) (below-at t) below.Post
-below-alts-requires t c κs = (omega (arith, c .before .before .before .before .pre .0), (c .before .before .before .before .pre .1 .0 .parent, or-items (node-is PatKind.Or (c .enum-told6 .given .1) (c .before .before .before .before .pre .1 .0)), c .before .before .before .before .pre .1 .1))
+below-alts-requires t c κs = (omega (arith, c .before .before .before .before .pre .0), (c .before .before .before .before .pre .1 .0 .parent, or-items (node-is PatKind.Or (c .enum-told2 .given .1) (c .before .before .before .before .pre .1 .0)), c .before .before .before .before .pre .1 .1))
 
 pub below-pairs-requires : (t : ℕ) → below-lts.Need-pairs-requires (below-calls t) (below-at t) below.Post
-below-pairs-requires t c κs = (omega (arith, c .before .before .before .before .pre .0), (c .before .before .before .before .pre .1 .0 .parent, record-pairs (node-is PatKind.Record (c .enum-told7 .given .1) (c .before .before .before .before .pre .1 .0)), c .before .before .before .before .pre .1 .1))
+below-pairs-requires t c κs = (omega (arith, c .before .before .before .before .pre .0), (c .before .before .before .before .pre .1 .0 .parent, record-pairs (node-is PatKind.Record (c .enum-told3 .given .1) (c .before .before .before .before .pre .1 .0)), c .before .before .before .before .pre .1 .1))
 
 pub below-add-each : (t : ℕ) → below-lts.Need-add-each (below-calls t) (below-at t) below.Post
-below-add-each t c = omega (arith, slice-within (node-is PatKind.Slice (c .before .enum-told9 .given .1) (c .before .before .before .before .before .pre .1 .0)), c .before .before .before .before .before .pre .1 .0 .parent .whole .list-count, c .before .before .before .before .before .good .1 .0)
+below-add-each t c = omega (arith, slice-within (node-is PatKind.Slice (c .before .enum-told4 .given .1) (c .before .before .before .before .before .pre .1 .0)), c .before .before .before .before .before .pre .1 .0 .parent .whole .list-count, c .before .before .before .before .before .good .1 .0)
 
 pub below-each-requires-2 : (t : ℕ) → below-lts.Need-each-requires-2 (below-calls t) (below-at t) below.Post
-below-each-requires-2 t c κs = (omega (arith, c .before .before .before .before .before .pre .0), (c .before .before .before .before .before .pre .1 .0 .parent, slice-items (node-is PatKind.Slice (c .before .enum-told9 .given .1) (c .before .before .before .before .before .pre .1 .0)), c .before .before .before .before .before .pre .1 .1))
+below-each-requires-2 t c κs = (omega (arith, c .before .before .before .before .before .pre .0), (c .before .before .before .before .before .pre .1 .0 .parent, slice-items (node-is PatKind.Slice (c .before .enum-told4 .given .1) (c .before .before .before .before .before .pre .1 .0)), c .before .before .before .before .before .pre .1 .1))
 
 pub below-sub-requires : (t : ℕ) → below-lts.Need-sub-requires (below-calls t) (below-at t) below.Post
-below-sub-requires t c κs = (omega (arith, c .before .before .before .before .pre .0), (c .before .before .before .before .pre .1 .0 .parent, bind-below (node-is PatKind.Bind (c .enum-told12 .given .1) (c .before .before .before .before .pre .1 .0)), c .before .before .before .before .pre .1 .1))
+below-sub-requires t c κs = (omega (arith, c .before .before .before .before .pre .0), (c .before .before .before .before .pre .1 .0 .parent, bind-below (node-is PatKind.Bind (c .enum-told5 .given .1) (c .before .before .before .before .pre .1 .0)), c .before .before .before .before .pre .1 .1))
 
 pub below-each-requires-3 : (t : ℕ) → below-lts.Need-each-requires-3 (below-calls t) (below-at t) below.Post
-below-each-requires-3 t c κs = (omega (arith, c .before .before .before .before .pre .0), (c .before .before .before .before .pre .1 .0 .parent, tuple-struct-items (node-is PatKind.TupleStruct (c .enum-told13 .given .1) (c .before .before .before .before .pre .1 .0)), c .before .before .before .before .pre .1 .1))
+below-each-requires-3 t c κs = (omega (arith, c .before .before .before .before .pre .0), (c .before .before .before .before .pre .1 .0 .parent, tuple-struct-items (node-is PatKind.TupleStruct (c .enum-told6 .given .1) (c .before .before .before .before .pre .1 .0)), c .before .before .before .before .pre .1 .1))
 
 pub below-reached-requires : (t : ℕ) → below-lts.Need-reached-requires (below-calls t) (below-at t) below.Post
 below-reached-requires t c κs =
-    let first = ref-below (node-is PatKind.Ref (c .enum-told14 .given .1) (c .before .before .before .before .pre .1 .0)) in
+    let first = ref-below (node-is PatKind.Ref (c .enum-told7 .given .1) (c .before .before .before .before .pre .1 .0)) in
     (omega (arith, c .before .before .before .before .pre .0), (c .before .before .before .before .pre .1 .0 .parent .sound, c .before .before .before .before .pre .1 .0 .parent .whole, omega (arith, c .before .before .before .before .pre .1 .0 .parent .inside), c .before .before .before .before .pre .1 .1))
 
 pub below-returns : (t : ℕ) → below-lts.Need-returns (below-calls t) (below-at t) below.Post
 unfolding belowReached
-below-returns t c = rw (c .enum-told .given .1)
+below-returns t c = rw (c .before .enum-told .given .1) (c .each .ensures)
 
 pub below-returns-2 : (t : ℕ) → below-lts.Need-returns-2 (below-calls t) (below-at t) below.Post
 unfolding belowReached
-below-returns-2 t c = rw (c .enum-told2 .given .1)
+below-returns-2 t c = rw (c .before .enum-told2 .given .1) (c .alts .ensures)
 
 pub below-returns-3 : (t : ℕ) → below-lts.Need-returns-3 (below-calls t) (below-at t) below.Post
 unfolding belowReached
-below-returns-3 t c = rw (c .enum-told3 .given .1)
+below-returns-3 t c = rw (c .before .enum-told3 .given .1) (c .pairs .ensures)
 
 pub below-returns-4 : (t : ℕ) → below-lts.Need-returns-4 (below-calls t) (below-at t) below.Post
 unfolding belowReached
-below-returns-4 t c = rw (c .enum-told4 .given .1)
+below-returns-4 t c = rw (c .before .before .enum-told4 .given .1) (c .each2 .ensures)
 
 pub below-returns-5 : (t : ℕ) → below-lts.Need-returns-5 (below-calls t) (below-at t) below.Post
 unfolding belowReached
-below-returns-5 t c = rw (c .before .enum-told5 .given .1) (c .each .ensures)
+below-returns-5 t c = rw (c .before .enum-told5 .given .1) (c .sub .ensures)
 
 pub below-returns-6 : (t : ℕ) → below-lts.Need-returns-6 (below-calls t) (below-at t) below.Post
 unfolding belowReached
-below-returns-6 t c = rw (c .before .enum-told6 .given .1) (c .alts .ensures)
+below-returns-6 t c = rw (c .before .enum-told6 .given .1) (c .each3 .ensures)
 
 pub below-returns-7 : (t : ℕ) → below-lts.Need-returns-7 (below-calls t) (below-at t) below.Post
 unfolding belowReached
-below-returns-7 t c = rw (c .before .enum-told7 .given .1) (c .pairs .ensures)
+below-returns-7 t c = rw (c .before .enum-told7 .given .1) (c .reached .ensures)
 
 pub below-returns-8 : (t : ℕ) → below-lts.Need-returns-8 (below-calls t) (below-at t) below.Post
-unfolding belowReached
-below-returns-8 t c = rw (c .enum-told8 .given .1)
-
-pub below-returns-9 : (t : ℕ) → below-lts.Need-returns-9 (below-calls t) (below-at t) below.Post
-unfolding belowReached
-below-returns-9 t c = rw (c .before .before .enum-told9 .given .1) (c .each2 .ensures)
-
-pub below-returns-10 : (t : ℕ) → below-lts.Need-returns-10 (below-calls t) (below-at t) below.Post
-unfolding belowReached
-below-returns-10 t c = rw (c .enum-told10 .given .1)
-
-pub below-returns-11 : (t : ℕ) → below-lts.Need-returns-11 (below-calls t) (below-at t) below.Post
-unfolding belowReached
-below-returns-11 t c = rw (c .enum-told11 .given .1)
-
-pub below-returns-12 : (t : ℕ) → below-lts.Need-returns-12 (below-calls t) (below-at t) below.Post
-unfolding belowReached
-below-returns-12 t c = rw (c .before .enum-told12 .given .1) (c .sub .ensures)
-
-pub below-returns-13 : (t : ℕ) → below-lts.Need-returns-13 (below-calls t) (below-at t) below.Post
-unfolding belowReached
-below-returns-13 t c = rw (c .before .enum-told13 .given .1) (c .each3 .ensures)
-
-pub below-returns-14 : (t : ℕ) → below-lts.Need-returns-14 (below-calls t) (below-at t) below.Post
-unfolding belowReached
-below-returns-14 t c = rw (c .before .enum-told14 .given .1) (c .reached .ensures)
-
-pub below-returns-15 : (t : ℕ) → below-lts.Need-returns-15 (below-calls t) (below-at t) below.Post
-unfolding belowReached
-below-returns-15 t c = rw (c .enum-told15 .given .1)
-
-pub below-returns-16 : (t : ℕ) → below-lts.Need-returns-16 (below-calls t) (below-at t) below.Post
-unfolding belowReached
-below-returns-16 t c = rw (c .enum-told16 .given .1)
-
-pub below-returns-17 : (t : ℕ) → below-lts.Need-returns-17 (below-calls t) (below-at t) below.Post
-unfolding belowReached
-below-returns-17 t c = rw (c .enum-told17 .given .1)
-
-pub below-returns-18 : (t : ℕ) → below-lts.Need-returns-18 (below-calls t) (below-at t) below.Post
-unfolding belowReached
-below-returns-18 t c = rw (c .enum-told18 .given .1)
+below-returns-8 t c = none-below _ _ _ _ (c .match .keys8)
 
 pub reached-pat-at-requires : (t : ℕ) → reached-lts.Need-pat-at-requires (reached-calls t) (reached-at t) reached.Post
 reached-pat-at-requires t c κs = (c .before .before .pre .1 .1, omega (arith, c .before .before .pre .1 .1 .pattern-count, c .before .before .pre .1 .2))

@@ -9,6 +9,7 @@ use native.Mathlib.Omega.{arith}
 use borrow.Author.Tests.{not-true, not-false}
 use Rattle.image.specs.declared.kinds.PatKind.{PatKind}
 use Rattle.fit_types.specs.Parts.{partsFit}
+use Rattle.fit_types.proofs.Defaults.{no-parts}
 use Rattle.fit_types.proofs.Numbering.{number-named}
 use Rattle.fit_types.proofs.Holding.{node-is, node-type, node-named, tuple-items, or-items, range-start, range-end, path-holds, lit-holds, bind-below, ref-below}
 use Rattle.fit_types.proofs.Asking.{node-at, other-type, own-type}
@@ -19,106 +20,77 @@ pub parts-fit-tuple-fields-requires : (t : ℕ) → parts-fit-lts.Need-tuple-fie
 parts-fit-tuple-fields-requires t c κs = (c .before .before .before .pre .1 .parent .sound, c .before .before .before .pre .1 .parent .whole, node-type (c .before .before .before .pre .1))
 
 pub parts-fit-row-fits-requires : (t : ℕ) → parts-fit-lts.Need-row-fits-requires (parts-fit-calls t) (parts-fit-at t) parts-fit.Post
-parts-fit-row-fits-requires t c κs = (omega (arith, c .before .before .before .before .pre .0), (c .before .before .before .before .pre .1 .parent, tuple-items (node-is PatKind.Tuple (c .before .enum-told5 .given .1) (c .before .before .before .before .pre .1)), c .tuple-fields .ensures .types))
+parts-fit-row-fits-requires t c κs = (omega (arith, c .before .before .before .before .pre .0), (c .before .before .before .before .pre .1 .parent, tuple-items (node-is PatKind.Tuple (c .before .enum-told .given .1) (c .before .before .before .before .pre .1)), c .tuple-fields .ensures .types))
 
 pub parts-fit-items-all-fit-requires : (t : ℕ) → parts-fit-lts.Need-items-all-fit-requires (parts-fit-calls t) (parts-fit-at t) parts-fit.Post
-parts-fit-items-all-fit-requires t c κs = (omega (arith, c .before .before .before .pre .0), (c .before .before .before .pre .1 .parent, or-items (node-is PatKind.Or (c .enum-told6 .given .1) (c .before .before .before .pre .1)), node-named (c .before .before .before .pre .1)))
+parts-fit-items-all-fit-requires t c κs = (omega (arith, c .before .before .before .pre .0), (c .before .before .before .pre .1 .parent, or-items (node-is PatKind.Or (c .enum-told2 .given .1) (c .before .before .before .pre .1)), node-named (c .before .before .before .pre .1)))
 
 pub parts-fit-record-fits-requires : (t : ℕ) → parts-fit-lts.Need-record-fits-requires (parts-fit-calls t) (parts-fit-at t) parts-fit.Post
-parts-fit-record-fits-requires t c κs = (omega (arith, c .before .before .before .pre .0), (node-is PatKind.Record (c .enum-told7 .given .1) (c .before .before .before .pre .1)))
+parts-fit-record-fits-requires t c κs = (omega (arith, c .before .before .before .pre .0), (node-is PatKind.Record (c .enum-told3 .given .1) (c .before .before .before .pre .1)))
 
 pub parts-fit-ends-fit-requires : (t : ℕ) → parts-fit-lts.Need-ends-fit-requires (parts-fit-calls t) (parts-fit-at t) parts-fit.Post
-parts-fit-ends-fit-requires t c κs = (c .before .before .before .pre .1 .parent .sound, c .before .before .before .pre .1 .parent .whole, node-type (c .before .before .before .pre .1), range-start (node-is PatKind.Range (c .enum-told8 .given .1) (c .before .before .before .pre .1)), range-end (node-is PatKind.Range (c .enum-told8 .given .1) (c .before .before .before .pre .1)))
+parts-fit-ends-fit-requires t c κs = (c .before .before .before .pre .1 .parent .sound, c .before .before .before .pre .1 .parent .whole, node-type (c .before .before .before .pre .1), range-start (node-is PatKind.Range (c .enum-told4 .given .1) (c .before .before .before .pre .1)), range-end (node-is PatKind.Range (c .enum-told4 .given .1) (c .before .before .before .pre .1)))
 
 pub parts-fit-slice-fits-requires : (t : ℕ) → parts-fit-lts.Need-slice-fits-requires (parts-fit-calls t) (parts-fit-at t) parts-fit.Post
-parts-fit-slice-fits-requires t c κs = (omega (arith, c .before .before .before .pre .0), (node-is PatKind.Slice (c .enum-told9 .given .1) (c .before .before .before .pre .1)))
+parts-fit-slice-fits-requires t c κs = (omega (arith, c .before .before .before .pre .0), (node-is PatKind.Slice (c .enum-told5 .given .1) (c .before .before .before .pre .1)))
 
 pub parts-fit-path-fits-requires : (t : ℕ) → parts-fit-lts.Need-path-fits-requires (parts-fit-calls t) (parts-fit-at t) parts-fit.Post
-parts-fit-path-fits-requires t c κs = (c .before .before .before .before .pre .1 .parent .sound, c .before .before .before .before .pre .1 .parent .whole, node-type (c .before .before .before .before .pre .1), rw (c .path-kind .ensures) (path-holds (node-is PatKind.Path (c .before .enum-told10 .given .1) (c .before .before .before .before .pre .1))))
+parts-fit-path-fits-requires t c κs = (c .before .before .before .before .pre .1 .parent .sound, c .before .before .before .before .pre .1 .parent .whole, node-type (c .before .before .before .before .pre .1), rw (c .path-kind .ensures) (path-holds (node-is PatKind.Path (c .before .enum-told6 .given .1) (c .before .before .before .before .pre .1))))
 
 pub parts-fit-literal-fits-requires : (t : ℕ) → parts-fit-lts.Need-literal-fits-requires (parts-fit-calls t) (parts-fit-at t) parts-fit.Post
-parts-fit-literal-fits-requires t c κs = (c .before .before .before .pre .1 .parent .sound, c .before .before .before .pre .1 .parent .whole, node-type (c .before .before .before .pre .1), lit-holds (node-is PatKind.Lit (c .enum-told11 .given .1) (c .before .before .before .pre .1)))
+parts-fit-literal-fits-requires t c κs = (c .before .before .before .pre .1 .parent .sound, c .before .before .before .pre .1 .parent .whole, node-type (c .before .before .before .pre .1), lit-holds (node-is PatKind.Lit (c .enum-told7 .given .1) (c .before .before .before .pre .1)))
 
 pub parts-fit-sub-fits-requires : (t : ℕ) → parts-fit-lts.Need-sub-fits-requires (parts-fit-calls t) (parts-fit-at t) parts-fit.Post
-parts-fit-sub-fits-requires t c κs = (omega (arith, c .before .before .before .pre .0), (c .before .before .before .pre .1 .parent, bind-below (node-is PatKind.Bind (c .enum-told12 .given .1) (c .before .before .before .pre .1)), node-named (c .before .before .before .pre .1)))
+parts-fit-sub-fits-requires t c κs = (omega (arith, c .before .before .before .pre .0), (c .before .before .before .pre .1 .parent, bind-below (node-is PatKind.Bind (c .enum-told8 .given .1) (c .before .before .before .pre .1)), node-named (c .before .before .before .pre .1)))
 
 pub parts-fit-tuple-struct-fits-requires : (t : ℕ) → parts-fit-lts.Need-tuple-struct-fits-requires (parts-fit-calls t) (parts-fit-at t) parts-fit.Post
-parts-fit-tuple-struct-fits-requires t c κs = (omega (arith, c .before .before .before .pre .0), (node-is PatKind.TupleStruct (c .enum-told13 .given .1) (c .before .before .before .pre .1)))
+parts-fit-tuple-struct-fits-requires t c κs = (omega (arith, c .before .before .before .pre .0), (node-is PatKind.TupleStruct (c .enum-told9 .given .1) (c .before .before .before .pre .1)))
 
 pub parts-fit-referent-of-requires : (t : ℕ) → parts-fit-lts.Need-referent-of-requires (parts-fit-calls t) (parts-fit-at t) parts-fit.Post
 parts-fit-referent-of-requires t c κs = (c .before .before .before .pre .1 .parent .sound, c .before .before .before .pre .1 .parent .whole, node-type (c .before .before .before .pre .1))
 
 pub parts-fit-types-fit-requires : (t : ℕ) → parts-fit-lts.Need-types-fit-requires (parts-fit-calls t) (parts-fit-at t) parts-fit.Post
 parts-fit-types-fit-requires t c κs =
-    let first = ref-below (node-is PatKind.Ref (c .before .enum-told14 .given .1) (c .before .before .before .before .pre .1)) in
+    let first = ref-below (node-is PatKind.Ref (c .before .enum-told10 .given .1) (c .before .before .before .before .pre .1)) in
     (omega (arith, c .before .before .before .before .pre .0), (c .before .before .before .before .pre .1 .parent .sound, c .before .before .before .before .pre .1 .parent .whole, omega (arith, c .before .before .before .before .pre .1 .parent .inside), number-named (c .referent-of .ensures)))
 
 pub parts-fit-returns : (t : ℕ) → parts-fit-lts.Need-returns (parts-fit-calls t) (parts-fit-at t) parts-fit.Post
-unfolding partsFit
-parts-fit-returns t c = rw (c .enum-told .given .1)
+parts-fit-returns t c = rw (c .before .before .enum-told .given .1) (tuple-own _ _ (c .before .tuple-fields .ensures) (c .row-fits .ensures))
 
 pub parts-fit-returns-2 : (t : ℕ) → parts-fit-lts.Need-returns-2 (parts-fit-calls t) (parts-fit-at t) parts-fit.Post
 unfolding partsFit
-parts-fit-returns-2 t c = rw (c .enum-told2 .given .1)
+parts-fit-returns-2 t c = rw (c .before .enum-told2 .given .1) (c .items-all-fit .ensures)
 
 pub parts-fit-returns-3 : (t : ℕ) → parts-fit-lts.Need-returns-3 (parts-fit-calls t) (parts-fit-at t) parts-fit.Post
-unfolding partsFit
-parts-fit-returns-3 t c = rw (c .enum-told3 .given .1)
+parts-fit-returns-3 t c = rw (c .before .enum-told3 .given .1) (c .record-fits .ensures)
 
 pub parts-fit-returns-4 : (t : ℕ) → parts-fit-lts.Need-returns-4 (parts-fit-calls t) (parts-fit-at t) parts-fit.Post
 unfolding partsFit
-parts-fit-returns-4 t c = rw (c .enum-told4 .given .1)
+parts-fit-returns-4 t c = rw (c .before .enum-told4 .given .1) (c .ends-fit .ensures)
 
 pub parts-fit-returns-5 : (t : ℕ) → parts-fit-lts.Need-returns-5 (parts-fit-calls t) (parts-fit-at t) parts-fit.Post
-parts-fit-returns-5 t c = rw (c .before .before .enum-told5 .given .1) (tuple-own _ _ (c .before .tuple-fields .ensures) (c .row-fits .ensures))
+parts-fit-returns-5 t c = rw (c .before .enum-told5 .given .1) (c .slice-fits .ensures)
 
 pub parts-fit-returns-6 : (t : ℕ) → parts-fit-lts.Need-returns-6 (parts-fit-calls t) (parts-fit-at t) parts-fit.Post
 unfolding partsFit
-parts-fit-returns-6 t c = rw (c .before .enum-told6 .given .1) (c .items-all-fit .ensures)
+parts-fit-returns-6 t c = rw ((c .before .before .enum-told6 .given .1), ← c .before .path-kind .ensures) (c .path-fits .ensures)
 
 pub parts-fit-returns-7 : (t : ℕ) → parts-fit-lts.Need-returns-7 (parts-fit-calls t) (parts-fit-at t) parts-fit.Post
-parts-fit-returns-7 t c = rw (c .before .enum-told7 .given .1) (c .record-fits .ensures)
+unfolding partsFit
+parts-fit-returns-7 t c = rw (c .before .enum-told7 .given .1) (c .literal-fits .ensures)
 
 pub parts-fit-returns-8 : (t : ℕ) → parts-fit-lts.Need-returns-8 (parts-fit-calls t) (parts-fit-at t) parts-fit.Post
 unfolding partsFit
-parts-fit-returns-8 t c = rw (c .before .enum-told8 .given .1) (c .ends-fit .ensures)
+parts-fit-returns-8 t c = rw (c .before .enum-told8 .given .1) (c .sub-fits .ensures)
 
 pub parts-fit-returns-9 : (t : ℕ) → parts-fit-lts.Need-returns-9 (parts-fit-calls t) (parts-fit-at t) parts-fit.Post
-parts-fit-returns-9 t c = rw (c .before .enum-told9 .given .1) (c .slice-fits .ensures)
+parts-fit-returns-9 t c = rw (c .before .enum-told9 .given .1) (c .tuple-struct-fits .ensures)
 
 pub parts-fit-returns-10 : (t : ℕ) → parts-fit-lts.Need-returns-10 (parts-fit-calls t) (parts-fit-at t) parts-fit.Post
-unfolding partsFit
-parts-fit-returns-10 t c = rw ((c .before .before .enum-told10 .given .1), ← c .before .path-kind .ensures) (c .path-fits .ensures)
+parts-fit-returns-10 t c = rw (c .before .before .enum-told10 .given .1) (ref-own _ _ (c .before .referent-of .ensures) (c .types-fit .ensures))
 
 pub parts-fit-returns-11 : (t : ℕ) → parts-fit-lts.Need-returns-11 (parts-fit-calls t) (parts-fit-at t) parts-fit.Post
-unfolding partsFit
-parts-fit-returns-11 t c = rw (c .before .enum-told11 .given .1) (c .literal-fits .ensures)
-
-pub parts-fit-returns-12 : (t : ℕ) → parts-fit-lts.Need-returns-12 (parts-fit-calls t) (parts-fit-at t) parts-fit.Post
-unfolding partsFit
-parts-fit-returns-12 t c = rw (c .before .enum-told12 .given .1) (c .sub-fits .ensures)
-
-pub parts-fit-returns-13 : (t : ℕ) → parts-fit-lts.Need-returns-13 (parts-fit-calls t) (parts-fit-at t) parts-fit.Post
-parts-fit-returns-13 t c = rw (c .before .enum-told13 .given .1) (c .tuple-struct-fits .ensures)
-
-pub parts-fit-returns-14 : (t : ℕ) → parts-fit-lts.Need-returns-14 (parts-fit-calls t) (parts-fit-at t) parts-fit.Post
-parts-fit-returns-14 t c = rw (c .before .before .enum-told14 .given .1) (ref-own _ _ (c .before .referent-of .ensures) (c .types-fit .ensures))
-
-pub parts-fit-returns-15 : (t : ℕ) → parts-fit-lts.Need-returns-15 (parts-fit-calls t) (parts-fit-at t) parts-fit.Post
-unfolding partsFit
-parts-fit-returns-15 t c = rw (c .enum-told15 .given .1)
-
-pub parts-fit-returns-16 : (t : ℕ) → parts-fit-lts.Need-returns-16 (parts-fit-calls t) (parts-fit-at t) parts-fit.Post
-unfolding partsFit
-parts-fit-returns-16 t c = rw (c .enum-told16 .given .1)
-
-pub parts-fit-returns-17 : (t : ℕ) → parts-fit-lts.Need-returns-17 (parts-fit-calls t) (parts-fit-at t) parts-fit.Post
-unfolding partsFit
-parts-fit-returns-17 t c = rw (c .enum-told17 .given .1)
-
-pub parts-fit-returns-18 : (t : ℕ) → parts-fit-lts.Need-returns-18 (parts-fit-calls t) (parts-fit-at t) parts-fit.Post
-unfolding partsFit
-parts-fit-returns-18 t c = rw (c .enum-told18 .given .1)
+parts-fit-returns-11 t c = no-parts _ _ _ (c .match .keys11)
 
 pub types-fit-pat-at-requires : (t : ℕ) → types-fit-lts.Need-pat-at-requires (types-fit-calls t) (types-fit-at t) types-fit.Post
 types-fit-pat-at-requires t c κs = (c .before .pre .1 .1, omega (arith, c .before .pre .1 .1 .pattern-count, c .before .pre .1 .2))
