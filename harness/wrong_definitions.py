@@ -26,7 +26,7 @@ REPOSITORY = Path(__file__).resolve().parent.parent
 # The crates of theorems, from the bottom to the page.
 THEOREMS = ("counting", "growth", "named", "meaning", "correctness", "fitted", "room", "param_runs", "called", "audit")
 # The crate of the page's rows alone, over the definitions that they are computed from.
-ROWS_STAND_ON = "refusals row_tables image place mir state literals lower_spec views pattern_matching counting meaning"
+ROWS_STAND_ON = "refusals row_tables image cases_spec place mir state literals lower_spec views pattern_matching counting meaning"
 ERROR = re.compile(r"crates/(\w+)/(specs|proofs)/([\w/]+)\.antt:\d+:\d+: error: `([^`]+)`(.*)")
 
 

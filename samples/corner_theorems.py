@@ -69,7 +69,7 @@ PARAM_MODULES = [
 
 FIT_MODULES = [
     ("image", "Integers", "leastValue greatestValue inRange integerValue"),
-    ("counting", "Cases", "kindNumber tupleFields referent"),
+    ("cases_spec", "Cases", "kindNumber tupleFields referent"),
     ("meaning", "Values", "items partsOf intFits hasVariant valueFits"),
     ("meaning", "Typing", "adtVariants"),
     ("meaning", "Fit", "behind typeIsThePlaces argumentsFit discriminantsDiffer integerFits literalFits pathFits rowFits eachFits typesFit boundIn bindingsFit pathTaken "
@@ -81,7 +81,7 @@ FIT_MODULES = [
 # What the rows on fit, meaning and run unfold besides, by the whole of its name.
 MEANING = {
     "image.specs.Integers": "leastValue greatestValue inRange integerValue",
-    "counting.specs.Cases": "kindNumber tupleFields referent",
+    "cases_spec.specs.Cases": "kindNumber tupleFields referent",
     "counting.specs.Reaching": "isEnum isSliceShape behindDerefs fieldCount pathTests zip inARow byFields downcast ofVariant sliceArguments someArgument allAlternatives canFail",
     "meaning.specs.Values": "items values derefed partsOf middle subslice partAt placeIn intFits hasVariant valueFits",
     "meaning.specs.Running": "update valueOf dataBytes signedNumber constantBy constantValue scalarOf bytesOf sameNumbers sameValue compared discriminantOf elemNumbers "

@@ -8,7 +8,7 @@ use lib.Dec.{eqb, ltb, leb}
 use lib.ListN.{length, getD}
 use Rattle.image.specs.Lists.{allBelow, allTrue}
 use Rattle.place.specs.declared.elems.ProjectionElem.{ProjectionElem}
-use Rattle.place.specs.Elems.{elemOf}
+use Rattle.place.specs.Elems.{elemOf, byElem}
 use Rattle.mir.specs.declared.Counts.{Counts}
 
 -- the word k of the row i, in a table of rows of w words
@@ -51,13 +51,7 @@ blockHolds table c i =
 
 -- an element of a known kind; a Downcast names a variant that there is, and other numbers are not looked at
 unfoldable pub elemHolds : ℕ → ProjectionElem → Bool
-elemHolds variants ProjectionElem.Deref = true
-elemHolds variants (ProjectionElem.Field a) = true
-elemHolds variants (ProjectionElem.Index a) = true
-elemHolds variants (ProjectionElem.IndexFromEnd a) = true
-elemHolds variants (ProjectionElem.Subslice a b) = true
-elemHolds variants (ProjectionElem.Downcast v) = ltb v variants
-elemHolds variants ProjectionElem.Unknown = false
+elemHolds variants elem = byElem elem true (λ i. true) true true (λ v. ltb v variants) false
 
 -- the element j of the place in the statement i
 unfoldable pub elemAtHolds : ℕ → List ℕ → ℕ → ℕ → Bool

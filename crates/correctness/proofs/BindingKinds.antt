@@ -21,7 +21,7 @@ use Rattle.pattern_matching.specs.Tests.{literal, litBy}
 use Rattle.pattern_matching.specs.Variants.{placeTy, shapeOf, needed, patternMatchTupleLike, ellipsisAt, tupleOn, tuplePattern, refOn, refPattern}
 use Rattle.pattern_matching.specs.Patterns.{rangePattern, bindPattern}
 use Rattle.growth.proofs.Walks.{not-ok, ok-is, walked}
-use Rattle.counting.specs.Cases.{tupleFields}
+use Rattle.cases_spec.specs.Cases.{tupleFields}
 use Rattle.meaning.specs.Values.{Value, partsOf, partAt, valueFits}
 use Rattle.meaning.specs.Running.{Scene}
 use Rattle.meaning.specs.Matching.{onto, crossed, crossedPath, boundAs, bindAll, matchRow, rowFields}

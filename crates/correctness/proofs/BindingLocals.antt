@@ -14,7 +14,7 @@ use Rattle.image.specs.Tree.{Pat, Pats, nil, cons, PatOpt, no, sub}
 use Rattle.image.proofs.Bools.{and-left, and-right}
 use Rattle.place.specs.declared.place_ty.PlaceTy.{PlaceTy}
 use Rattle.counting.specs.Reaching.{canFail}
-use Rattle.counting.specs.Cases.{kindNumber}
+use Rattle.cases_spec.specs.Cases.{kindNumber}
 use Rattle.meaning.specs.Values.{hasVariant}
 use Rattle.meaning.specs.Typing.{variantFields}
 use Rattle.meaning.specs.Fit.{BoundAt, restTy, restBound?, patCount, boundIn, boundInAll, boundInFirst, boundIn?, fieldsThere, ellipsisWithin, hasLocal, restTaken?, nothingRefused, noneRefused, noneReachedRefused, nothingRefused?}

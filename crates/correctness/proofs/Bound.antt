@@ -20,7 +20,7 @@ use Rattle.pattern_matching.specs.Variants.{AdtPatternShape, tuplePattern, refP
 use Rattle.pattern_matching.specs.Slices.{sliceOn}
 use Rattle.pattern_matching.specs.Patterns.{passing, orPattern, rangePattern, pathPattern, bindPattern, restOf, patternMatchInner, lowerings, lowering?}
 use Rattle.growth.proofs.Walks.{ok-is}
-use Rattle.counting.specs.Cases.{referent}
+use Rattle.cases_spec.specs.Cases.{referent}
 use Rattle.meaning.specs.Values.{Value, partsOf, partAt}
 use Rattle.meaning.specs.Running.{Scene}
 use Rattle.meaning.specs.Matching.{onto, crossed, crossedPath, Bound, boundAs, bindAll, matchAll, matchRow, matchFields, longEnough, isVariant, rowFields, recordFields, lastItems, variantPath, matches, matchers, matches?}

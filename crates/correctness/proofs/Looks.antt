@@ -30,7 +30,7 @@ use Rattle.pattern_matching.specs.Patterns.{passing, orPattern, endOp, rangePat
 use Rattle.growth.specs.Opened.{Ready, Leaves}
 use Rattle.growth.proofs.Walks.{not-ok, walked}
 use Rattle.growth.proofs.Testing.{good-range-end}
-use Rattle.counting.specs.Cases.{referent, tupleFields}
+use Rattle.cases_spec.specs.Cases.{referent, tupleFields}
 use Rattle.meaning.specs.Values.{Value, partsOf, partAt, valueFits}
 use Rattle.meaning.specs.Running.{Env, Scene, constantValue, sameValue, both, scalarOf, notAbove, compared}
 use Rattle.meaning.specs.Matching.{operandValue, operandValue?, fromStart, toEnd, matchRow, matchFields, isVariant}

@@ -17,7 +17,7 @@ use Rattle.lower_spec.specs.declared.merging.OptBlock.{OptBlock}
 use Rattle.pattern_matching.specs.Walking.{Ctx, Out, Lowering, project, visited, entered}
 use Rattle.pattern_matching.specs.Variants.{placeTy, shapeOf, needed, tupleOn, tuplePattern, refOn, refPattern}
 use Rattle.pattern_matching.specs.Patterns.{refusing, passing}
-use Rattle.counting.specs.Cases.{tupleFields}
+use Rattle.cases_spec.specs.Cases.{tupleFields}
 use Rattle.counting.specs.Reaching.{behindDerefs, inARow, fieldCount, someArgument, Reaching, testing, throughArguments}
 use Rattle.counting.proofs.Holding.{Holds, holds, refuses, holds-step, holds-as}
 use Rattle.counting.proofs.Going.{visit}

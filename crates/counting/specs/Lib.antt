@@ -1,4 +1,3 @@
-pub mod Cases
 pub mod Reaching
 pub mod Counting
 pub mod Demand3

@@ -13,7 +13,7 @@ use Rattle.place.specs.declared.place_ty.PlaceTy.{PlaceTy}
 use Rattle.place.specs.PlaceTypes.{projectionTy, multiProjectionTy}
 use Rattle.pattern_matching.specs.Variants.{shapeOf, fieldsUpTo}
 use Rattle.pattern_matching.specs.Slices.{suffixItems}
-use Rattle.counting.specs.Cases.{ifThere, tupleFields, ifAdt, ifSlice, ifBind}
+use Rattle.cases_spec.specs.Cases.{ifThere, tupleFields, byAdtKind, ifAdt, ifSlice, ifBind}
 
 -- the type of a place behind so many references
 unfoldable pub behindDerefs : List ℕ → PlaceTy → ℕ → PlaceTy
@@ -48,10 +48,7 @@ unfoldable pub fieldCount : Option Shape → ℕ
 fieldCount shape = ifThere shape (λ s. length (tupleFields s)) 0
 
 abbrev pub isEnumKind : AdtKind → Bool
-isEnumKind AdtKind.Struct = false
-isEnumKind AdtKind.Enum = true
-isEnumKind AdtKind.Union = false
-isEnumKind AdtKind.Unknown = false
+isEnumKind kind = byAdtKind kind false true false false
 
 -- the type at the place is an enum
 unfoldable pub isEnum : Option Shape → Bool

@@ -18,7 +18,7 @@ use Rattle.image.specs.Valid.{valid}
 use Rattle.image.proofs.Bools.{and-left}
 use Rattle.image.proofs.Known.{shape-holds}
 use Rattle.image.proofs.kinds.TypeKind as type-kind
-use Rattle.counting.specs.Cases.{kindNumber, referent}
+use Rattle.cases_spec.specs.Cases.{kindNumber, referent}
 use Rattle.meaning.specs.Fit.{integerFits, refersToStr}
 use Rattle.meaning.specs.Values.{intFits}
 

@@ -20,7 +20,7 @@ use Rattle.place.specs.declared.elems.ProjectionElem.{ProjectionElem}
 use Rattle.place.specs.declared.place_ty.PlaceTy.{PlaceTy}
 use Rattle.place.specs.PlaceTypes.{Named}
 use Rattle.place.proofs.Named.{named-projection}
-use Rattle.counting.specs.Cases.{kindNumber, referent, tupleFields}
+use Rattle.cases_spec.specs.Cases.{kindNumber, referent, tupleFields}
 use Rattle.meaning.specs.Values.{hasValues, hasVariant}
 use Rattle.meaning.specs.Typing.{TypeNumber, variantFields, elementType, fieldType}
 use Rattle.meaning.specs.Fit.{argumentsFit, rowFits, byFieldsFit, itemsAllFit, typesFit, fitting, typesFit?, patCount, fieldsThere, ellipsisWithin, hasLocal, restTaken?, nothingRefused, noneRefused, noneReachedRefused, nothingRefused?, eachFits}

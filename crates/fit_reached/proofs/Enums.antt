@@ -15,7 +15,7 @@ use Rattle.image.specs.Rows.{typeAt}
 use Rattle.image.specs.Types.{Shape, integer, bool, char, str, tuple, adt, reference, array, slice, unknown, tyOf}
 use Rattle.image.specs.Valid.{valid}
 use Rattle.counting.specs.Reaching.{isEnum, isEnumKind, isSliceShape}
-use Rattle.counting.specs.Cases.{kindNumber}
+use Rattle.cases_spec.specs.Cases.{kindNumber}
 use Rattle.fit_literals.proofs.Shapes.{kind-of}
 use Rattle.fit_types.proofs.Shaped.{adt-of}
 

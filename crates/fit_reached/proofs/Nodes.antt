@@ -19,7 +19,7 @@ use Rattle.image.specs.Types.{Shape, tyOf, operandOf}
 use Rattle.image.specs.Tree.{nodeBy, trees, tree?, tree, word?, operand?, target}
 use Rattle.place.proofs.Fields.{length-listed}
 use Rattle.counting.specs.Reaching.{isEnum, isSliceShape}
-use Rattle.counting.specs.Cases.{kindNumber}
+use Rattle.cases_spec.specs.Cases.{kindNumber}
 use Rattle.meaning.specs.Fit.{patCount, isThere, hasLocal, pathTaken}
 use Rattle.fit_types.specs.Parts.{Node}
 use Rattle.fit_types.proofs.Nodes.{headOf, node-of}

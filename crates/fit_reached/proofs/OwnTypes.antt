@@ -19,7 +19,7 @@ use Rattle.place.specs.PlaceTypes.{projectionTy, Named}
 use Rattle.place.proofs.Named.{named-projection}
 use Rattle.pattern_matching.specs.Variants.{shapeOf}
 use Rattle.counting.specs.Reaching.{Argument, behindDerefs, inARow, byFields, fieldCount, isEnumKind, isEnum, isSliceShape, downcast, ofVariant, sliceArguments, someArgument, allAlternatives, endCount, pathTests, positive, canFail, failing, canFail?}
-use Rattle.counting.specs.Cases.{kindNumber, referent, tupleFields}
+use Rattle.cases_spec.specs.Cases.{kindNumber, referent, tupleFields}
 use Rattle.meaning.specs.Values.{hasValues, hasVariant}
 use Rattle.meaning.specs.Typing.{TypeNumber, variantFields, elementType}
 use Rattle.meaning.specs.Fit.{isThere, rowFits, itemsAllFit, typesFit, fitting, typesFit?, patCount, fieldsThere, ellipsisWithin, hasLocal, restTaken?, nothingRefused, noneRefused, noneReachedRefused, nothingRefused?}

@@ -27,7 +27,7 @@ use Rattle.image.proofs.Known.{pattern-holds}
 use Rattle.marks.proofs.Takes.{listed-next, listed-none}
 use Rattle.marks.proofs.Shapes.{pattern-shape}
 use Rattle.place.proofs.Fields.{length-listed}
-use Rattle.counting.specs.Cases.{kindNumber}
+use Rattle.cases_spec.specs.Cases.{kindNumber}
 use Rattle.meaning.specs.Values.{hasValues, hasVariant}
 use Rattle.meaning.specs.Typing.{adtVariants}
 use Rattle.meaning.specs.Fit.{fieldsThere, ellipsisWithin, hasLocal, restTaken?}

@@ -16,7 +16,7 @@ use Rattle.image.specs.Rules.{listed}
 use Rattle.image.specs.Types.{Shape, integer, bool, char, str, tuple, adt, reference, array, slice, unknown, tyOf}
 use Rattle.image.specs.Tree.{trees, tree?, tree, word?, operand?, target}
 use Rattle.counting.specs.Reaching.{isEnum, isSliceShape}
-use Rattle.counting.specs.Cases.{kindNumber}
+use Rattle.cases_spec.specs.Cases.{kindNumber}
 use Rattle.meaning.specs.Values.{hasValues, hasVariant}
 use Rattle.meaning.specs.Typing.{variantFields}
 use Rattle.meaning.specs.Fit.{isThere, fieldsThere, ellipsisWithin, hasLocal, pathTaken, restTaken?}

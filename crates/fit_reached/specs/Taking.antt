@@ -9,7 +9,7 @@ use lib.ListN.{length}
 use Rattle.image.specs.Tables.{typeCount}
 use Rattle.image.specs.Types.{tyOf}
 use Rattle.image.specs.Tree.{Pat, Pats, nil, cons, PatOpt, no, sub, tree}
-use Rattle.counting.specs.Cases.{kindNumber}
+use Rattle.cases_spec.specs.Cases.{kindNumber}
 use Rattle.meaning.specs.Values.{hasVariant}
 use Rattle.meaning.specs.Typing.{variantFields}
 use Rattle.meaning.specs.Fit.{typesFit, patCount, fieldsThere, ellipsisWithin, hasLocal, pathTaken, restTaken?, nothingRefused}

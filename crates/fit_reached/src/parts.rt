@@ -24,7 +24,7 @@ ghost use Rattle.image.specs.Types.{tyOf};
 ghost use Rattle.image.specs.Tree.{tree, tree?, word?, target};
 ghost use Rattle.image.specs.Valid.{valid};
 ghost use Rattle.counting.specs.Reaching.{isEnum, isEnumKind};
-ghost use Rattle.counting.specs.Cases.{kindNumber};
+ghost use Rattle.cases_spec.specs.Cases.{kindNumber};
 ghost use Rattle.meaning.specs.Values.{hasValues, hasVariant};
 ghost use Rattle.meaning.specs.Fit.{fieldsThere, ellipsisWithin, hasLocal, pathTaken, restTaken?};
 ghost use Rattle.fit_types.specs.Slices.{patternOrAbsent};

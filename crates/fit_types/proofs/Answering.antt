@@ -9,7 +9,7 @@ use Rattle.image.specs.declared.rows.PatRow.{PatRow}
 use Rattle.image.specs.Rules.{absent, listed}
 use Rattle.image.specs.Types.{Shape, tyOf}
 use Rattle.image.specs.Tree.{tree?, tree, word?}
-use Rattle.counting.specs.Cases.{referent, tupleFields}
+use Rattle.cases_spec.specs.Cases.{referent, tupleFields}
 use Rattle.meaning.specs.Typing.{variantFields, elementType}
 use Rattle.meaning.specs.Fit.{recordFieldsDiffer, discriminantsDiffer, itemsFit, restFits, rowFits, byFieldsFit, itemsAllFit, typesFit, typesFit?}
 use Rattle.fit_types.specs.declared.TypeNumber.{TypeNumber}

@@ -22,7 +22,7 @@ use Rattle.image.proofs.Known.{variant-holds}
 use Rattle.marks.proofs.Takes.{listed-next, listed-none}
 use Rattle.place.proofs.Fields.{length-listed, listed-at}
 use Rattle.place.proofs.Ranges.{before-range, past-range, in-range}
-use Rattle.counting.specs.Cases.{tupleFields}
+use Rattle.cases_spec.specs.Cases.{tupleFields}
 use Rattle.meaning.specs.Typing.{adtVariants, variantFields, fieldType}
 use Rattle.meaning.specs.Fit.{fieldNumbers}
 use Rattle.fit_types.specs.declared.TypeNumber.{TypeNumber}

@@ -13,7 +13,7 @@ use Rattle.image.specs.Rows.{typeAt}
 use Rattle.image.specs.Rules.{namesType}
 use Rattle.image.specs.Types.{tyOf}
 use Rattle.image.specs.Valid.{valid}
-use Rattle.counting.specs.Cases.{referent}
+use Rattle.cases_spec.specs.Cases.{referent}
 use Rattle.meaning.specs.Typing.{elementType}
 use Rattle.meaning.specs.Fit.{behind, isType}
 use Rattle.fit_literals.proofs.Shapes.{reference-of, refers-inside}

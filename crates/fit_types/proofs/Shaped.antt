@@ -17,7 +17,7 @@ use Rattle.image.specs.Types.{Shape, integer, bool, char, str, tuple, adt, refe
 use Rattle.image.specs.Tree.{PatOpt}
 use Rattle.image.specs.Valid.{valid}
 use Rattle.image.proofs.Bools.{and-left}
-use Rattle.counting.specs.Cases.{kindNumber, referent, tupleFields}
+use Rattle.cases_spec.specs.Cases.{kindNumber, referent, tupleFields}
 use Rattle.meaning.specs.Typing.{adtVariants, elementType}
 use Rattle.meaning.specs.Fit.{discriminantsDiffer, itemsFit}
 use Rattle.fit_literals.proofs.Shapes.{shape-of, holds-of, kind-of}

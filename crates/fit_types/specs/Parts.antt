@@ -16,7 +16,7 @@ use Rattle.image.specs.Rules.{listed}
 use Rattle.image.specs.Types.{tyOf, operandOf}
 use Rattle.image.specs.Tree.{trees, tree?, tree, word?, operand?, target}
 use Rattle.image.specs.Valid.{valid}
-use Rattle.counting.specs.Cases.{referent, tupleFields}
+use Rattle.cases_spec.specs.Cases.{referent, tupleFields}
 use Rattle.meaning.specs.Typing.{TypeNumber, variantFields, elementType}
 use Rattle.meaning.specs.Fit.{recordFieldsDiffer, discriminantsDiffer, itemsFit, restFits, literalFits, endFits?, isThere, pathFits, rowFits, byFieldsFit, itemsAllFit, typesFit, typesFit?, fitting}
 

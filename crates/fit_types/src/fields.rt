@@ -15,7 +15,7 @@ ghost use Rattle.image.specs.Patterns.{variantOrAbsent};
 ghost use Rattle.image.specs.Tree.{word?};
 ghost use Rattle.image.specs.Types.{tyOf};
 ghost use Rattle.image.specs.Valid.{valid};
-ghost use Rattle.counting.specs.Cases.{tupleFields};
+ghost use Rattle.cases_spec.specs.Cases.{tupleFields};
 ghost use Rattle.meaning.specs.Typing.{adtVariants, variantFields, fieldType};
 ghost use Rattle.meaning.specs.Fit.{recordFieldsDiffer};
 ghost use Rattle.fit_types.specs.Numbers.{Numbers, TypesAt, FieldsOf, standsAgain};

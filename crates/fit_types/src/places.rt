@@ -9,7 +9,7 @@ ghost use Prim.Native.Nat.{_<_};
 ghost use Rattle.image.specs.Tables.{Whole, typeCount};
 ghost use Rattle.image.specs.Types.{tyOf};
 ghost use Rattle.image.specs.Valid.{valid};
-ghost use Rattle.counting.specs.Cases.{referent};
+ghost use Rattle.cases_spec.specs.Cases.{referent};
 ghost use Rattle.meaning.specs.Typing.{elementType};
 ghost use Rattle.meaning.specs.Fit.{behind, isType};
 ghost use Rattle.fit_types.specs.Numbers.{typeNumber, namesType?, Numbers};

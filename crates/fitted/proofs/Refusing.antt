@@ -33,7 +33,7 @@ use Rattle.counting.proofs.Holding.{holds-as}
 use Rattle.counting.proofs.Passing.{checks, binds}
 use Rattle.counting.proofs.Typed.{On}
 use Rattle.counting.proofs.Trees.{counts}
-use Rattle.counting.specs.Cases.{kindNumber, referent, tupleFields}
+use Rattle.cases_spec.specs.Cases.{kindNumber, referent, tupleFields}
 use Rattle.meaning.specs.Values.{hasVariant}
 use Rattle.meaning.specs.Typing.{variantFields}
 use Rattle.meaning.specs.Fit.{pathFits, rowFits, itemsAllFit, typesFit, fitting, typesFit?, patCount, bindingsFit, fits, localsDiffer, fieldsThere, ellipsisWithin, hasLocal, pathTaken, restTaken?, nothingRefused, noneRefused, noneReachedRefused, nothingRefused?}

@@ -24,7 +24,7 @@ use Rattle.pattern_matching.specs.Variants.{patternMatchAdt, fieldsUpTo, patter
 use Rattle.pattern_matching.specs.Slices.{RestOf, lengthTest, restBound, sliceItems, sliceOn, suffixItems}
 use Rattle.pattern_matching.specs.Patterns.{bindPattern}
 use Rattle.counting.proofs.Passing.{modeOf}
-use Rattle.counting.specs.Cases.{kindNumber}
+use Rattle.cases_spec.specs.Cases.{kindNumber}
 use Rattle.meaning.specs.Values.{hasValues}
 use Rattle.meaning.specs.Matching.{recordFields as fieldElems}
 use Rattle.meaning.specs.Typing.{TypeNumber, elementType}

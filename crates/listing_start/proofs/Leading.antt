@@ -16,7 +16,7 @@ use Rattle.image.specs.Rules.{typeShapeHolds}
 use Rattle.image.specs.Types.{shapeBy, tyOf}
 use Rattle.image.specs.Valid.{valid}
 use Rattle.image.proofs.Known.{shape-holds}
-use Rattle.counting.specs.Cases.{referent}
+use Rattle.cases_spec.specs.Cases.{referent}
 use Rattle.meaning.specs.Typing.{TypeNumber}
 use Rattle.meaning.specs.Fit.{behind, isType}
 use Rattle.meaning.proofs.Crossing.{behind-none}

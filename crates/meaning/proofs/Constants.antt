@@ -25,7 +25,7 @@ use Rattle.image.proofs.Known.{shape-holds}
 use Rattle.refusals.specs.Refusals.{Result, ok}
 use Rattle.mir.specs.declared.rvalues.Constant.{Constant}
 use Rattle.literals.specs.Literals.{constantOf, stringConstant, integerConstant, literalBy, lowerLiteralToOperand, lowerConstToOperand, literalOrConstBy, lowerLiteralOrConstToOperand}
-use Rattle.counting.specs.Cases.{kindNumber, referent}
+use Rattle.cases_spec.specs.Cases.{kindNumber, referent}
 use Rattle.meaning.specs.Values.{Value, Int, Bool′, Char, Str, Reference, intFits}
 use Rattle.meaning.specs.Running.{dataBytes, signedNumber, constantNumber, constantBy, constantValue}
 use Rattle.meaning.specs.Matching.{evaluated, created, operandValue}

@@ -10,7 +10,7 @@ use lib.ListN.{replicate}
 use Rattle.image.specs.Types.{Shape, integer, bool, char, str, tuple, adt, reference, array, slice, unknown, tyOf}
 use Rattle.place.specs.declared.elems.ProjectionElem.{ProjectionElem}
 use Rattle.views.specs.Views.{Path}
-use Rattle.counting.specs.Cases.{referent}
+use Rattle.cases_spec.specs.Cases.{referent}
 use Rattle.meaning.specs.Values.{Value, derefed, partAt, placeIn, valueFits}
 use Rattle.meaning.specs.Running.{Env, Scene, elemNumbers, sameElem, behindRoot, partBehind, read}
 use Rattle.meaning.specs.Matching.{onto, crossed, crossedPath}

@@ -15,7 +15,7 @@ use Rattle.image.specs.Operands.{isScalarValue}
 use Rattle.image.specs.Integers.{inRange}
 use Rattle.image.specs.Types.{Shape, integer, bool, char, str, tuple, adt, reference, array, slice, unknown, tyOf, variantOf}
 use Rattle.image.proofs.Bools.{and-left, and-right}
-use Rattle.counting.specs.Cases.{ifThere, kindNumber, tupleFields, referent, ifArray, ifSlice}
+use Rattle.cases_spec.specs.Cases.{ifThere, kindNumber, tupleFields, referent, ifArray, ifSlice}
 use Rattle.meaning.specs.Values.{Value, Int, Bool′, Char, Str, Tuple, Adt, Reference, Array, Slice, Values, noMore, more, items, unitValue, hasValues, shorter, intFits, hasVariant, valueFits, fieldsFit, elementsFit}
 
 -- the kind of a value, by the numbers of types' kinds

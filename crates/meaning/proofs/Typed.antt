@@ -27,7 +27,7 @@ use Rattle.place.specs.declared.elems.ProjectionElem.{ProjectionElem}
 use Rattle.place.specs.declared.place_ty.PlaceTy.{PlaceTy}
 use Rattle.place.specs.PlaceTypes.{fieldOf, derefTy, adtFieldTy, fieldTy, elementTy, adtDowncastTy, downcastTy, tyProjection, variantProjection, projectionTy}
 use Rattle.counting.specs.Reaching.{behindDerefs}
-use Rattle.counting.specs.Cases.{referent, tupleFields}
+use Rattle.cases_spec.specs.Cases.{referent, tupleFields}
 use Rattle.meaning.specs.Values.{Value, hasValues, valueFits, hasVariant}
 use Rattle.meaning.specs.Matching.{crossed}
 use Rattle.meaning.specs.Typing.{TypeNumber, adtVariants, variantFields, elementType}

@@ -9,7 +9,7 @@ use Rattle.image.specs.Types.{tyOf}
 use Rattle.image.specs.Tree.{Pat, Pats, nil, cons, PatOpt, no, sub}
 use Rattle.place.specs.declared.elems.ProjectionElem.{ProjectionElem}
 use Rattle.views.specs.Views.{Path}
-use Rattle.counting.specs.Cases.{ifBind}
+use Rattle.cases_spec.specs.Cases.{ifBind}
 use Rattle.meaning.specs.Values.{Value, partsOf, partAt}
 use Rattle.meaning.specs.Matching.{onto, crossed, crossedPath, Bound, boundAs, bindAll, rowFields, recordFields, lastItems, variantPath, matches}
 

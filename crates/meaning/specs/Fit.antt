@@ -15,7 +15,7 @@ use Rattle.image.specs.Operands.{isScalarValue}
 use Rattle.image.specs.Types.{Shape, tyOf, variantOf, Operand}
 use Rattle.image.specs.Tree.{Head, Target, unresolved, variant, local, constant, other, Pat, Pats, nil, cons, PatOpt, no, sub}
 use Rattle.place.specs.declared.place_ty.PlaceTy.{PlaceTy}
-use Rattle.counting.specs.Cases.{ifThere, kindNumber, ifScalar, tupleFields, ifAdt, referent, ifArray, byRest, ifBind}
+use Rattle.cases_spec.specs.Cases.{ifThere, kindNumber, ifScalar, tupleFields, ifAdt, referent, ifArray, byOperand, byRest, ifBind}
 use Rattle.counting.specs.Reaching.{isEnumKind, canFail}
 use Rattle.meaning.specs.Values.{intFits, hasVariant}
 use Rattle.meaning.specs.Matching.{longEnough}
@@ -79,17 +79,9 @@ refersToStr image shape = ifThere (referent shape) (λ t. eqb (kindNumber (tyOf 
 
 -- any literal
 unfoldable pub literalFits : OperandKind → List ℕ → Shape → List ℕ → Bool
-literalFits OperandKind.Int image shape bytes = integerFits shape true bytes
-literalFits OperandKind.Uint image shape bytes = integerFits shape false bytes
-literalFits OperandKind.Char image shape bytes = eqb (kindNumber shape) 3
-literalFits OperandKind.Bool image shape bytes = eqb (kindNumber shape) 2
-literalFits OperandKind.Str image shape bytes = refersToStr image shape
-literalFits OperandKind.CStr image shape bytes = false
-literalFits OperandKind.ByteStr image shape bytes = false
-literalFits OperandKind.Constant image shape bytes = false
-literalFits OperandKind.Float image shape bytes = false
-literalFits OperandKind.Other image shape bytes = false
-literalFits OperandKind.Unknown image shape bytes = false
+literalFits kind image shape bytes =
+    byOperand kind (integerFits shape true bytes) (integerFits shape false bytes) (eqb (kindNumber shape) 3) (eqb (kindNumber shape) 2)
+    (refersToStr image shape) false false
 
 -- "a constant in exactly its size": integer, bool or char, with as many bytes as its type has, that hold a value of it
 unfoldable pub constantFits : Shape → List ℕ → Bool
@@ -101,17 +93,9 @@ constantFits shape bytes =
 
 -- "constants and range ends are integer, char or (constants) bool"
 unfoldable pub endFits : OperandKind → Shape → List ℕ → Bool
-endFits OperandKind.Int shape bytes = integerFits shape true bytes
-endFits OperandKind.Uint shape bytes = integerFits shape false bytes
-endFits OperandKind.Char shape bytes = eqb (kindNumber shape) 3
-endFits OperandKind.Bool shape bytes = false
-endFits OperandKind.Str shape bytes = false
-endFits OperandKind.CStr shape bytes = false
-endFits OperandKind.ByteStr shape bytes = false
-endFits OperandKind.Constant shape bytes = constantFits shape bytes && (eqb (kindNumber shape) 1 || eqb (kindNumber shape) 3)
-endFits OperandKind.Float shape bytes = false
-endFits OperandKind.Other shape bytes = false
-endFits OperandKind.Unknown shape bytes = false
+endFits kind shape bytes =
+    byOperand kind (integerFits shape true bytes) (integerFits shape false bytes) (eqb (kindNumber shape) 3) false false
+    (constantFits shape bytes && (eqb (kindNumber shape) 1 || eqb (kindNumber shape) 3)) false
 
 abbrev pub endFits? : Shape → Option Operand → Bool
 endFits? shape none = true

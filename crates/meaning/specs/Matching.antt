@@ -15,7 +15,7 @@ use Rattle.image.specs.Types.{Shape, tyOf, Operand}
 use Rattle.image.specs.Tree.{Target, unresolved, variant, local, constant, other, Pat, Pats, nil, cons, PatOpt, no, sub}
 use Rattle.place.specs.declared.elems.ProjectionElem.{ProjectionElem}
 use Rattle.views.specs.Views.{Path}
-use Rattle.counting.specs.Cases.{ifThere, ifScalar, ifAdt}
+use Rattle.cases_spec.specs.Cases.{ifThere, ifScalar, ifAdt, byOperand}
 use Rattle.counting.specs.Reaching.{isEnumKind}
 use Rattle.meaning.specs.Values.{Value, Int, Bool′, Char, Str, Reference, unitValue, partsOf, ifVariant, partAt}
 use Rattle.meaning.specs.Running.{Held, value, refersTo, both, scalarOf, notAbove, sameValue}
@@ -40,17 +40,9 @@ evaluated shape bytes =
 
 -- "Literal patterns match exactly the same value as what is created by the literal." [patterns.literal.intro, patterns.range.literal-value]
 unfoldable pub created : OperandKind → Shape → List ℕ → Value
-created OperandKind.Int shape bytes = Int (integerValue true bytes)
-created OperandKind.Uint shape bytes = Int (integerValue false bytes)
-created OperandKind.Char shape bytes = Char (littleEndian bytes)
-created OperandKind.Bool shape bytes = Bool′ (not (eqb (littleEndian bytes) 0))
-created OperandKind.Str shape bytes = Reference (Str bytes)
-created OperandKind.CStr shape bytes = unitValue
-created OperandKind.ByteStr shape bytes = unitValue
-created OperandKind.Constant shape bytes = evaluated shape bytes
-created OperandKind.Float shape bytes = unitValue
-created OperandKind.Other shape bytes = unitValue
-created OperandKind.Unknown shape bytes = unitValue
+created kind shape bytes =
+    byOperand kind (Int (integerValue true bytes)) (Int (integerValue false bytes)) (Char (littleEndian bytes)) (Bool′ (not (eqb (littleEndian bytes) 0)))
+    (Reference (Str bytes)) (evaluated shape bytes) unitValue
 
 abbrev pub operandValue : List ℕ → ℕ → Operand → Value
 operandValue image t operand = created (operand .kind) (tyOf image t .shape) (operand .bytes)

@@ -22,8 +22,8 @@ use Rattle.mir.specs.declared.rvalues.Left.{Left}
 use Rattle.mir.specs.declared.rvalues.PlaceRvalue.{PlaceRvalue}
 use Rattle.views.specs.Views.{Path, Rvalue, ofPlace, ofConstant, binary, unknown as unknownRvalue, Statement, live, dead, set, Line, Mir}
 use Rattle.views.specs.Growing.{terminatorAt}
-use Rattle.counting.specs.Cases.{ifThere, ifScalar, referent}
-use Rattle.meaning.specs.Values.{Value, Int, Bool′, Char, Str, Tuple, Adt, Reference, Array, Slice, unitValue, derefed, partsOf, ifVariant, placeIn}
+use Rattle.cases_spec.specs.Cases.{ifThere, ifScalar, referent}
+use Rattle.meaning.specs.Values.{Value, Int, Bool′, Char, Str, Tuple, Adt, Reference, Array, Slice, unitValue, byParts, derefed, partsOf, ifVariant, placeIn}
 
 -- what a local holds: a value, or a reference to a place, shared or mutable
 pub data Held : Type 0 where
@@ -85,15 +85,7 @@ scalarOf (Slice vs) = none
 
 -- the bytes of a str
 unfoldable pub bytesOf : Value → Option (List ℕ)
-bytesOf (Int z) = none
-bytesOf (Bool′ b) = none
-bytesOf (Char c) = none
-bytesOf (Str bytes) = some bytes
-bytesOf (Tuple vs) = none
-bytesOf (Adt v vs) = none
-bytesOf (Reference v) = none
-bytesOf (Array vs) = none
-bytesOf (Slice vs) = none
+bytesOf v = byParts v (λ bytes. some bytes) (λ vs. none) (λ n vs. none) (λ w. none) (λ vs. none) (λ vs. none) none
 
 unfoldable pub sameNumbers : List ℕ → List ℕ → Bool
 sameNumbers [] [] = true

@@ -7,7 +7,7 @@ use lib.Dec.{ltb}
 use lib.ListN.{length, getD}
 use Rattle.image.specs.Lists.{member}
 use Rattle.image.specs.Types.{Shape, variantOf}
-use Rattle.counting.specs.Cases.{ifAdt, ifArray, ifSlice}
+use Rattle.cases_spec.specs.Cases.{ifAdt, ifSequence}
 
 -- a type by its number, where there is one
 abbrev pub TypeNumber : Type 0
@@ -29,4 +29,4 @@ fieldType ts (some i) = cond (ltb i (length ts)) (some (getD ts i 0)) none
 
 -- the type of the elements of an array or a slice
 unfoldable pub elementType : Shape → TypeNumber
-elementType shape = ifArray shape (λ t n. some t) (ifSlice shape (λ t. some t) none)
+elementType shape = ifSequence shape (λ t n. some t) (λ t. some t) none

@@ -12,7 +12,7 @@ use Rattle.image.specs.Operands.{isScalarValue}
 use Rattle.image.specs.Integers.{inRange}
 use Rattle.image.specs.Types.{Shape, tyOf, variantOf}
 use Rattle.place.specs.declared.elems.ProjectionElem.{ProjectionElem}
-use Rattle.counting.specs.Cases.{ifThere, kindNumber, ifScalar, tupleFields, ifAdt, referent, ifArray, ifSlice}
+use Rattle.cases_spec.specs.Cases.{ifThere, kindNumber, ifScalar, tupleFields, byAdtKind, ifAdt, referent, ifArray, ifSlice}
 
 mutual
   pub data Value : Type 0 where
@@ -54,41 +54,30 @@ values (v ∷ vs) = more v (values vs)
 abbrev pub unitValue : Value
 unitValue = Tuple noMore
 
--- what a reference refers to
-unfoldable pub derefed : Value → Value
-derefed (Int z) = unitValue
-derefed (Bool′ b) = unitValue
-derefed (Char c) = unitValue
-derefed (Str bytes) = unitValue
-derefed (Tuple vs) = unitValue
-derefed (Adt v vs) = unitValue
-derefed (Reference v) = v
-derefed (Array vs) = unitValue
-derefed (Slice vs) = unitValue
-
--- the fields of a tuple or a variant, or the elements of an array or a slice
-unfoldable pub partsOf : Value → List Value
-partsOf (Int z) = []
-partsOf (Bool′ b) = []
-partsOf (Char c) = []
-partsOf (Str bytes) = []
-partsOf (Tuple vs) = items vs
-partsOf (Adt v vs) = items vs
-partsOf (Reference v) = []
-partsOf (Array vs) = items vs
-partsOf (Slice vs) = items vs
+-- what is made of a str by its bytes, of a tuple by its fields, of a variant by its number and its fields, of a reference by what it refers to, and of an array
+-- and of a slice by their elements; or of every other value
+abbrev pub byParts : {A : Type 0} → Value → (List ℕ → A) → (Values → A) → (ℕ → Values → A) → (Value → A) → (Values → A) → (Values → A) → A → A
+byParts (Int z) ofStr ofTuple ofAdt ofReference ofArray ofSlice other = other
+byParts (Bool′ b) ofStr ofTuple ofAdt ofReference ofArray ofSlice other = other
+byParts (Char c) ofStr ofTuple ofAdt ofReference ofArray ofSlice other = other
+byParts (Str bytes) ofStr ofTuple ofAdt ofReference ofArray ofSlice other = ofStr bytes
+byParts (Tuple vs) ofStr ofTuple ofAdt ofReference ofArray ofSlice other = ofTuple vs
+byParts (Adt v vs) ofStr ofTuple ofAdt ofReference ofArray ofSlice other = ofAdt v vs
+byParts (Reference v) ofStr ofTuple ofAdt ofReference ofArray ofSlice other = ofReference v
+byParts (Array vs) ofStr ofTuple ofAdt ofReference ofArray ofSlice other = ofArray vs
+byParts (Slice vs) ofStr ofTuple ofAdt ofReference ofArray ofSlice other = ofSlice vs
 
 -- what is made of a variant by its number, or of every other value
 abbrev pub ifVariant : {A : Type 0} → Value → (ℕ → A) → A → A
-ifVariant (Int z) made other = other
-ifVariant (Bool′ b) made other = other
-ifVariant (Char c) made other = other
-ifVariant (Str bytes) made other = other
-ifVariant (Tuple vs) made other = other
-ifVariant (Adt v vs) made other = made v
-ifVariant (Reference v) made other = other
-ifVariant (Array vs) made other = other
-ifVariant (Slice vs) made other = other
+ifVariant v made other = byParts v (λ bytes. other) (λ vs. other) (λ n vs. made n) (λ w. other) (λ vs. other) (λ vs. other) other
+
+-- what a reference refers to
+unfoldable pub derefed : Value → Value
+derefed v = byParts v (λ bytes. unitValue) (λ vs. unitValue) (λ n vs. unitValue) (λ w. w) (λ vs. unitValue) (λ vs. unitValue) unitValue
+
+-- the fields of a tuple or a variant, or the elements of an array or a slice
+unfoldable pub partsOf : Value → List Value
+partsOf v = byParts v (λ bytes. []) (λ vs. items vs) (λ n vs. items vs) (λ w. []) (λ vs. items vs) (λ vs. items vs) []
 
 -- what is left without so many in front and so many at the end
 unfoldable pub middle : ℕ → ℕ → List Value → List Value
@@ -96,15 +85,9 @@ middle front end vs = take (length vs - front - end) (drop front vs)
 
 -- a part of an array or a slice
 unfoldable pub subslice : ℕ → ℕ → Value → Value
-subslice front end (Int z) = unitValue
-subslice front end (Bool′ b) = unitValue
-subslice front end (Char c) = unitValue
-subslice front end (Str bytes) = unitValue
-subslice front end (Tuple vs) = unitValue
-subslice front end (Adt v vs) = unitValue
-subslice front end (Reference v) = unitValue
-subslice front end (Array vs) = Array (values (middle front end (items vs)))
-subslice front end (Slice vs) = Slice (values (middle front end (items vs)))
+subslice front end v =
+    let part : Values → Values = λ vs. values (middle front end (items vs)) in
+    byParts v (λ bytes. unitValue) (λ vs. unitValue) (λ n vs. unitValue) (λ w. unitValue) (λ vs. Array (part vs)) (λ vs. Slice (part vs)) unitValue
 
 -- what lies one element on
 unfoldable pub partAt : ProjectionElem → Value → Value
@@ -127,10 +110,7 @@ shorter n = ltb n 18446744073709551616
 
 -- "a union has no value"
 abbrev pub hasValues : AdtKind → Bool
-hasValues AdtKind.Struct = true
-hasValues AdtKind.Enum = true
-hasValues AdtKind.Union = false
-hasValues AdtKind.Unknown = false
+hasValues kind = byAdtKind kind true true false false
 
 unfoldable pub intFits : Shape → ℤ → Bool
 intFits shape z = ifScalar shape (λ size signed. inRange size signed z) false false false

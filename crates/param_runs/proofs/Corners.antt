@@ -44,7 +44,7 @@ use Rattle.pattern_matching.specs.Patterns.{alternatives, alternativesEnd, orPa
 use Rattle.params_spec.specs.Params.{paramLocal, byValue, plainBind, plainBinding, boundTo, declareSelf, declareParam, declareParams, declareBinding, declareBindings, declare, shutElse, shut, unlessBound, unlessOwn, lowerParam, lowerParams, selfCount, lowerAll, lowerParamsAndBindings}
 use Rattle.params_spec.specs.Calls.{bindsReceiver, noneBindsReceiver, receiverApart}
 use Rattle.image.specs.Integers.{leastValue, greatestValue, inRange, integerValue}
-use Rattle.counting.specs.Cases.{kindNumber, tupleFields, referent}
+use Rattle.cases_spec.specs.Cases.{kindNumber, tupleFields, referent}
 use Rattle.meaning.specs.Values.{items, partsOf, intFits, hasVariant, valueFits}
 use Rattle.meaning.specs.Typing.{adtVariants}
 use Rattle.meaning.specs.Fit.{behind, typeIsThePlaces, argumentsFit, discriminantsDiffer, integerFits, literalFits, pathFits, rowFits, eachFits, typesFit, boundIn, bindingsFit, pathTaken, nothingRefused, present, localsDiffer, fits}

@@ -8,7 +8,7 @@ use Rattle.image.specs.Tree.{Pat}
 use Rattle.lower_spec.specs.declared.merging.OptBlock.{OptBlock}
 use Rattle.pattern_matching.specs.Walking.{Out}
 use Rattle.params_spec.specs.Params.{ParamsOut}
-use Rattle.counting.specs.Cases.{ifBind}
+use Rattle.cases_spec.specs.Cases.{ifBind}
 
 -- what comes of parameters is what a walk with no else gives
 abbrev pub returned : ParamsOut → Out

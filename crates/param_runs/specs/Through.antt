@@ -20,7 +20,7 @@ use Rattle.handed.specs.Handed.{bindingsHold}
 use Rattle.params_spec.specs.declared.SelfParam.{SelfParam}
 use Rattle.params_spec.specs.Params.{Param, Declared, ParamsOut, declare}
 use Rattle.params_spec.specs.Calls.{paramsNamed, selfNamed}
-use Rattle.counting.specs.Cases.{ifBind}
+use Rattle.cases_spec.specs.Cases.{ifBind}
 use Rattle.growth.specs.Opened.{Starts}
 use Rattle.meaning.specs.Values.{Value, valueFits}
 use Rattle.meaning.specs.Running.{Env, value, Run}

@@ -5,7 +5,8 @@ use mathlib.Core.List.{List, map}
 use lib.ListN.{length}
 use Rattle.image.specs.declared.kinds.BindingMode.{BindingMode}
 use Rattle.image.specs.Lists.{upFrom}
-use Rattle.image.specs.Types.{Shape, integer, bool, char, str, tuple, adt, reference, array, slice, unknown}
+use Rattle.image.specs.Types.{Shape}
+use Rattle.cases_spec.specs.Cases.{ifSequence}
 use Rattle.refusals.specs.declared.MirLowerError.{MirLowerError}
 use Rattle.place.specs.declared.Place.{Place}
 use Rattle.place.specs.declared.elems.ProjectionElem.{ProjectionElem}
@@ -73,15 +74,8 @@ sliceItems bindings p prefix rest suffix mode ctx current else place =
 
 -- a Slice pattern by its own type: neither an array nor a slice is refused
 unfoldable pub sliceOn : Shape → List ℕ → List ℕ → ℕ → List Lowering → RestOf → List Lowering → Lowering
-sliceOn (integer size signed) image bindings p prefix rest suffix mode ctx current else place = refused (MirLowerError.TypeError 2) p
-sliceOn bool image bindings p prefix rest suffix mode ctx current else place = refused (MirLowerError.TypeError 2) p
-sliceOn char image bindings p prefix rest suffix mode ctx current else place = refused (MirLowerError.TypeError 2) p
-sliceOn str image bindings p prefix rest suffix mode ctx current else place = refused (MirLowerError.TypeError 2) p
-sliceOn (tuple fields) image bindings p prefix rest suffix mode ctx current else place = refused (MirLowerError.TypeError 2) p
-sliceOn (adt kind variants) image bindings p prefix rest suffix mode ctx current else place = refused (MirLowerError.TypeError 2) p
-sliceOn (reference t) image bindings p prefix rest suffix mode ctx current else place = refused (MirLowerError.TypeError 2) p
-sliceOn (array t n) image bindings p prefix rest suffix mode ctx current else place = sliceItems bindings p prefix rest suffix mode ctx current else place
-sliceOn (slice t) image bindings p prefix rest suffix mode ctx current else place =
+sliceOn shape image bindings p prefix rest suffix mode ctx current else place =
+    ifSequence shape (λ t n. sliceItems bindings p prefix rest suffix mode ctx current else place) (λ t.
     next (inCheck mode (lengthTest rest image p (length prefix + length suffix) ctx current else place) (out ctx current else)) (λ r.
-    sliceItems bindings p prefix rest suffix mode (r .ctx) (r .then) (r .else) place)
-sliceOn unknown image bindings p prefix rest suffix mode ctx current else place = refused (MirLowerError.TypeError 2) p
+    sliceItems bindings p prefix rest suffix mode (r .ctx) (r .then) (r .else) place))
+    (refused (MirLowerError.TypeError 2) p)

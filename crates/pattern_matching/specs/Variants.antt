@@ -7,7 +7,8 @@ use lib.Dec.{ltb, leb}
 use lib.ListN.{length, take, drop, getD}
 use Rattle.image.specs.declared.kinds.AdtKind.{AdtKind}
 use Rattle.image.specs.Lists.{member, upFrom}
-use Rattle.image.specs.Types.{Shape, integer, bool, char, str, tuple, adt, reference, array, slice, unknown, tyOf, variantOf}
+use Rattle.image.specs.Types.{Shape, integer, bool, unknown, tyOf, variantOf}
+use Rattle.cases_spec.specs.Cases.{ifTuple, ifAdt, ifReference}
 use Rattle.refusals.specs.declared.MirLowerError.{MirLowerError}
 use Rattle.place.specs.declared.LocalId.{LocalId}
 use Rattle.place.specs.declared.Place.{Place}
@@ -74,17 +75,8 @@ ellipsisAt (some n) args = n
 
 -- a Tuple pattern, by what the place's type is
 unfoldable pub tupleOn : Shape → ℕ → List Lowering → Option ℕ → Lowering
-tupleOn (integer size signed) p args ellipsis mode ctx current else place = refused (MirLowerError.TypeError 1) p
-tupleOn bool p args ellipsis mode ctx current else place = refused (MirLowerError.TypeError 1) p
-tupleOn char p args ellipsis mode ctx current else place = refused (MirLowerError.TypeError 1) p
-tupleOn str p args ellipsis mode ctx current else place = refused (MirLowerError.TypeError 1) p
-tupleOn (tuple fields) p args ellipsis mode ctx current else place =
-    patternMatchTupleLike p args (ellipsisAt ellipsis args) (length fields) mode ctx current else place
-tupleOn (adt kind variants) p args ellipsis mode ctx current else place = refused (MirLowerError.TypeError 1) p
-tupleOn (reference t) p args ellipsis mode ctx current else place = refused (MirLowerError.TypeError 1) p
-tupleOn (array t n) p args ellipsis mode ctx current else place = refused (MirLowerError.TypeError 1) p
-tupleOn (slice t) p args ellipsis mode ctx current else place = refused (MirLowerError.TypeError 1) p
-tupleOn unknown p args ellipsis mode ctx current else place = refused (MirLowerError.TypeError 1) p
+tupleOn shape p args ellipsis mode ctx current else place =
+    ifTuple shape (λ fields. patternMatchTupleLike p args (ellipsisAt ellipsis args) (length fields) mode ctx current else place) (refused (MirLowerError.TypeError 1) p)
 
 unfoldable pub tuplePattern : List ℕ → ℕ → List Lowering → Option ℕ → Lowering
 tuplePattern image p args ellipsis mode ctx current else place =
@@ -92,16 +84,8 @@ tuplePattern image p args ellipsis mode ctx current else place =
 
 -- a Ref pattern, by what the place's type is
 unfoldable pub refOn : Shape → ℕ → Lowering → Lowering
-refOn (integer size signed) p sub mode ctx current else place = refused (MirLowerError.TypeError 3) p
-refOn bool p sub mode ctx current else place = refused (MirLowerError.TypeError 3) p
-refOn char p sub mode ctx current else place = refused (MirLowerError.TypeError 3) p
-refOn str p sub mode ctx current else place = refused (MirLowerError.TypeError 3) p
-refOn (tuple fields) p sub mode ctx current else place = refused (MirLowerError.TypeError 3) p
-refOn (adt kind variants) p sub mode ctx current else place = refused (MirLowerError.TypeError 3) p
-refOn (reference t) p sub mode ctx current else place = step p (project place ProjectionElem.Deref) (λ place′. sub mode ctx current else place′)
-refOn (array t n) p sub mode ctx current else place = refused (MirLowerError.TypeError 3) p
-refOn (slice t) p sub mode ctx current else place = refused (MirLowerError.TypeError 3) p
-refOn unknown p sub mode ctx current else place = refused (MirLowerError.TypeError 3) p
+refOn shape p sub mode ctx current else place =
+    ifReference shape (λ t. step p (project place ProjectionElem.Deref) (λ place′. sub mode ctx current else place′)) (refused (MirLowerError.TypeError 3) p)
 
 unfoldable pub refPattern : List ℕ → ℕ → Lowering → Lowering
 refPattern image p sub mode ctx current else place =
@@ -162,17 +146,10 @@ variantOn AdtKind.Unknown image p v shape mode ctx current else place = refused 
 
 -- a pattern that names a variant, by what the place's type is: an ADT that has it
 unfoldable pub adtOn : Shape → List ℕ → ℕ → ℕ → AdtPatternShape → Lowering
-adtOn (integer size signed) image p v args mode ctx current else place = refused (MirLowerError.TypeError 4) p
-adtOn bool image p v args mode ctx current else place = refused (MirLowerError.TypeError 4) p
-adtOn char image p v args mode ctx current else place = refused (MirLowerError.TypeError 4) p
-adtOn str image p v args mode ctx current else place = refused (MirLowerError.TypeError 4) p
-adtOn (tuple fields) image p v args mode ctx current else place = refused (MirLowerError.TypeError 4) p
-adtOn (adt kind variants) image p v args mode ctx current else place =
-    cond (member v variants) (variantOn kind image p v args mode ctx current else place) (refused (MirLowerError.TypeError 5) p)
-adtOn (reference t) image p v args mode ctx current else place = refused (MirLowerError.TypeError 4) p
-adtOn (array t n) image p v args mode ctx current else place = refused (MirLowerError.TypeError 4) p
-adtOn (slice t) image p v args mode ctx current else place = refused (MirLowerError.TypeError 4) p
-adtOn unknown image p v args mode ctx current else place = refused (MirLowerError.TypeError 4) p
+adtOn shape image p v args mode ctx current else place =
+    ifAdt shape (λ kind variants.
+    cond (member v variants) (variantOn kind image p v args mode ctx current else place) (refused (MirLowerError.TypeError 5) p))
+    (refused (MirLowerError.TypeError 4) p)
 
 -- `pattern_matching_variant`
 unfoldable pub patternMatchingVariant : List ℕ → ℕ → ℕ → AdtPatternShape → Lowering

@@ -10,7 +10,8 @@ use Rattle.image.specs.declared.kinds.BindingMode.{BindingMode}
 use Rattle.image.specs.declared.kinds.PatKind.{PatKind}
 use Rattle.image.specs.Lists.{allIn, member}
 use Rattle.image.specs.Rules.{listed}
-use Rattle.image.specs.Types.{Shape, integer, bool, char, str, tuple, adt, reference, array, slice, unknown}
+use Rattle.image.specs.Types.{Shape}
+use Rattle.cases_spec.specs.Cases.{ifTuple, ifAdt, ifReference}
 use Rattle.refusals.specs.declared.MirLowerError.{MirLowerError}
 use Rattle.refusals.specs.Refusals.{Result, ok, refused}
 use Rattle.place.specs.declared.Place.{Place}
@@ -38,16 +39,7 @@ neededTy PlaceTy.Inapplicable = NeededTy.Inapplicable
 -- how many fields the tuple at a place has
 unfoldable pub tupleAt : Option Shape → Result ℕ
 tupleAt none = refused MirLowerError.PlaceType
-tupleAt (some (integer size signed)) = refused (MirLowerError.TypeError 1)
-tupleAt (some bool) = refused (MirLowerError.TypeError 1)
-tupleAt (some char) = refused (MirLowerError.TypeError 1)
-tupleAt (some str) = refused (MirLowerError.TypeError 1)
-tupleAt (some (tuple fields)) = ok (length fields)
-tupleAt (some (adt kind variants)) = refused (MirLowerError.TypeError 1)
-tupleAt (some (reference t)) = refused (MirLowerError.TypeError 1)
-tupleAt (some (array t n)) = refused (MirLowerError.TypeError 1)
-tupleAt (some (slice t)) = refused (MirLowerError.TypeError 1)
-tupleAt (some unknown) = refused (MirLowerError.TypeError 1)
+tupleAt (some shape) = ifTuple shape (λ fields. ok (length fields)) (refused (MirLowerError.TypeError 1))
 
 abbrev pub tupleResult : TupleAt → Result ℕ
 tupleResult (TupleAt.Fields n) = ok n
@@ -56,16 +48,7 @@ tupleResult (TupleAt.Refused e) = refused e
 -- whether a reference is at a place
 unfoldable pub referenceAt : Option Shape → Result Bool
 referenceAt none = refused MirLowerError.PlaceType
-referenceAt (some (integer size signed)) = refused (MirLowerError.TypeError 3)
-referenceAt (some bool) = refused (MirLowerError.TypeError 3)
-referenceAt (some char) = refused (MirLowerError.TypeError 3)
-referenceAt (some str) = refused (MirLowerError.TypeError 3)
-referenceAt (some (tuple fields)) = refused (MirLowerError.TypeError 3)
-referenceAt (some (adt kind variants)) = refused (MirLowerError.TypeError 3)
-referenceAt (some (reference t)) = ok true
-referenceAt (some (array t n)) = refused (MirLowerError.TypeError 3)
-referenceAt (some (slice t)) = refused (MirLowerError.TypeError 3)
-referenceAt (some unknown) = refused (MirLowerError.TypeError 3)
+referenceAt (some shape) = ifReference shape (λ t. ok true) (refused (MirLowerError.TypeError 3))
 
 abbrev pub referenceResult : ReferenceAt → Result Bool
 referenceResult ReferenceAt.Reference = ok true
@@ -85,16 +68,7 @@ adtHas kind variants v = cond (member v variants) (adtTaken kind) (refused (MirL
 -- the ADT at a place
 unfoldable pub adtAt : Option Shape → ℕ → Result AdtKind
 adtAt none v = refused MirLowerError.PlaceType
-adtAt (some (integer size signed)) v = refused (MirLowerError.TypeError 4)
-adtAt (some bool) v = refused (MirLowerError.TypeError 4)
-adtAt (some char) v = refused (MirLowerError.TypeError 4)
-adtAt (some str) v = refused (MirLowerError.TypeError 4)
-adtAt (some (tuple fields)) v = refused (MirLowerError.TypeError 4)
-adtAt (some (adt kind variants)) v = adtHas kind variants v
-adtAt (some (reference t)) v = refused (MirLowerError.TypeError 4)
-adtAt (some (array t n)) v = refused (MirLowerError.TypeError 4)
-adtAt (some (slice t)) v = refused (MirLowerError.TypeError 4)
-adtAt (some unknown) v = refused (MirLowerError.TypeError 4)
+adtAt (some shape) v = ifAdt shape (λ kind variants. adtHas kind variants v) (refused (MirLowerError.TypeError 4))
 
 abbrev pub adtResult : AdtAt → Result AdtKind
 adtResult AdtAt.Struct = ok AdtKind.Struct

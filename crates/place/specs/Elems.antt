@@ -31,3 +31,13 @@ Fits (ProjectionElem.IndexFromEnd a) = Unit
 Fits (ProjectionElem.Subslice a b) = b < 8192
 Fits (ProjectionElem.Downcast a) = Unit
 Fits ProjectionElem.Unknown = Unit
+
+-- what is made of a Deref, of a Field by its number, of an element from the front or from the end, of a Subslice, and of a Downcast by its variant; or else
+abbrev pub byElem : {A : Type 0} → ProjectionElem → A → (ℕ → A) → A → A → (ℕ → A) → A → A
+byElem ProjectionElem.Deref ofDeref ofField ofElement ofSubslice ofDowncast other = ofDeref
+byElem (ProjectionElem.Field i) ofDeref ofField ofElement ofSubslice ofDowncast other = ofField i
+byElem (ProjectionElem.Index i) ofDeref ofField ofElement ofSubslice ofDowncast other = ofElement
+byElem (ProjectionElem.IndexFromEnd i) ofDeref ofField ofElement ofSubslice ofDowncast other = ofElement
+byElem (ProjectionElem.Subslice a b) ofDeref ofField ofElement ofSubslice ofDowncast other = ofSubslice
+byElem (ProjectionElem.Downcast v) ofDeref ofField ofElement ofSubslice ofDowncast other = ofDowncast v
+byElem ProjectionElem.Unknown ofDeref ofField ofElement ofSubslice ofDowncast other = other

@@ -23,7 +23,7 @@ use Rattle.pattern_matching.specs.Tests.{patternMatchBinding}
 use Rattle.pattern_matching.specs.Variants.{patternMatchAdt}
 use Rattle.pattern_matching.specs.Slices.{RestOf, lengthTest, restBound, sliceItems, sliceOn, suffixItems}
 use Rattle.pattern_matching.specs.Patterns.{bindPattern}
-use Rattle.counting.specs.Cases.{ifThere}
+use Rattle.cases_spec.specs.Cases.{ifThere}
 use Rattle.counting.specs.Reaching.{Argument, zip, isSliceShape, sliceArguments, someArgument, Reached, Reaching, testing, binding, throughArguments}
 use Rattle.counting.specs.Counting.{total}
 use Rattle.counting.proofs.Rests.{statementsBy, bindingBy}

@@ -17,7 +17,7 @@ use Rattle.place.specs.declared.place_ty.PlaceTy.{PlaceTy}
 use Rattle.place.specs.PlaceTypes.{projectionTy, multiProjectionTy}
 use Rattle.pattern_matching.specs.Walking.{refused, Lowering, step, out, project, inCheck}
 use Rattle.pattern_matching.specs.Variants.{placeTy, shapeOf, needed, patternMatchTupleLike, ellipsisAt, tupleOn, tuplePattern, refOn, refPattern, AdtPatternShape, variantFields, discriminantTest, variantOn, adtOn, patternMatchingVariant}
-use Rattle.counting.specs.Cases.{tupleFields}
+use Rattle.cases_spec.specs.Cases.{tupleFields}
 use Rattle.counting.specs.Reaching.{Argument, inARow, byFields, fieldCount, isEnum, downcast, someArgument, Reached, Reaching, testing, naming, throughArguments}
 use Rattle.counting.specs.Counting.{one, total}
 use Rattle.counting.proofs.Passing.{modeOf}

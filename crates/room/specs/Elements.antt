@@ -8,7 +8,7 @@ use Rattle.place.specs.declared.elems.ProjectionElem.{ProjectionElem}
 use Rattle.place.specs.declared.place_ty.PlaceTy.{PlaceTy}
 use Rattle.place.specs.PlaceTypes.{projectionTy, multiProjectionTy}
 use Rattle.pattern_matching.specs.Variants.{shapeOf}
-use Rattle.counting.specs.Cases.{ifThere}
+use Rattle.cases_spec.specs.Cases.{ifThere}
 use Rattle.counting.specs.Reaching.{Argument, behindDerefs, inARow, byFields, fieldCount, isEnum, ofVariant, sliceArguments, failing, restBinding}
 use Rattle.counting.specs.Counting.{one}
 

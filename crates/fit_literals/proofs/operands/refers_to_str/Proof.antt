@@ -5,7 +5,7 @@ use Rattle.fit_literals.proofs.operands.refers_to_str.Lts as lts
 use Rattle.image.proofs.rows.type_at.Reads as type-at-reads
 use mathlib.Core.Path.{sym, _∙_}
 use native.Mathlib.Omega.{arith}
-use Rattle.counting.specs.Cases.{referent}
+use Rattle.cases_spec.specs.Cases.{referent}
 use Rattle.meaning.specs.Fit.{refersToStr}
 use Rattle.fit_literals.proofs.Shapes.{kind-of, is-kind, reference-of, refers-inside, refers-not}
 
