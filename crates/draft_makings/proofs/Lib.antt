@@ -1,3 +1,2 @@
 pub mod RowKinds
-pub mod Leaves
 pub mod Ways

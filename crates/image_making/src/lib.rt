@@ -1,5 +1,5 @@
 // The image of a sheet and of what is made of a text's nodes: added to a draft row after row, then written.
-use draft_makings::emit_one;
+use draft_emitting::emit_one;
 use draft_tables::DraftCounts;
 use draft_tables::DraftStep;
 use image::Tables;

@@ -1,7 +1,7 @@
 // The names of nodes, and what the name table says of them.
+use name_lookup::row_for;
 use name_tables::FoundRow;
 use name_tables::NameUse;
-use name_tables::lookup::row_for;
 use name_tables::name_row_at;
 use node_rows::NodeRow;
 ghost use mathlib.Core.Path.{_≡_};

@@ -1,7 +1,4 @@
 // The name table that a pattern's text is read with: which names are variants, fields and constants.
-pub mod lookup; // lookup.rt: the first row that serves a use and has a name
-pub mod table; // table.rt: the rules of the table
-
 use image::word_at;
 ghost use mathlib.Core.Path.{_≡_};
 ghost use Prim.Native.Nat.{_+_, _*_, _≤_};

@@ -2,9 +2,9 @@
 use crate::tables::store_waiting;
 use crate::tables::waiting_at;
 use image::Tables;
+use part_contexts::part_context;
 use type_parts::PartContext;
 use type_parts::PartsRow;
-use type_parts::contexts::part_context;
 ghost use mathlib.Core.Path.{_≡_};
 ghost use Prim.Native.Nat.{_+_, _<_, _≤_};
 ghost use lib.ListN.{length};

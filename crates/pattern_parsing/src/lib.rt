@@ -7,7 +7,7 @@ use parsing_steps::ParseState;
 use parsing_steps::ParseStep;
 use parsing_steps::behind::top_kind;
 use spelled_names::NAME_BYTES;
-use token_moves::token_move;
+use token_copying::token_move;
 use token_rows::token_row;
 ghost use mathlib.Core.Path.{_≡_};
 ghost use Prim.Native.Nat.{_≤_};

@@ -1,7 +1,7 @@
 // The reader of a pattern's text: it keeps the text by reference. The borrow checker covers no function over such a struct, so each step
 // is thin and proved by hand; the work is `token_at`'s, on a plain slice.
 use pattern_tokens::Token;
-use pattern_tokens::token_at;
+use token_reading::token_at;
 ghost use mathlib.Core.Path.{_≡_};
 ghost use Rattle.pattern_tokens.specs.Tokens.{tokenAt};
 

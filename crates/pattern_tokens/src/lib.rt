@@ -1,18 +1,8 @@
-// The tokens of a pattern's text.
-mod chars;
-mod integers;
-mod punctuation;
-
+// What the tokens of a pattern's text are: see specs/ and proofs/.
 use pattern_words::Kind;
-use pattern_words::Piece;
-use pattern_words::words;
-use text_chars::Start;
-use text_chars::byte_of;
-use text_chars::start_of;
 ghost use mathlib.Core.Path.{_≡_};
-ghost use Prim.Native.Nat.{_+_, _<_, _≤_, _^_};
-ghost use lib.ListN.{length};
-ghost use Rattle.pattern_tokens.specs.Tokens.{pieceOf, tokenAt, placed};
+ghost use Prim.Native.Nat.{_+_};
+ghost use Rattle.text_chars.specs.Bytes.{byteOf};
 
 // A token, the position of its first byte and that behind it.
 pub struct Token {
@@ -21,56 +11,15 @@ pub struct Token {
     pub to: usize,
 }
 
-// The token with which the bytes begin, at a position.
-fn piece_of(bytes: &[u8], at: usize) -> Piece
-    requires { ⌜ at + length (now bytes) < 2 ^ 64 ⌝ }
-    ensures { λ r. ⌜ r ≡ pieceOf at (now (bytes .entry)) ⌝ }
+// The byte so many places behind another.
+pub fn byte_behind(bytes: &[u8], at: usize, k: usize) -> u8
+    ensures { λ r. ⌜ r ≡ byteOf (now (bytes .entry)) (at + k) ⌝ }
 {
-    let b = byte_of(bytes, 0);
-    if words::begins_word(b) {
-        return words::word_piece(bytes, at);
+    if bytes.len() <= at {
+        return 0;
     }
-    if words::is_digit(b) {
-        return integers::integer_piece(bytes);
+    if bytes.len() - at <= k {
+        return 0;
     }
-    if b == b'\'' {
-        return chars::char_piece(bytes);
-    }
-    punctuation::mark_piece(bytes)
-}
-
-fn place(at: usize, piece: Piece) -> Token
-    requires { ⌜ at + piece .size < 2 ^ 64 ⌝ }
-    ensures { λ r. ⌜ r ≡ placed at piece ⌝ }
-{
-    let kind = piece.kind;
-    let size = piece.size;
-    Token {
-        kind,
-        from: at,
-        to: at + size,
-    }
-}
-
-// The first token from a position of a text on.
-pub fn token_at(text: &[u8], at: usize) -> Token
-    ensures { λ r. ⌜ r ≡ tokenAt (now (text .entry)) at ⌝ }
-{
-    match start_of(text, at) {
-        Start::At(from) => {
-            if text.len() <= from {
-                return Token {
-                    kind: Kind::End,
-                    from,
-                    to: from,
-                };
-            }
-            place(from, piece_of(&text[from..], from))
-        }
-        Start::BrokenAt(from) => Token {
-            kind: Kind::Fails,
-            from,
-            to: from,
-        },
-    }
+    bytes[at + k]
 }

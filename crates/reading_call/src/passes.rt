@@ -6,7 +6,7 @@ use image_making::ImageMade;
 use image_making::make_image;
 use image_writing::IMAGE_BYTES;
 use name_resolving::Refused;
-use name_tables::table::names_hold;
+use name_rules::names_hold;
 use node_rows::MAKING_WORDS;
 use node_rows::NODE_WORDS;
 use node_typing::WAITING_WORDS;

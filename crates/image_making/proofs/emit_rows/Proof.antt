@@ -2,7 +2,7 @@ use Rattle.image_making.proofs.emit_rows.Statement.{statement}
 use Rattle.image_making.proofs.emit_rows.Tie as tie
 use Rattle.image_making.proofs.emit_rows.Reads as reads
 use Rattle.image_making.proofs.emit_rows.Lts as lts
-use Rattle.draft_makings.proofs.emit_one.Reads as emit-one-reads
+use Rattle.draft_emitting.proofs.emit_one.Reads as emit-one-reads
 use borrow.Author.Needs.{needs}
 use Prim.Native.Nat.{_-_}
 use mathlib.Core.Path.{_≡_}

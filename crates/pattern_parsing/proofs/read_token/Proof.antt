@@ -5,7 +5,7 @@ use Rattle.pattern_parsing.proofs.read_token.Reads as reads
 use Rattle.pattern_parsing.proofs.read_token.Lts as lts
 use Rattle.parsing_performing.proofs.performing.perform.Reads as perform-reads
 use Rattle.parsing_steps.proofs.behind.top_kind.Reads as top-kind-reads
-use Rattle.token_moves.proofs.token_move.Reads as token-move-reads
+use Rattle.token_copying.proofs.token_move.Reads as token-move-reads
 use Rattle.token_rows.proofs.token_row.Reads as token-row-reads
 use native.Mathlib.Omega.{arith}
 use Rattle.pattern_parsing.proofs.Reading.{token-ends, token-readable, token-room, token-parts, token-read}

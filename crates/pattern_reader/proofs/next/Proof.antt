@@ -49,10 +49,10 @@ use Rattle.pattern_reader.proofs.Reader as T
 use Rattle.pattern_reader.proofs.Reader.Laws as T′
 use Rattle.pattern_tokens.proofs.Token as S
 use Rattle.pattern_tokens.proofs.Token.Laws as S′
-use Rattle.pattern_tokens.proofs.token_at as token
-use Rattle.pattern_tokens.proofs.token_at.Symbol as token-def
-use Rattle.pattern_tokens.proofs.token_at.Symbol.{name as #token-at}
-use Rattle.pattern_tokens.proofs.token_at.Met as token-thm
+use Rattle.token_reading.proofs.token_at as token
+use Rattle.token_reading.proofs.token_at.Symbol as token-def
+use Rattle.token_reading.proofs.token_at.Symbol.{name as #token-at}
+use Rattle.token_reading.proofs.token_at.Met as token-thm
 use Rattle.pattern_reader.proofs.next.Key.{name as #next}
 use Rattle.pattern_reader.proofs.next as next
 use Rattle.pattern_reader.proofs.next.Statement as stated
@@ -162,4 +162,4 @@ next-spec 𝓤 H 𝓜 𝓖 𝓡 =
     entered 𝓤 H (tripleOf 𝓤 H (𝓖 .A) next.signature (next.spec 𝓤 H (𝓖 .A) (𝓜 .mem) (𝓡 .run)))
     (tables 𝓤 H 𝓜 𝓡 code.env .C) (tables 𝓤 H 𝓜 𝓡 code.env .Λ) #next code.function (code.unfolded 𝓤 H 𝓜 𝓡)
     (next-meets 𝓤 H (𝓖 .A) (givenOf 𝓤 H 𝓜 𝓖) (𝓜 .mem) (𝓡 .run) (tablesOf 𝓤 H 𝓜 (tables 𝓤 H 𝓜 𝓡 code.env))
-    (cited 𝓤 H (TokenAt 𝓤 H (𝓖 .A) (𝓜 .mem) (𝓡 .run)) 𝓜 𝓡 code.env #token-at token-def.routine code.calls-pattern-tokens·token-at (token-thm.met 𝓤 H 𝓜 𝓖 𝓡)))
+    (cited 𝓤 H (TokenAt 𝓤 H (𝓖 .A) (𝓜 .mem) (𝓡 .run)) 𝓜 𝓡 code.env #token-at token-def.routine code.calls-token-reading·token-at (token-thm.met 𝓤 H 𝓜 𝓖 𝓡)))

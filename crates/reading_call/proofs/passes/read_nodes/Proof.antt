@@ -3,7 +3,7 @@ use Rattle.reading_call.proofs.passes.read_nodes.Statement.{statement}
 use Rattle.reading_call.proofs.passes.read_nodes.Tie as tie
 use Rattle.reading_call.proofs.passes.read_nodes.Reads as reads
 use Rattle.reading_call.proofs.passes.read_nodes.Lts as lts
-use Rattle.name_tables.proofs.table.names_hold.Reads as names-hold-reads
+use Rattle.name_rules.proofs.names_hold.Reads as names-hold-reads
 use Rattle.reading_call.proofs.passes.read_typed.Reads as read-typed-reads
 use Rattle.type_sheets.proofs.read_sheet.Reads as read-sheet-reads
 use native.Mathlib.Omega.{arith}
