@@ -21,7 +21,8 @@ use Rattle.draft_stack.proofs.Growing.{each-within}
 use Rattle.draft_tables.specs.declared.DraftCounts.{DraftCounts}
 use Rattle.draft_tables.specs.Layout.{draftIn, stackedIn}
 use Rattle.draft_tables.proofs.Counted.{room-within, type-length, pattern-length, binding-length, word-length, byte-length}
-use Rattle.image_writing.specs.Writing.{WithinLimits, ImageWritten}
+use Rattle.image_head.specs.Heads.{WithinLimits}
+use Rattle.image_writing.specs.Writing.{ImageWritten}
 use Rattle.image_writing.proofs.Assembled.{limits-of-room}
 use Rattle.image_making.specs.Images.{ImageReady, draftUp, EmittedUp, ImageOf}
 use Rattle.image_making.proofs.RowsDone.{Done}

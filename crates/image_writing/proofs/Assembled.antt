@@ -1,7 +1,7 @@
 -- The image of a sheet and a draft is the head, the upper tables and the lower ones, and it is written when they are. Assumes nothing.
-use Prim.Native.Nat.{ℕ, suc, _+_, _*_, _-_, _/_, _%_, _≤_}
+use Prim.Native.Nat.{ℕ, _+_, _*_, _-_, _≤_}
 use mathlib.Core.Path.{_≡_, refl, sym, ap, _∙_}
-use mathlib.Core.List.{List, [], _∷_, _++_, map, append-assoc}
+use mathlib.Core.List.{List, [], _∷_, _++_, append-assoc}
 use native.Mathlib.Omega.{arith}
 use lib.ListN.{length, take, drop, length-append, length-drop, length-map}
 use Rattle.image.specs.declared.Tables.{Tables}
@@ -13,26 +13,13 @@ use Rattle.pattern_images.specs.Imaging.{wordBytes, wordsBytes, longBytes, type
 use Rattle.draft_tables.specs.declared.DraftCounts.{DraftCounts}
 use Rattle.draft_tables.specs.Layout.{typeOfWords, patternOfWords, bindingOfWords, draftIn}
 use Rattle.draft_tables.specs.Room.{DraftRoom}
-use Rattle.image_writing.specs.Writing.{WithinLimits, partBytes, upperTables, upperEnd, lowerTables, imageEnd, headBytes}
-use Rattle.image_writing.proofs.Storing.{stored-before, length-chosen}
-use Rattle.image_writing.proofs.Composing.{then, three, length-upper, length-lower}
+use Rattle.image_pieces.specs.Pieces.{partBytes}
+use Rattle.image_pieces.proofs.Storing.{stored-before, length-chosen}
+use Rattle.image_pieces.proofs.Joining.{then}
+use Rattle.image_head.specs.Heads.{WithinLimits, headBytes}
+use Rattle.image_writing.specs.Writing.{upperTables, upperEnd, lowerTables, imageEnd}
+use Rattle.image_writing.proofs.Composing.{length-upper, length-lower}
 use Rattle.image_writing.proofs.RowBytes.{types-bytes, patterns-bytes, bindings-bytes}
-
--- `write_head`
-pub head-written : (follow : ℕ) (tables : Tables) (c : DraftCounts) (t : List ℕ) (p q : ℕ) (t₁ t₂ t₃ : List ℕ) → 17 ≤ length t → p ≡ 4 → q ≡ 5 →
-    t₁ ≡ stored t 0 (wordsBytes (follow / 65536 ∷ follow % 65536 ∷ [])) →
-    t₂ ≡ stored t₁ p (1 ∷ []) →
-    t₃ ≡ stored t₂ q (wordsBytes ((tables .types .count + c .types) ∷ tables .variants .count ∷ (tables .patterns .count + c .patterns) ∷ (tables .bindings .count + c .bindings) ∷ (tables .list .count + c .words) ∷ (tables .bytes .count + c .bytes) ∷ [])) →
-    t₃ ≡ stored t 0 (headBytes follow tables c)
-unfolding headBytes longBytes wordsBytes wordBytes
-head-written follow tables c t p q t₁ t₂ t₃ long ep eq e₁ e₂ e₃ =
-    let a = wordsBytes (follow / 65536 ∷ follow % 65536 ∷ []) in
-    let b = wordsBytes ((tables .types .count + c .types) ∷ tables .variants .count ∷ (tables .patterns .count + c .patterns) ∷ (tables .bindings .count + c .bindings) ∷ (tables .list .count + c .words) ∷ (tables .bytes .count + c .bytes) ∷ []) in
-    let la : length a ≡ 4 = refl in
-    let lb : length b ≡ 12 = refl in
-    let version : List ℕ = 1 ∷ [] in
-    let lv : length version ≡ 1 = refl in
-    three t 0 a version b p q t₁ t₂ t₃ e₁ e₂ e₃ (omega arith) (omega arith) (omega arith)
 
 -- eleven pieces, in groups and in a row
 regrouped : (x₁ x₂ x₃ x₄ x₅ y₁ y₂ y₃ y₄ y₅ y₆ : List ℕ) →

@@ -1,4 +1,3 @@
-pub mod Storing
 pub mod Composing
 pub mod RowBytes
 pub mod Assembled

@@ -1,27 +1,15 @@
 -- The image of a sheet and a draft by the sheet's tables and the draft's words, piece by piece, and that it was written. Assumes nothing: these are
 -- definitions.
-use Prim.Native.Nat.{ℕ, _+_, _*_, _≤_}
+use Prim.Native.Nat.{ℕ, _+_, _*_}
 use mathlib.Core.Path.{_≡_}
-use mathlib.Core.List.{List, [], _∷_, _++_}
+use mathlib.Core.List.{List, _++_}
 use lib.ListN.{length, take, drop}
 use Rattle.image.specs.declared.Tables.{Tables}
 use Rattle.row_tables.specs.Rows.{stored}
-use Rattle.pattern_images.specs.Imaging.{wordsBytes, longBytes, tableOf, imageWith}
+use Rattle.pattern_images.specs.Imaging.{tableOf, imageWith}
 use Rattle.draft_tables.specs.declared.DraftCounts.{DraftCounts}
 use Rattle.draft_tables.specs.Layout.{draftIn}
-
--- the counts of the sheet and of the draft, together, are within the image's limits
-pub record WithinLimits (tables : Tables) (c : DraftCounts) : Type 0 where
-  pub types : tables .types .count + c .types ≤ 256
-  pub variants : tables .variants .count ≤ 512
-  pub patterns : tables .patterns .count + c .patterns ≤ 512
-  pub bindings : tables .bindings .count + c .bindings ≤ 256
-  pub words : tables .list .count + c .words ≤ 2048
-  pub bytes : tables .bytes .count + c .bytes ≤ 16384
-
--- so many bytes of a sheet, and behind them so many words of a draft
-unfoldable pub partBytes : List ℕ → ℕ → ℕ → List ℕ → ℕ → ℕ → List ℕ
-partBytes sheet from many draft first words = tableOf sheet from many ++ wordsBytes (take words (drop first draft))
+use Rattle.image_pieces.specs.Pieces.{partBytes}
 
 -- types, variants and patterns
 unfoldable pub upperTables : List ℕ → Tables → List ℕ → DraftCounts → List ℕ
@@ -45,20 +33,6 @@ lowerTables sheet tables draft c =
 abbrev pub imageEnd : Tables → DraftCounts → ℕ
 imageEnd tables c =
     upperEnd tables c + 4 * (tables .bindings .count + c .bindings) + 2 * (tables .list .count + c .words) + (tables .bytes .count + c .bytes)
-
--- how many bytes follow, the version, the six counts
-unfoldable pub headBytes : ℕ → Tables → DraftCounts → List ℕ
-headBytes follow tables c =
-    longBytes follow
-    ++ (1
-    ∷ wordsBytes
-    ((tables .types .count + c .types)
-    ∷ tables .variants .count
-    ∷ (tables .patterns .count + c .patterns)
-    ∷ (tables .bindings .count + c .bindings)
-    ∷ (tables .list .count + c .words)
-    ∷ (tables .bytes .count + c .bytes)
-    ∷ []))
 
 -- the image was written from byte 0 on, and this is its length, whatever the names are
 abbrev pub ImageWritten : List ℕ → List ℕ → DraftCounts → List ℕ → ℕ → List ℕ → Type 0

@@ -1,22 +1,21 @@
 // The image of a sheet and of what a draft adds to it, written into lent bytes.
-mod pieces; // pieces.rt: bytes and words of a table, each to a place of the image
-
-use crate::pieces::write_bytes;
-use crate::pieces::write_data;
-use crate::pieces::write_part;
-use crate::pieces::write_words;
 use draft_tables::BINDINGS;
 use draft_tables::BYTES;
 use draft_tables::DraftCounts;
 use draft_tables::PATTERNS;
 use draft_tables::WORDS;
 use image::Tables;
+use image_head::write_head;
+use image_pieces::write_bytes;
+use image_pieces::write_data;
+use image_pieces::write_part;
 ghost use mathlib.Core.Path.{_≡_};
-ghost use Prim.Native.Nat.{_+_, _≤_, _<_};
+ghost use Prim.Native.Nat.{_+_, _≤_};
 ghost use lib.ListN.{length};
 ghost use Rattle.image.specs.Tables.{Whole};
 ghost use Rattle.row_tables.specs.Rows.{stored, AtMost};
-ghost use Rattle.image_writing.specs.Writing.{WithinLimits, upperTables, upperEnd, lowerTables, imageEnd, headBytes, ImageWritten};
+ghost use Rattle.image_head.specs.Heads.{WithinLimits};
+ghost use Rattle.image_writing.specs.Writing.{upperTables, upperEnd, lowerTables, imageEnd, ImageWritten};
 
 // The longest image: 17 + 10 * 256 + 6 * 512 + 14 * 512 + 4 * 256 + 2 * 2048 + 16384.
 pub const IMAGE_BYTES: usize = 34321;
@@ -88,26 +87,6 @@ fn write_lower(
     let after_list = write_part(image, next, sheet, list_at, list, draft, WORDS, added_words);
     let after_data = write_bytes(image, after_list, sheet, data_at, data);
     write_data(image, after_data, draft, BYTES, added_bytes)
-}
-
-// How many bytes follow, the version, and the six counts.
-fn write_head(follow: usize, tables: Tables, counts: DraftCounts, image: &mut [u8])
-    requires { ⌜ (WithinLimits tables counts × (follow < 65536)) × (length (now image) ≡ 34321) ⌝ }
-    ensures { λ _. ⌜ now (image .exit) ≡ stored (now (image .entry)) 0 (headBytes follow tables counts) ⌝ }
-{
-    let follow_words = [(follow / 65536) as u16, (follow % 65536) as u16];
-    let version_at = write_words(image, 0, &follow_words, 0, 2);
-    let version = [1u8];
-    let counts_at = write_bytes(image, version_at, &version, 0, 1);
-    let count_words = [
-        tables.types.count + counts.types,
-        tables.variants.count,
-        tables.patterns.count + counts.patterns,
-        tables.bindings.count + counts.bindings,
-        tables.list.count + counts.words,
-        tables.bytes.count + counts.bytes,
-    ];
-    write_words(image, counts_at, &count_words, 0, 6);
 }
 
 // The image, from byte 0 on: its length.

@@ -1,8 +1,8 @@
 // What the parser does at a name of a text: its bytes are copied into one table.
 use parsing_machine::ReadState;
 use parsing_moves::HeldRow;
-use parsing_states::names::name_move;
-use parsing_states::names::role_of;
+use parsing_names::name_move;
+use parsing_names::role_of;
 use spelled_names::NAME_BYTES;
 use spelled_names::copy_behind;
 use spelled_names::copy_bytes;

@@ -1,4 +1,4 @@
 pub mod Stored
-pub mod Stacks
+pub mod Known
 pub mod Passing
 pub mod Typings

@@ -23,9 +23,10 @@ use Rattle.name_resolving.specs.declared.Resolution.{Resolution}
 use Rattle.name_resolving.specs.Gives.{refusedOf, resolvedOf, Gives}
 use Rattle.node_resolving.proofs.Kept.{reads-known}
 use Rattle.node_typing.specs.declared.steps.TypedRow.{TypedRow}
-use Rattle.node_typing.specs.Rows.{makingWords, stackOf, StackKnown, Stacked, resolvedAt, RowTyped, untyped, NodesTyped}
+use Rattle.typing_state.specs.Parents.{stackOf, Stacked}
+use Rattle.node_typing.specs.Rows.{makingWords, StackKnown, resolvedAt, RowTyped, untyped, NodesTyped}
 use Rattle.node_typing.proofs.Stored.{making-stored, makings-from, rows-past, from-first}
-use Rattle.node_typing.proofs.Stacks.{next-known, wait-known, behind-known}
+use Rattle.node_typing.proofs.Known.{next-known, wait-known, behind-known}
 
 module _ (sheet names spelled nodes : List ℕ) where
   -- one row, by what its calls leave

@@ -1,30 +1,17 @@
--- The rows of the lent tables by their words. Assumes nothing.
-use Prim.Native.Nat.{ℕ, zero, suc, _+_, _*_, _-_, _≤_, _<_}
+-- The rows of what is made, by their words. Assumes nothing.
+use Prim.Native.Nat.{ℕ, zero, suc, _+_, _*_, _-_, _≤_}
 use mathlib.Core.Path.{_≡_, refl, sym, ap, _∙_}
 use mathlib.Core.List.{List, [], _∷_, _++_}
 use native.Mathlib.Omega.{arith}
 use lib.ListN.{length, take, drop, getD}
-use lib.Seq.{getD-take, getD-drop, drop-drop}
+use lib.Seq.{drop-drop}
 use Rattle.row_tables.specs.Rows.{rowAt, stored}
 use Rattle.row_tables.proofs.Tables.{row-stored}
 use Rattle.node_rows.specs.declared.MakingRow.{MakingRow}
 use Rattle.node_rows.specs.Makings.{makingRowAt, closedMakingOf, makingsIn}
 use Rattle.pattern_typing.specs.Closed.{ClosedMaking}
-use Rattle.node_typing.specs.declared.tables.WaitingRow.{WaitingRow}
-use Rattle.node_typing.specs.Rows.{makingWords, waitingRow}
-
--- a word of a row
-word-in : (w : ℕ) (t : List ℕ) (i k : ℕ) → k < w → getD (rowAt w t i) k 0 ≡ getD t (w * i + k) 0
-unfolding rowAt
-word-in w t i k h = getD-take w (drop (w * i) t) k 0 h ∙ getD-drop (w * i) t k 0
-
-first-in : (w : ℕ) (t : List ℕ) (i : ℕ) → 0 < w → getD (rowAt w t i) 0 0 ≡ getD t (w * i) 0
-first-in w t i h = let e : w * i + 0 ≡ w * i = omega arith in word-in w t i 0 h ∙ ap (λ (k : ℕ). getD t k 0) e
-
--- a row of a parent that waits, read word by word
-pub waiting-read : (t : List ℕ) (d : ℕ) (r : WaitingRow) → r ≡ record { reads = record { kind = getD t (7 * d) 0; a = getD t (7 * d + 1) 0; b = getD t (7 * d + 2) 0; c = getD t (7 * d + 3) 0; mode = getD t (7 * d + 4) 0; many = getD t (7 * d + 5) 0 }; left = getD t (7 * d + 6) 0 } → r ≡ waitingRow (rowAt 7 t d)
-waiting-read t d r e =
-    rw (first-in 7 t d (omega arith), word-in 7 t d 1 (omega arith), word-in 7 t d 2 (omega arith), word-in 7 t d 3 (omega arith), word-in 7 t d 4 (omega arith), word-in 7 t d 5 (omega arith), word-in 7 t d 6 (omega arith)) e
+use Rattle.typing_state.proofs.Words.{word-in, first-in}
+use Rattle.node_typing.specs.Rows.{makingWords}
 
 -- a row of what is made, by its words
 abbrev making-in : List ℕ → MakingRow

@@ -18,7 +18,8 @@ use Rattle.name_resolving.specs.declared.Refused.{Refused}
 use Rattle.name_resolving.specs.Gives.{refusedOf, sameRow}
 use Rattle.type_parts.specs.declared.PartsRow.{PartsRow}
 use Rattle.type_parts.specs.Parts.{partsOf}
-use Rattle.node_typing.specs.Rows.{stackOf, Stacked, startsAt, NodesTyped, PatternTyped}
+use Rattle.typing_state.specs.Parents.{stackOf, Stacked}
+use Rattle.node_typing.specs.Rows.{startsAt, NodesTyped, PatternTyped}
 
 -- the root waits alone
 module _ (sheet before : List ℕ) {waiting : List ℕ} {first expected : ℕ} {reads : PartsRow} (e : reads ≡ sameRow expected 0) (S : Stacked waiting first (waitFor (partsOf reads) 1 (stackOf before 0)) (0 + 1)) where

@@ -1,11 +1,10 @@
--- The tables of the downward pass: what the rows of parents that wait stand for, and what the pass leaves. Assumes nothing: these are definitions.
-use Prim.Native.Nat.{ℕ, zero, suc, _+_, _*_, _≤_}
+-- The tables of the downward pass, and what the pass leaves in them. Assumes nothing: these are definitions.
+use Prim.Native.Nat.{ℕ, _+_, _*_, _≤_}
 use mathlib.Core.Path.{_≡_}
 use mathlib.Core.Bool.{true}
 use mathlib.Core.Option.{none}
 use mathlib.Core.List.{List, [], _∷_}
-use lib.ListN.{length, getD, drop}
-use Rattle.row_tables.specs.Rows.{rowAt}
+use lib.ListN.{length, drop}
 use Rattle.image.specs.declared.Tables.{Tables}
 use Rattle.image.specs.Tables.{Whole}
 use Rattle.type_sheets.specs.Sheets.{sheetHolds}
@@ -16,12 +15,10 @@ use Rattle.pattern_typing.specs.Closed.{closedMaking}
 use Rattle.node_rows.specs.declared.MakingRow.{MakingRow}
 use Rattle.node_rows.specs.Nodes.{nodeRowAt, nodeOf, nodesIn}
 use Rattle.node_rows.specs.Makings.{makingRowAt, closedMakingOf, makingsIn}
-use Rattle.type_parts.specs.declared.PartsRow.{PartsRow}
-use Rattle.type_parts.specs.Parts.{partsOf}
 use Rattle.name_resolving.specs.declared.Refused.{Refused}
 use Rattle.name_resolving.specs.Gives.{refusedOf}
 use Rattle.node_resolving.specs.Known.{PartsKnown}
-use Rattle.node_typing.specs.declared.tables.WaitingRow.{WaitingRow}
+use Rattle.typing_state.specs.Parents.{stackOf}
 use Rattle.node_typing.specs.declared.steps.TypedRow.{TypedRow}
 
 -- the words of a row of what is made
@@ -29,42 +26,10 @@ abbrev pub makingWords : MakingRow → List ℕ
 makingWords row =
     row .kind ∷ row .parts ∷ row .ty ∷ row .derefs ∷ row .a ∷ row .b ∷ row .c ∷ row .from ∷ row .to ∷ row .element ∷ row .many ∷ row .copy ∷ []
 
--- the words of a parent that waits, and what they stand for
-abbrev pub waitingWords : PartsRow → ℕ → List ℕ
-waitingWords reads left = reads .kind ∷ reads .a ∷ reads .b ∷ reads .c ∷ reads .mode ∷ reads .many ∷ left ∷ []
-
-abbrev pub waitingRow : List ℕ → WaitingRow
-waitingRow words =
-    record {
-      reads =
-          record {
-            kind = getD words 0 0;
-            a = getD words 1 0;
-            b = getD words 2 0;
-            c = getD words 3 0;
-            mode = getD words 4 0;
-            many = getD words 5 0;
-          };
-      left = getD words 6 0;
-    }
-
-abbrev pub waitingOf : WaitingRow → Waiting
-waitingOf row = record { reads = partsOf (row .reads); left = row .left }
-
--- so many parents, the last one on top
-unfoldable pub stackOf : List ℕ → ℕ → List Waiting
-stackOf table zero = []
-stackOf table (suc depth) = waitingOf (waitingRow (rowAt 7 table depth)) ∷ stackOf table depth
-
--- the types that they name are the sheet's
+-- the types that parents name are the sheet's
 abbrev pub StackKnown : List ℕ → List Waiting → Type 0
 StackKnown sheet [] = Unit
 StackKnown sheet (w ∷ stack) = PartsKnown sheet (w .reads) × StackKnown sheet stack
-
--- a stack of at most so many parents
-pub record Stacked (table : List ℕ) (depth : ℕ) (stack : List Waiting) (most : ℕ) : Type 0 where
-  pub same : stackOf table depth ≡ stack
-  pub within : depth ≤ most
 
 -- the sizes of the lent tables
 pub record Sized (nodes makings waiting : List ℕ) : Type 0 where

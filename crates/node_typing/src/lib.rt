@@ -1,6 +1,5 @@
 // The downward pass over the rows of nodes, from the last to the first: each is read at a context that its parent left, what is made of it is
 // written to the row of the same number, and the first position that is refused is kept.
-pub mod stack; // stack.rt: the parents whose parts are not all read
 pub mod steps; // steps.rt: one row
 pub mod tables; // tables.rt: the rows of the lent tables
 
@@ -8,9 +7,9 @@ use image::Tables;
 use name_resolving::Refused;
 use name_resolving::rows::same_parts;
 use node_rows::TEXT_BYTES;
-use stack::wait_for;
-use steps::first_refused;
 use steps::type_row;
+use typing_state::refused::first_refused;
+use typing_state::stack::wait_for;
 ghost use mathlib.Core.Path.{_≡_};
 ghost use mathlib.Core.Bool.{true};
 ghost use Prim.Native.Nat.{_<_, _≤_};

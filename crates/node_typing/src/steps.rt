@@ -1,42 +1,20 @@
 // One row of the pass.
-use crate::stack::leave_part;
-use crate::stack::next_context;
-use crate::stack::wait_for;
 use crate::tables::node_at;
 use crate::tables::store_making;
 use image::Tables;
 use name_resolving::Refused;
 use node_resolving::resolve;
-ghost use mathlib.Core.Path.{_≡_};
+use typing_state::stack::leave_part;
+use typing_state::stack::next_context;
+use typing_state::stack::wait_for;
 ghost use Prim.Native.Nat.{_<_};
-ghost use Rattle.pattern_typing.specs.Failing.{earlier};
-ghost use Rattle.name_resolving.specs.Gives.{refusedOf};
-ghost use Rattle.node_typing.specs.Rows.{Sized, Typing, RowTyped, StackKnown, stackOf};
+ghost use Rattle.typing_state.specs.Parents.{stackOf};
+ghost use Rattle.node_typing.specs.Rows.{Sized, Typing, RowTyped, StackKnown};
 
 // How many parents wait, and whether the row is refused.
 pub struct TypedRow {
     pub depth: usize,
     pub refused: Refused,
-}
-
-// The first of two positions in the text, where there are any.
-pub fn first_refused(own: Refused, other: Refused) -> Refused
-    ensures { λ r. ⌜ refusedOf r ≡ earlier (refusedOf own) (refusedOf other) ⌝ }
-{
-    match own {
-        Refused::No => other,
-        Refused::At(a) => {
-            match other {
-                Refused::No => Refused::At(a),
-                Refused::At(b) => {
-                    if b < a {
-                        return Refused::At(b);
-                    }
-                    Refused::At(a)
-                }
-            }
-        }
-    }
 }
 
 // The row i, with so many parents waiting.

@@ -17,7 +17,8 @@ use Rattle.parsing_steps.specs.declared.ParseStep.the-variants.{Going, Halted}
 use Rattle.parsing_steps.specs.Stepping.{courseOf}
 use Rattle.parsing_steps.specs.Behind.{StandsBehind}
 use Rattle.parsing_rests.specs.Resting.{OpensRange, RestsRead}
-use Rattle.parsing_performing.specs.Performing.{moveGain, PerformsMove, PerformsAny, PerformsOver}
+use Rattle.parsing_steps.specs.Moving.{PerformsMove, PerformsAny, PerformsOver}
+use Rattle.parsing_performing.specs.Performing.{moveGain}
 
 -- neither the text nor the bytes of names decide how many rows a move adds
 pub gain-any : (text names : List ℕ) (move : NodeMove) (m : ℕ) → gain (moveOf text names move) m ≡ moveGain move m

@@ -23,9 +23,9 @@ use Rattle.parsing_steps.specs.declared.ParseStep.the-variants.{Halted}
 use Rattle.parsing_steps.specs.Settling.{grownRow, Shuts}
 use Rattle.parsing_steps.specs.Stepping.{courseOf, goingOn}
 use Rattle.parsing_steps.proofs.Enders.{rows-grown, kinds-close}
-use Rattle.parsing_rests.specs.Rested.{restedRow, restRow, FitsRest}
+use Rattle.rest_rows.specs.Rested.{restedRow, restRow, FitsRest}
 use Rattle.parsing_rests.specs.Resting.{RestsItem, NotesRest, RestsIn, RestsRead}
-use Rattle.parsing_rests.proofs.Lists.{rested-node}
+use Rattle.rest_rows.proofs.Lists.{rested-node}
 
 -- what waits, by its innermost row
 pub rows-first :

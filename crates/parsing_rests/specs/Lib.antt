@@ -1,2 +1,1 @@
-pub mod Rested
 pub mod Resting

@@ -1,4 +1,3 @@
 // What a list's rest, a range without an upper bound and `mut` do on the tables.
 pub mod ranges;
 pub mod resting;
-pub mod rests;

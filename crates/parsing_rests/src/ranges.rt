@@ -7,11 +7,12 @@ use parsing_steps::ParseStep;
 use parsing_steps::behind::behind_alt;
 use parsing_steps::behind::top_kind;
 use parsing_steps::settling::shut;
+use rest_rows::bars_open;
 ghost use mathlib.Core.Path.{_≡_};
 ghost use Prim.Native.Nat.{_+_, _<_, _≤_};
 ghost use Rattle.parsing_bounds.specs.Weights.{orOne};
 ghost use Rattle.parsing_steps.specs.Settling.{PartsMost};
-ghost use Rattle.parsing_rests.specs.Rested.{openRow, mutatedRow, barsOpen};
+ghost use Rattle.rest_rows.specs.Rested.{openRow, mutatedRow};
 ghost use Rattle.parsing_rests.specs.Resting.{ShutsBefore, OpensRange, MutatesTop};
 
 // An alternative closes above what waits below it; the mark stands behind it.
@@ -31,19 +32,6 @@ pub fn shut_before(
     let d = h.depth;
     let n = h.rows;
     behind_alt(stack, nodes, d, n, m, at)
-}
-
-// A slice has no item without an upper bound.
-fn bars_open(kind: u16, m: u16) -> bool
-    ensures { λ r. ⌜ r ≡ barsOpen kind m ⌝ }
-{
-    if kind != 11 {
-        return false;
-    }
-    if m == 1 {
-        return true;
-    }
-    m == 4
 }
 
 // A range behind its lower bound, with `..` and nothing behind it.

@@ -1,7 +1,4 @@
 // `..` that no bound follows.
-use crate::rests::rest_fits;
-use crate::rests::rest_row;
-use crate::rests::rested_row;
 use node_rows::NODE_WORDS;
 use node_tables::kind_of;
 use node_tables::node_at;
@@ -13,6 +10,9 @@ use parsing_steps::ending::closes_list;
 use parsing_steps::ending::going_on;
 use parsing_steps::settling::grown_row;
 use parsing_steps::settling::shut;
+use rest_rows::rest_fits;
+use rest_rows::rest_row;
+use rest_rows::rested_row;
 ghost use Prim.Native.Nat.{_+_, _<_, _≤_};
 ghost use Rattle.parsing_steps.specs.Settling.{PartsMost};
 ghost use Rattle.parsing_rests.specs.Resting.{NotesRest, RestsItem, RestsIn, RestsRead};

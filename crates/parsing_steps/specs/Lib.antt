@@ -1,3 +1,4 @@
 pub mod Settling
 pub mod Stepping
 pub mod Behind
+pub mod Moving

@@ -5,10 +5,10 @@ use image_writing::IMAGE_BYTES;
 use program_io::Input;
 use program_io::read_input;
 use program_io::write_output;
-use reading_call::PatternRead;
 use reading_input::parts_of;
 use reading_report::print_refusal;
 use reading_report::read_text;
+use reading_typed::PatternRead;
 ghost use Prim.Native.Nat.{_≤_};
 ghost use lib.ListN.{length};
 

@@ -5,9 +5,10 @@ use mathlib.Core.List.{List}
 use native.Mathlib.Omega.{arith}
 use lib.ListN.{length}
 use Rattle.pattern_reading.specs.Reads.{Answer, imageOf, refusedWith, readPattern}
-use Rattle.reading_call.specs.declared.PatternRead.{PatternRead}
-use Rattle.reading_call.specs.declared.PatternRead.the-variants.{Image, RefusedAt}
-use Rattle.reading_call.specs.Calls.{ReadsAs, PatternReads}
+use Rattle.reading_typed.specs.declared.PatternRead.{PatternRead}
+use Rattle.reading_typed.specs.declared.PatternRead.the-variants.{Image, RefusedAt}
+use Rattle.reading_typed.specs.Answers.{ReadsAs}
+use Rattle.reading_call.specs.Calls.{PatternReads}
 use Rattle.reading_audit.specs.Calls.{ImageStands, NothingWritten}
 
 -- the numbers of an answer, and which it is

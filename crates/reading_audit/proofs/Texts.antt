@@ -12,8 +12,8 @@ use Rattle.pattern_grammar.specs.Parsed.{lexemes, parsed}
 use Rattle.pattern_grammar.proofs.Verdicts.{Refused}
 use Rattle.pattern_reading.specs.Reads.{imageOf, refusedWith, readPattern}
 use Rattle.image_growth.specs.Growing.{IsBytes}
-use Rattle.reading_call.specs.declared.PatternRead.{PatternRead}
-use Rattle.reading_call.specs.declared.PatternRead.the-variants.{Image, RefusedAt}
+use Rattle.reading_typed.specs.declared.PatternRead.{PatternRead}
+use Rattle.reading_typed.specs.declared.PatternRead.the-variants.{Image, RefusedAt}
 use Rattle.reading_call.specs.Calls.{PatternReads}
 use Rattle.reading_audit.specs.Texts.{IsRead, FirstPlace}
 use Rattle.reading_audit.specs.Calls.{ImageStands, NothingWritten}

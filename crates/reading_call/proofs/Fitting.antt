@@ -7,9 +7,10 @@ use lib.ListN.{length}
 use Rattle.row_tables.specs.Rows.{stored}
 use Rattle.row_tables.proofs.Tables.{length-stored}
 use Rattle.pattern_reading.specs.Reads.{Answer, imageOf, refusedWith, readPattern}
-use Rattle.reading_call.specs.declared.PatternRead.{PatternRead}
-use Rattle.reading_call.specs.declared.PatternRead.the-variants.{Image, RefusedAt}
-use Rattle.reading_call.specs.Calls.{ReadsAs, PatternReads}
+use Rattle.reading_typed.specs.declared.PatternRead.{PatternRead}
+use Rattle.reading_typed.specs.declared.PatternRead.the-variants.{Image, RefusedAt}
+use Rattle.reading_typed.specs.Answers.{ReadsAs}
+use Rattle.reading_call.specs.Calls.{PatternReads}
 
 -- how many bytes an answer has, and whether it has any
 unfoldable bytesRead : PatternRead → ℕ

@@ -1,8 +1,5 @@
 // The public call on a pattern's text: every text, sheet, name table and type is taken, and answered by an image or refused by its number and position. What is refused
 // writes nothing to the image's bytes. The tables in between are lent, and what they hold before is not looked at.
-mod passes; // passes.rt: what comes behind the parser
-
-use crate::passes::read_nodes;
 use draft_tables::DRAFT_WORDS;
 use image_writing::IMAGE_BYTES;
 use node_rows::MAKING_WORDS;
@@ -10,14 +7,10 @@ use node_rows::NODE_WORDS;
 use node_typing::WAITING_WORDS;
 use pattern_parsing::Parsed;
 use pattern_parsing::parse_pattern;
+use reading_nodes::read_nodes;
+use reading_typed::PatternRead;
 use spelled_names::NAME_BYTES;
 ghost use Rattle.reading_call.specs.Calls.{PatternReads};
-
-// The image's length, or a refusal's number and position.
-pub enum PatternRead {
-    Image(usize),
-    RefusedAt(u16, u16),
-}
 
 // The image of a pattern's text, read at the expected type, with the names of a table: number 19 is tried first.
 pub fn read_pattern(

@@ -6,8 +6,8 @@ use node_rows::MAKING_WORDS;
 use node_rows::NODE_WORDS;
 use node_typing::WAITING_WORDS;
 use program_io::tell_write;
-use reading_call::PatternRead;
 use reading_call::read_pattern;
+use reading_typed::PatternRead;
 use spelled_names::NAME_BYTES;
 ghost use Rattle.reading_call.specs.Calls.{PatternReads};
 

@@ -2,9 +2,9 @@
 use name_copying::name_token;
 use parsing_machine::ReadState;
 use parsing_moves::HeldRow;
-use parsing_states::names::role_of;
-use parsing_states::names::scalar_move;
-use parsing_states::states::mark_move;
+use parsing_names::role_of;
+use parsing_names::scalar_move;
+use parsing_states::mark_move;
 use spelled_names::NAME_BYTES;
 use spelled_names::copy_bytes;
 use token_moves::TokenMove;

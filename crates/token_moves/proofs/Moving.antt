@@ -19,7 +19,7 @@ use Rattle.parsing_moves.specs.declared.NodeMove.{NodeMove}
 use Rattle.parsing_moves.specs.declared.NodeMove.the-variants.{Holds}
 use Rattle.parsing_moves.specs.Rows.{plainHeld, heldIn, moveOf, isIndex, spotOf, DecidesMark}
 use Rattle.parsing_moves.specs.Roles.{role, DecidesScalar}
-use Rattle.parsing_states.specs.Naming.{NamesHeld}
+use Rattle.parsing_names.specs.Naming.{NamesHeld}
 use Rattle.token_spans.specs.Spans.{lexemeSpot, Lies}
 use Rattle.token_rows.specs.declared.TokenRow.{TokenRow}
 use Rattle.token_rows.specs.TokenRows.{spotFrom, lexemeOf}

@@ -3,7 +3,7 @@ use Rattle.image_writing.proofs.write_image.Statement.{statement}
 use Rattle.image_writing.proofs.write_image.Tie as tie
 use Rattle.image_writing.proofs.write_image.Reads as reads
 use Rattle.image_writing.proofs.write_image.Lts as lts
-use Rattle.image_writing.proofs.write_head.Reads as write-head-reads
+use Rattle.image_head.proofs.write_head.Reads as write-head-reads
 use Rattle.image_writing.proofs.write_lower.Reads as write-lower-reads
 use Rattle.image_writing.proofs.write_upper.Reads as write-upper-reads
 use mathlib.Core.Path.{_≡_}

@@ -3,9 +3,9 @@ use Rattle.image_writing.proofs.write_lower.Statement.{statement}
 use Rattle.image_writing.proofs.write_lower.Tie as tie
 use Rattle.image_writing.proofs.write_lower.Reads as reads
 use Rattle.image_writing.proofs.write_lower.Lts as lts
-use Rattle.image_writing.proofs.pieces.write_bytes.Reads as write-bytes-reads
-use Rattle.image_writing.proofs.pieces.write_data.Reads as write-data-reads
-use Rattle.image_writing.proofs.pieces.write_part.Reads as write-part-reads
+use Rattle.image_pieces.proofs.write_bytes.Reads as write-bytes-reads
+use Rattle.image_pieces.proofs.write_data.Reads as write-data-reads
+use Rattle.image_pieces.proofs.write_part.Reads as write-part-reads
 use native.Mathlib.Omega.{arith}
 use Rattle.image_writing.proofs.Composing.{lower-written}
 

@@ -3,8 +3,8 @@ use Rattle.image_writing.proofs.write_upper.Statement.{statement}
 use Rattle.image_writing.proofs.write_upper.Tie as tie
 use Rattle.image_writing.proofs.write_upper.Reads as reads
 use Rattle.image_writing.proofs.write_upper.Lts as lts
-use Rattle.image_writing.proofs.pieces.write_bytes.Reads as write-bytes-reads
-use Rattle.image_writing.proofs.pieces.write_part.Reads as write-part-reads
+use Rattle.image_pieces.proofs.write_bytes.Reads as write-bytes-reads
+use Rattle.image_pieces.proofs.write_part.Reads as write-part-reads
 use native.Mathlib.Omega.{arith}
 use Rattle.image_writing.proofs.Composing.{upper-written}
 

@@ -3,8 +3,8 @@ use Rattle.name_copying.proofs.name_token.Statement.{statement}
 use Rattle.name_copying.proofs.name_token.Tie as tie
 use Rattle.name_copying.proofs.name_token.Reads as reads
 use Rattle.name_copying.proofs.name_token.Lts as lts
-use Rattle.parsing_states.proofs.names.name_move.Reads as name-move-reads
-use Rattle.parsing_states.proofs.names.role_of.Reads as role-of-reads
+use Rattle.parsing_names.proofs.name_move.Reads as name-move-reads
+use Rattle.parsing_names.proofs.role_of.Reads as role-of-reads
 use Rattle.spelled_names.proofs.copy_behind.Reads as copy-behind-reads
 use Rattle.spelled_names.proofs.copy_bytes.Reads as copy-bytes-reads
 use mathlib.Core.Path.{sym, ap, _∙_}

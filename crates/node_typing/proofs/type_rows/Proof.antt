@@ -5,7 +5,7 @@ use mathlib.Core.Path.{_≡_, refl}
 use borrow.Author.Needs.{needs}
 use Prim.Native.Nat.{suc, _-_}
 use lib.ListN.{length}
-use Rattle.node_typing.specs.Rows.{stackOf}
+use Rattle.typing_state.specs.Parents.{stackOf}
 use Rattle.node_typing.proofs.Passing.{Passing, pass-begins, row-passed, pass-ends}
 
 abbrev Inv-loop : tie.InvT-loop

@@ -4,7 +4,7 @@ use Rattle.pattern_parsing.proofs.parse_pattern.Tie as tie
 use Rattle.pattern_parsing.proofs.parse_pattern.Reads as reads
 use Rattle.pattern_parsing.proofs.parse_pattern.Lts as lts
 use Rattle.pattern_parsing.proofs.parse_tokens.Reads as parse-tokens-reads
-use Rattle.pattern_parsing.proofs.Reading.{too-long}
+use Rattle.pattern_parsing.proofs.Starting.{too-long}
 
 returns : tie.Need-returns
 returns c = too-long _ (c .if1 .taken)

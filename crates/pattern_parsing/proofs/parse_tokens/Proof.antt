@@ -3,13 +3,13 @@ use Rattle.pattern_parsing.proofs.parse_tokens.Tie as tie
 use Rattle.pattern_parsing.proofs.parse_tokens.Reads as reads
 use Rattle.pattern_parsing.proofs.parse_tokens.Lts as lts
 use Rattle.pattern_parsing.proofs.fresh.Reads as fresh-reads
-use Rattle.pattern_parsing.proofs.read_token.Reads as read-token-reads
+use Rattle.token_parsing.proofs.read_token.Reads as read-token-reads
 use borrow.Author.Needs.{needs}
 use Prim.Native.Nat.{_-_}
 use native.Mathlib.Omega.{arith}
 use lib.ListN.{length}
-use Rattle.pattern_parsing.specs.Parsing.{ParsingAt}
-use Rattle.pattern_parsing.proofs.Reading.{starts, goes-again}
+use Rattle.token_parsing.specs.Standing.{ParsingAt}
+use Rattle.pattern_parsing.proofs.Starting.{starts, goes-again}
 
 abbrev Inv-loop : tie.InvT-loop
 Inv-loop text nodes₀ stack₀ names₀ p₀ at₀ named₀ nodes stack names p at named = ParsingAt text names named stack nodes at p

@@ -4,7 +4,7 @@ use Rattle.reading_call.proofs.read_pattern.Tie as tie
 use Rattle.reading_call.proofs.read_pattern.Reads as reads
 use Rattle.reading_call.proofs.read_pattern.Lts as lts
 use Rattle.pattern_parsing.proofs.parse_pattern.Reads as parse-pattern-reads
-use Rattle.reading_call.proofs.passes.read_nodes.Reads as read-nodes-reads
+use Rattle.reading_nodes.proofs.read_nodes.Reads as read-nodes-reads
 use Rattle.reading_call.proofs.Passing.{text-fails, text-read}
 
 parse-pattern-requires : tie.Need-parse-pattern-requires

@@ -3,8 +3,8 @@ use Rattle.token_copying.proofs.mark_token.Statement.{statement}
 use Rattle.token_copying.proofs.mark_token.Tie as tie
 use Rattle.token_copying.proofs.mark_token.Reads as reads
 use Rattle.token_copying.proofs.mark_token.Lts as lts
-use Rattle.parsing_states.proofs.names.role_of.Reads as role-of-reads
-use Rattle.parsing_states.proofs.states.mark_move.Reads as mark-move-reads
+use Rattle.parsing_names.proofs.role_of.Reads as role-of-reads
+use Rattle.parsing_states.proofs.mark_move.Reads as mark-move-reads
 use Rattle.spelled_names.proofs.copy_bytes.Reads as copy-bytes-reads
 use mathlib.Core.Path.{sym, ap, _∙_}
 use mathlib.Core.Logic.{⊎-elim}

@@ -3,7 +3,7 @@ use Rattle.token_copying.proofs.token_move.Statement.{statement}
 use Rattle.token_copying.proofs.token_move.Tie as tie
 use Rattle.token_copying.proofs.token_move.Reads as reads
 use Rattle.token_copying.proofs.token_move.Lts as lts
-use Rattle.parsing_states.proofs.names.scalar_move.Reads as scalar-move-reads
+use Rattle.parsing_names.proofs.scalar_move.Reads as scalar-move-reads
 use Rattle.token_copying.proofs.mark_token.Reads as mark-token-reads
 use Rattle.name_copying.proofs.name_token.Reads as name-token-reads
 use borrow.Author.Tests.{ne-eqb}

@@ -2,7 +2,7 @@ use borrow.Author.Needs.{needs}
 use Rattle.node_typing.proofs.steps.type_row.Statement.{statement}
 use Rattle.node_typing.proofs.steps.type_row.Tie as tie
 use native.Mathlib.Omega.{arith}
-use Rattle.node_typing.proofs.Stacks.{next-known}
+use Rattle.node_typing.proofs.Known.{next-known}
 use Rattle.node_typing.proofs.Passing.{row-typed}
 
 resolve-requires : tie.Need-resolve-requires

@@ -4,7 +4,7 @@ use Rattle.parsing_rests.proofs.ranges.open_range.Tie as tie
 use Rattle.parsing_rests.proofs.ranges.open_range.Reads as reads
 use Rattle.parsing_rests.proofs.ranges.open_range.Lts as lts
 use Rattle.node_tables.proofs.node_at.Reads as node-at-reads
-use Rattle.parsing_rests.proofs.ranges.bars_open.Reads as bars-open-reads
+use Rattle.rest_rows.proofs.bars_open.Reads as bars-open-reads
 use Rattle.parsing_rests.proofs.ranges.open_row.Reads as open-row-reads
 use Rattle.parsing_rests.proofs.ranges.shut_before.Reads as shut-before-reads
 use Rattle.parsing_steps.proofs.behind.top_kind.Reads as top-kind-reads

@@ -6,7 +6,7 @@ use Rattle.parsing_rests.proofs.resting.note_rest.Lts as lts
 use Rattle.node_tables.proofs.kind_of.Reads as kind-of-reads
 use Rattle.node_tables.proofs.node_at.Reads as node-at-reads
 use Rattle.node_tables.proofs.put_node.Reads as put-node-reads
-use Rattle.parsing_rests.proofs.rests.rest_row.Reads as rest-row-reads
+use Rattle.rest_rows.proofs.rest_row.Reads as rest-row-reads
 use Rattle.parsing_steps.proofs.settling.grown_row.Reads as grown-row-reads
 use native.Mathlib.Omega.{arith}
 use borrow.Author.Tests.{eq-eqb, ne-eqb}

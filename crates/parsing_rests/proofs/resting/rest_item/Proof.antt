@@ -6,7 +6,7 @@ use Rattle.parsing_rests.proofs.resting.rest_item.Lts as lts
 use Rattle.node_tables.proofs.kind_of.Reads as kind-of-reads
 use Rattle.node_tables.proofs.node_at.Reads as node-at-reads
 use Rattle.node_tables.proofs.put_node.Reads as put-node-reads
-use Rattle.parsing_rests.proofs.rests.rested_row.Reads as rested-row-reads
+use Rattle.rest_rows.proofs.rested_row.Reads as rested-row-reads
 use Rattle.parsing_steps.proofs.ending.closes_list.Reads as closes-list-reads
 use Rattle.parsing_steps.proofs.ending.going_on.Reads as going-on-reads
 use Rattle.parsing_steps.proofs.settling.shut.Reads as shut-reads

@@ -5,7 +5,7 @@ use Rattle.parsing_rests.proofs.resting.rest_read.Reads as reads
 use Rattle.parsing_rests.proofs.resting.rest_read.Lts as lts
 use Rattle.node_tables.proofs.node_at.Reads as node-at-reads
 use Rattle.parsing_rests.proofs.resting.rest_in.Reads as rest-in-reads
-use Rattle.parsing_rests.proofs.rests.rest_fits.Reads as rest-fits-reads
+use Rattle.rest_rows.proofs.rest_fits.Reads as rest-fits-reads
 use mathlib.Core.Path.{refl}
 use native.Mathlib.Omega.{arith}
 use borrow.Author.Tests.{eq-eqb, ne-eqb}
