@@ -1,4 +1,4 @@
-"""What reads the texts that are judged: the program that replays stored records, or samples/reading.py."""
+"""What reads the texts that are judged: the program that replays stored calls on texts, or samples/reading.py."""
 import subprocess
 
 from reading import read

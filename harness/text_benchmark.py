@@ -1,9 +1,10 @@
 #!/usr/bin/env python3
 """text_benchmark.py REPLAY: what reading a pattern's text takes, and what rustc's own parse of it takes, in one run.
 
-REPLAY is the program that replays stored records. Texts that are taken are read by it, with types and names and to the image's bytes in
-hexadecimal, and matched by rustc as `$p:pat` in edition 2021; of each side's time with so many texts, its time with none is taken away, so
-that neither starting nor the file's frame counts. The least of several runs, which take turns. A row for docs/BENCHMARK.md is printed."""
+REPLAY is the program `replay_texts`, which replays stored calls on texts. Texts that are taken are read by it, with types and names and to
+the image's bytes in hexadecimal, and matched by rustc as `$p:pat` in edition 2021; of each side's time with so many texts, its time with
+none is taken away, so that neither starting nor the file's frame counts. The least of several runs, which take turns. A row for
+docs/BENCHMARK.md is printed."""
 import random
 import subprocess
 import sys

@@ -1,12 +1,12 @@
 #!/usr/bin/env python3
 """texts.py [few|quick|full] [SEED] [REPLAY]: rustc and samples/reading.py as the judges of pattern texts.
 
-REPLAY is the program that replays stored records: its answers are judged, or without it those of samples/reading.py. First the grammar:
-texts made by the grammar, damaged ones and the corners are matched as `$p:pat` in edition 2021. What is taken rustc must take, and what is
-refused with 19 rustc must refuse, but for the forms of LEFT_OUT. Then types: texts over the sample classes stand in match arms over their
-declarations. rustc must accept those whose image fits, with the bindings' types that the image has, and no others, but for the sorts of
-PARTED. The program's image and its refusals must be those of samples/reading.py, byte for byte. A difference is printed and fails the
-run."""
+REPLAY is the program `replay_texts`, which replays stored calls on texts: its answers are judged, or without it those of
+samples/reading.py. First the grammar: texts made by the grammar, damaged ones and the corners are matched as `$p:pat` in edition 2021. What
+is taken rustc must take, and what is refused with 19 rustc must refuse, but for the forms of LEFT_OUT. Then types: texts over the sample
+classes stand in match arms over their declarations. rustc must accept those whose image fits, with the bindings' types that the image has,
+and no others, but for the sorts of PARTED. The program's image and its refusals must be those of samples/reading.py, byte for byte. A
+difference is printed and fails the run."""
 import json
 import random
 import re

@@ -206,7 +206,7 @@ CHANGES = (
     ("a range of any flag but 0 is half-open", "pattern_ranges/src/lib.rt",
      "    if half_open == 1 {",
      "    if half_open != 0 {"),
-    ("gt printed as ge", "listing_text/src/statements.rt",
+    ("gt printed as ge", "listing_statements/src/lib.rt",
      '12 => put_binary(out, pen, b"gt ", row),',
      '12 => put_binary(out, pen, b"ge ", row),'),
     ("suffix items reversed beyond Check", "pattern_walk/src/adt.rt",

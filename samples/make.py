@@ -36,10 +36,11 @@ bytes, or the refusal.
 {samples}
 ## The stored lists
 
-The program `replay` replays them all: `crates/replay/stdin` has the records, one behind
-the other, and `crates/replay/stdout` what is printed for them. A record is a byte, its
-sort; four big-endian bytes n, four big-endian bytes z, and n bytes, the image being these
-n bytes and z zero bytes; and what its sort has besides:
+Two programs replay them, `replay_texts` the calls on texts and `replay` all others:
+`crates/replay/stdin` and `crates/replay_texts/stdin` have the records, one behind the other,
+and `stdout` beside them what is printed for them. A record is a byte, its sort; four
+big-endian bytes n, four big-endian bytes z, and n bytes, the image being these n bytes and
+z zero bytes; and what its sort has besides:
 
 | sort | record | printed |
 |---|---|---|
@@ -233,16 +234,18 @@ def image_records():
 
 
 def replay_files():
-    """What `crates/replay` is run on and prints, and the names of its records."""
+    """What `crates/replay` and `crates/replay_texts` are run on and print, and the names of their records."""
     given, printed, listed = image_records()
     files = {"samples/list.txt": listed.encode()}
     for name, (more, lines, text) in (("calls", call_records(len(printed))), ("listings", listing_records()),
-                                      ("params", params_records()), ("fits", fit_records()),
-                                      ("readings", text_records())):
+                                      ("params", params_records()), ("fits", fit_records())):
         given, printed = given + more, printed + lines
         files[f"samples/{name}.txt"] = text.encode()
-    files["crates/replay/stdin"] = b"".join(given)
-    files["crates/replay/stdout"] = "".join(printed).encode()
+    texts, answers, text = text_records()
+    files["samples/readings.txt"] = text.encode()
+    for program, records, lines in (("replay", given, printed), ("replay_texts", texts, answers)):
+        files[f"crates/{program}/stdin"] = b"".join(records)
+        files[f"crates/{program}/stdout"] = "".join(lines).encode()
     return files
 
 

@@ -1,4 +1,4 @@
-"""A record of the stored lists that `crates/replay` replays.
+"""A record of the stored lists that `crates/replay` and `crates/replay_texts` replay.
 
 A byte, the record's sort; four big-endian bytes n, four big-endian bytes z, and n bytes: the
 image is these n bytes and z zero bytes. Behind it stands what the sort has besides.

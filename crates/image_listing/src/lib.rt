@@ -69,9 +69,9 @@ pub fn put_image(
     ensures { λ r. ⌜ Wrote (now (out .entry)) pen (imageText (now (image .entry))) r (now (out .exit)) ⌝ }
 {
     match read_image(image) {
-        Read::Refused => put_refusal(out, pen, 1, 65535, 0),
+        Read::Refused => put_refusal(out, pen, 1, PatId(65535), 0),
         Read::Image(tables) => match start_type(image, tables) {
-            StartType::None => put_refusal(out, pen, 2, 65535, 0),
+            StartType::None => put_refusal(out, pen, 2, PatId(65535), 0),
             StartType::Some(t) => put_lowered(image, tables, t, body, visits, out, pen),
         },
     }

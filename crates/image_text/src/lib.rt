@@ -57,7 +57,7 @@ pub fn reason_of(e: MirLowerError) -> u16
 fn put_refused(out: &mut [u8], pen: Pen, e: MirLowerError, p: PatId) -> Pen
     ensures { λ r. ⌜ Wrote (now (out .entry)) pen (refusalText (refusalAt e (p .0))) r (now (out .exit)) ⌝ }
 {
-    put_refusal(out, pen, number_of(e), p.0, reason_of(e))
+    put_refusal(out, pen, number_of(e), p, reason_of(e))
 }
 
 // The listing of the body after a call that was accepted, or the refusal.
@@ -68,7 +68,7 @@ pub fn put_answer(out: &mut [u8], pen: Pen, body: &[u16], answer: MatchCall) -> 
     match answer {
         MatchCall::Matched(c, then, els) => put_listing(out, pen, body, c, then, els),
         MatchCall::Refused(e, p) => put_refused(out, pen, e, p),
-        MatchCall::BadCall => put_refusal(out, pen, 2, 65535, 0),
-        MatchCall::BadImage => put_refusal(out, pen, 1, 65535, 0),
+        MatchCall::BadCall => put_refusal(out, pen, 2, PatId(65535), 0),
+        MatchCall::BadImage => put_refusal(out, pen, 1, PatId(65535), 0),
     }
 }

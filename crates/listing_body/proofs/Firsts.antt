@@ -10,7 +10,7 @@ use Rattle.views.specs.Views.{Line}
 use Rattle.block_records.specs.declared.Block.{Block}
 use Rattle.block_records.specs.Records.{blank, terminatorIn}
 use Rattle.listing_text.specs.Listing.{blockText}
-use Rattle.listing_text.proofs.Texts.{blocksFrom, blocks-more, blocks-end}
+use Rattle.listing_places.proofs.Texts.{blocksFrom, blocks-more, blocks-end}
 
 -- the terminators of the first n records
 abbrev pub firsts : List Block → ℕ → List Terminator

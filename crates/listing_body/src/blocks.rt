@@ -1,12 +1,12 @@
 // Blocks, each with its statements and its terminator.
 use block_records::Block;
 use block_records::terminator_of;
+use listing_statements::put_statement;
 use listing_text::numbers::put_hex_halves;
 use listing_text::numbers::put_line;
 use listing_text::numbers::put_numbered;
 use listing_text::pen::Pen;
 use listing_text::pen::put;
-use listing_text::statements::put_statement;
 use mir::BasicBlockId;
 use mir::Counts;
 use mir::blocks::Terminator;
@@ -18,7 +18,7 @@ ghost use lib.ListN.{length, take};
 ghost use Rattle.mir.specs.declared.blocks.Terminator.{Terminator};
 ghost use Rattle.block_records.specs.Records.{terminatorIn};
 ghost use Rattle.listing_text.specs.Listing.{terminatorText, linesText, blockText, blocksText};
-ghost use Rattle.listing_text.specs.RowParts.{linesOf};
+ghost use Rattle.listing_places.specs.RowParts.{linesOf};
 ghost use Rattle.listing_text.specs.Writing.{Wrote};
 
 // A switch, by the numbers that it has.

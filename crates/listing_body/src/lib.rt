@@ -6,7 +6,7 @@ use blocks::put_blocks;
 use body_tables::LOCALS;
 use body_tables::SCOPES;
 use body_tables::STATEMENTS;
-use listing_text::locals::put_locals;
+use listing_places::locals::put_locals;
 use listing_text::numbers::put_decimal;
 use listing_text::numbers::put_numbered;
 use listing_text::pen::Pen;

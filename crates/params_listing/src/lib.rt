@@ -1,5 +1,6 @@
 // What is printed for a call on parameters, written into a lent buffer.
 use body_tables::BODY_WORDS;
+use image::PatId;
 use image::Tables;
 use listing_text::pen::Pen;
 use listing_text::put_refusal;
@@ -102,10 +103,10 @@ fn put_params(
     ensures { λ r. ⌜ Wrote (now (out .entry)) pen (paramsText (now (image .entry)) (now (words .entry))) r (now (out .exit)) ⌝ }
 {
     let Read::Image(tables) = read_image(image) else {
-        return put_refusal(out, pen, 1, 65535, 0);
+        return put_refusal(out, pen, 1, PatId(65535), 0);
     };
     if words.len() < 4 {
-        return put_refusal(out, pen, 2, 65535, 0);
+        return put_refusal(out, pen, 2, PatId(65535), 0);
     }
     let call = call_words(words);
     let receiver = call.receiver;

@@ -1,5 +1,6 @@
 // The text of what a call of `lower_params_and_bindings` answers.
 use body_tables::ENTRIES;
+use image::PatId;
 use image_text::number_of;
 use image_text::reason_of;
 use listing_body::put_listing;
@@ -101,8 +102,8 @@ pub fn put_params_answer(
             let end = ENTRIES + (c.entries as usize);
             put_lines(out, listed, first, many, bindings, &body[ENTRIES..end])
         }
-        ParamsCall::Refused(e, p) => put_refusal(out, pen, number_of(e), p.0, reason_of(e)),
-        ParamsCall::BadCall => put_refusal(out, pen, 2, 65535, 0),
-        ParamsCall::BadImage => put_refusal(out, pen, 1, 65535, 0),
+        ParamsCall::Refused(e, p) => put_refusal(out, pen, number_of(e), p, reason_of(e)),
+        ParamsCall::BadCall => put_refusal(out, pen, 2, PatId(65535), 0),
+        ParamsCall::BadImage => put_refusal(out, pen, 1, PatId(65535), 0),
     }
 }

@@ -1,11 +1,12 @@
 // Replays the stored lists from standard input: for each record, what it has to say is printed. The sorts of records: 1 an image (its counts), 2 an image (its listing),
-// 3 a script of calls on a body and on patterns, 4 a call on parameters, 5 a question whether a pattern fits, 6 a call on a text.
+// 3 a script of calls on a body and on patterns, 4 a call on parameters, 5 a question whether a pattern fits. Those of the sort 6, calls on texts, are `replay_texts`'s.
+mod listings; // listings.rt: listings, and calls on parameters
+
 use image_report::report;
-use listing_report::print_listing;
+use listings::print_listing;
+use listings::replay_params;
 use replay_fit::replay_fit;
 use replay_matches::replay_script;
-use replay_params::replay_params;
-use replay_readings::replay_reading;
 use stored_records::Entry;
 use stored_records::next_entry;
 use stored_records::next_sort;
@@ -27,7 +28,6 @@ fn replay_record(sort: u8, image: &[u8], out: &mut [u8; 524288]) -> bool {
         }
         4 => replay_params(image, out),
         5 => replay_fit(image),
-        6 => replay_reading(image),
         _ => false,
     }
 }

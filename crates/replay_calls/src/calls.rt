@@ -1,8 +1,4 @@
 // Each call, on the body of a script: it prints the answer, and answers the counts behind it.
-use super::answers::print_drop;
-use super::answers::print_merge;
-use super::answers::print_scope;
-use super::answers::print_temp;
 use body_drop_until_scope_call::drop_until_scope;
 use body_merge_blocks_call::merge_blocks;
 use body_pop_and_drop_call::pop_and_drop;
@@ -13,14 +9,10 @@ use body_temp_call::temp;
 use lower_spec::merging::OptBlock;
 use mir::BasicBlockId;
 use mir::Counts;
-
-// A block's number; 65535 is none.
-pub fn opt_block(word: u16) -> OptBlock {
-    if word == 65535 {
-        return OptBlock::None;
-    }
-    OptBlock::Some(BasicBlockId(word))
-}
+use replay_answers::print_drop;
+use replay_answers::print_merge;
+use replay_answers::print_scope;
+use replay_answers::print_temp;
 
 pub fn call_temp(
     image: &[u8],

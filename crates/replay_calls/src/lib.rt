@@ -1,4 +1,3 @@
 // The calls on a body and its scopes that a stored script makes, and the line that each prints.
-pub mod answers; // answers.rt: what is printed of an answer
-pub mod calls; // calls.rt: each call
+mod calls; // calls.rt: each call
 pub mod commands; // commands.rt: a command, and the line that it prints

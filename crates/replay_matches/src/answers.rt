@@ -1,12 +1,13 @@
 // What is printed of the answer to a call on a pattern: then and else, or why it was refused.
+use image::PatId;
 use libc::STDOUT_FILENO;
 use lower_spec::merging::OptBlock;
 use mir::BasicBlockId;
 use mir::Counts;
 use pattern_calls_spec::MatchCall;
-use replay_calls::answers::print_error;
-use replay_calls::answers::print_number;
-use replay_calls::answers::print_refusal;
+use replay_answers::print_error;
+use replay_answers::print_number;
+use replay_answers::print_refusal;
 
 fn print_else(els: OptBlock) {
     match els {
@@ -33,9 +34,9 @@ pub fn print_match(answer: MatchCall, before: Counts) -> Counts {
             print_then(then, els);
             return counts;
         }
-        MatchCall::Refused(e, p) => print_error(e, p.0),
-        MatchCall::BadCall => print_refusal(2, 65535, 0),
-        MatchCall::BadImage => print_refusal(1, 65535, 0),
+        MatchCall::Refused(e, p) => print_error(e, p),
+        MatchCall::BadCall => print_refusal(2, PatId(65535), 0),
+        MatchCall::BadImage => print_refusal(1, PatId(65535), 0),
     }
     before
 }

@@ -1,5 +1,4 @@
 // A command of a script on patterns: a call, which prints a line, or a word that is handed in.
-use super::call_words::binding_words;
 use super::matches::call_assignment;
 use super::matches::call_match;
 use super::matches::call_self;
@@ -10,14 +9,15 @@ use mir::BasicBlockId;
 use mir::Counts;
 use pattern_entering::VISIT_WORDS;
 use place::LocalId;
-use replay_calls::answers::end_line;
-use replay_calls::answers::print_counts;
-use replay_calls::answers::print_sum;
-use replay_calls::answers::print_sums;
-use replay_calls::calls::opt_block;
-use replay_calls::commands::Command;
-use replay_calls::commands::poke;
+use replay_answers::end_line;
+use replay_answers::print_counts;
+use replay_answers::print_sum;
+use replay_answers::print_sums;
 use replay_calls::commands::run;
+use replay_commands::Command;
+use replay_commands::call_words::binding_words;
+use replay_commands::opt_block;
+use replay_commands::words::poke;
 
 // A call, which prints its answer, and the counts behind it: 7 pattern_match (pattern a, block b, else c or 65535), 8 pattern_match_assignment (pattern a, block b),
 // 9 match_self_param (binding a, block b, local c).

@@ -1,6 +1,5 @@
 // Each call on a pattern, on the body of a script: it prints the answer, and answers the counts behind it.
 use super::answers::print_match;
-use super::call_words::place_of;
 use body_tables::BODY_WORDS;
 use image::BindingId;
 use image::PatId;
@@ -11,6 +10,7 @@ use pattern_assignment_call::pattern_match_assignment;
 use pattern_entering::VISIT_WORDS;
 use pattern_match_call::pattern_match;
 use place::LocalId;
+use replay_commands::call_words::place_of;
 use self_param_call::match_self_param;
 
 pub fn call_match(

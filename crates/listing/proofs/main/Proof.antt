@@ -3,7 +3,7 @@ use Rattle.listing.proofs.main.Statement.{statement}
 use Rattle.listing.proofs.main.Tie as tie
 use Rattle.listing.proofs.main.Reads as reads
 use Rattle.listing.proofs.main.Lts as lts
-use Rattle.listing_report.proofs.print_listing.Reads as print-listing-reads
+use Rattle.listing.proofs.print_listing.Reads as print-listing-reads
 use Rattle.program_io.proofs.read_input.Reads as read-input-reads
 use native.Mathlib.Omega.{arith}
 use mathlib.Core.Path.{sym}

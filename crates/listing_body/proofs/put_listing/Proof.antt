@@ -6,7 +6,7 @@ use Rattle.listing_body.proofs.put_listing.Lts as lts
 use Rattle.block_records.proofs.records_of.Reads as records-of-reads
 use Rattle.listing_body.proofs.blocks.put_blocks.Reads as put-blocks-reads
 use Rattle.listing_body.proofs.put_else.Reads as put-else-reads
-use Rattle.listing_text.proofs.locals.put_locals.Reads as put-locals-reads
+use Rattle.listing_places.proofs.locals.put_locals.Reads as put-locals-reads
 use Rattle.listing_text.proofs.numbers.put_numbered.Reads as put-numbered-reads
 use Rattle.listing_text.proofs.pen.put.Reads as put-reads
 use native.Mathlib.Omega.{arith}

@@ -12,7 +12,7 @@ use Rattle.listing_text.proofs.Pieces.{two-then}
 
 returns : tie.Need-returns
 unfolding refusalText refusedWord space
-returns c = two-then refusedWord (decimal (c .before .before .before .before .before .before .before .before .before .before .before .before .before .before .before .before .args .number)) (c .before .before .before .before .before .before .before .before .before .before .before .before .put-numbered .ensures) (two-then space (decimal (c .before .before .before .before .before .before .before .before .before .before .before .before .before .before .before .before .args .pattern)) (c .before .before .before .before .before .before .before .put-numbered2 .ensures) (c .before .before .put-line .ensures))
+returns c = two-then refusedWord (decimal (c .before .before .before .before .before .before .before .before .before .before .before .before .before .before .before .before .args .number)) (c .before .before .before .before .before .before .before .before .before .before .before .before .put-numbered .ensures) (two-then space (decimal (c .before .before .before .before .before .before .before .before .before .before .before .before .before .before .before .before .args .pattern .0)) (c .before .before .before .before .before .before .before .put-numbered2 .ensures) (c .before .before .put-line .ensures))
 
 pub put-refusal-spec : {M : Type 1} → statement M
 put-refusal-spec =

@@ -5,8 +5,8 @@ use Rattle.read_pattern.proofs.answer.Reads as reads
 use Rattle.read_pattern.proofs.answer.Lts as lts
 use Rattle.read_pattern.proofs.write_first.Reads as write-first-reads
 use Rattle.reading_input.proofs.parts_of.Reads as parts-of-reads
-use Rattle.reading_report.proofs.print_refusal.Reads as print-refusal-reads
-use Rattle.reading_report.proofs.read_text.Reads as read-text-reads
+use Rattle.reading_lines.proofs.print_refusal.Reads as print-refusal-reads
+use Rattle.read_pattern.proofs.read_text.Reads as read-text-reads
 use native.Mathlib.Omega.{arith}
 use mathlib.Core.Path.{sym}
 use lib.Seq.{length-take-le}

@@ -3,7 +3,7 @@ use Rattle.replay_matches.proofs.script.Tie as tie
 use Rattle.replay_matches.proofs.script.Reads as reads
 use Rattle.replay_matches.proofs.script.Lts as lts
 use Rattle.replay_matches.proofs.commands.run_command.Reads as run-command-reads
-use Rattle.replay_matches.proofs.next_command.Reads as next-command-reads
+use Rattle.replay_commands.proofs.next_command.Reads as next-command-reads
 use Rattle.stored_records.proofs.next_number.Reads as next-number-reads
 use borrow.Author.Needs.{needs}
 

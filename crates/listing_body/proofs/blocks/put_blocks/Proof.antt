@@ -9,7 +9,7 @@ use borrow.Author.Needs.{needs}
 use Prim.Native.Nat.{_-_}
 use mathlib.Core.Path.{refl}
 use native.Mathlib.Omega.{arith}
-use Rattle.listing_text.specs.RowParts.{linesOf}
+use Rattle.listing_places.specs.RowParts.{linesOf}
 use Rattle.listing_text.proofs.Pieces.{and-then}
 use Rattle.listing_text.proofs.Loops.{Going, going-start, going-more, going-end}
 use Rattle.listing_body.proofs.Firsts.{recordsFrom, records-more, records-end}

@@ -8,8 +8,8 @@ use mathlib.Core.Path.{refl}
 use native.Mathlib.Omega.{arith}
 use Rattle.listing_text.proofs.Pieces.{and-then}
 use Rattle.listing_text.proofs.Loops.{Going, going-start, going-more, going-on, going-end}
-use Rattle.listing_text.proofs.Readings.{row-part, part-length}
-use Rattle.listing_text.proofs.Texts.{linesFrom, line-here, line-elsewhere, lines-end}
+use Rattle.listing_places.proofs.Readings.{row-part, part-length}
+use Rattle.listing_places.proofs.Texts.{linesFrom, line-here, line-elsewhere, lines-end}
 
 abbrev Inv-loop : tie.InvT-loop
 Inv-loop out₀ statements count block written₀ i₀ out written i = Going out₀ written₀ (linesFrom statements count (block .0) 0) (linesFrom statements count (block .0) i) written out

@@ -2,7 +2,7 @@ use Rattle.replay_matches.proofs.commands.call_with.Statement.{statemen
 use Rattle.replay_matches.proofs.commands.call_with.Tie as tie
 use Rattle.replay_matches.proofs.commands.call_with.Reads as reads
 use Rattle.replay_matches.proofs.commands.call_with.Lts as lts
-use Rattle.replay_matches.proofs.call_words.binding_words.Reads as binding-words-reads
+use Rattle.replay_commands.proofs.call_words.binding_words.Reads as binding-words-reads
 use Rattle.replay_matches.proofs.commands.call.Reads as call-reads
 use borrow.Author.Needs.{needs}
 use mathlib.Core.Path.{sym}
