@@ -47,9 +47,9 @@ REFUSED = (
     "listing_start/type_zero_not_tried",
     "literals/integer_of_any_size",
     "literals/lower_half_twice",
-    "body_lowering/str_for_slice",
-    "body_lowering/an_earlier_local_used_again",
-    "body_lowering/live_in_the_next_block",
+    "body_temps/str_for_slice",
+    "body_temps/an_earlier_local_used_again",
+    "body_live_marks/live_in_the_next_block",
     "mir/next_block_terminated",
     "read_image/one_pattern_more",
     "marks/second_use",
@@ -63,7 +63,7 @@ REFUSED_OF_PARAMETERS = (
     "param_lists/annotation_2_binds_self_again",
     "param_lists/a_subpattern_binds_self_again",
     "param_entries/local_missing_from_its_scope",
-    "param_steps/else_left_open",
+    "param_shutting/else_left_open",
     "params_text/bindings_and_entries_exchanged",
     "params_start/a_scope_where_none_is_asked",
     "params_start/scope_by_the_word_of_self",
@@ -80,8 +80,8 @@ REFUSED_OF_MATCHES = (
 )
 
 # Where it is looked whether a scope holds a local: a file and its text.
-HELD = "body_lowering/src/temps.rt", "    let held = is_held(body, counts, l);\n"
-LOOKED_AT = "body_lowering/src/temps.rt", "        if entries[i] == l.0 {\n"
+HELD = "body_live_marks/src/lib.rt", "    let held = is_held(body, counts, l);\n"
+LOOKED_AT = "body_locals/src/lib.rt", "        if entries[i] == l.0 {\n"
 
 # What a call on a pattern answers where the walk is done.
 MATCHED = "        Lowered::Done(c, then, other) => MatchCall::Matched(c, then, other),\n"
@@ -112,20 +112,20 @@ OF_MATCHES = (
     ("the last entry alone is looked at", *LOOKED_AT, "        if entries[i] == l.0 && i + 1 == count {\n"),
     ("the first entry alone is looked at", *LOOKED_AT, "        if entries[i] == l.0 && i == 0 {\n"),
     ("the last entry is not looked at", *LOOKED_AT, "        if entries[i] == l.0 && i + 1 != count {\n"),
-    ("entries above the count are looked at", "body_lowering/src/temps.rt",
+    ("entries above the count are looked at", "body_locals/src/lib.rt",
      "    while i < count && i < entries.len() {\n", "    while i <= count && i < entries.len() {\n"),
-    ("no live mark of a held local", "body_lowering/src/temps.rt",
+    ("no live mark of a held local", "body_live_marks/src/lib.rt",
      "    let Counted::Now(c2) = push_live(body, c1, block, l) else {\n",
      "    let live = if held { Counted::Now(c1) } else { push_live(body, c1, block, l) };\n"
      "    let Counted::Now(c2) = live else {\n"),
-    ("a full table of entries refuses a held local", "body_lowering/src/temps.rt",
+    ("a full table of entries refuses a held local", "body_live_marks/src/lib.rt",
      "    if held {\n", "    if held && counts.entries < 1024 {\n"),
-    ("a temporary is not recorded", "body_lowering/src/temps.rt",
+    ("a temporary is not recorded", "body_temps/src/lib.rt",
      "mark_live(body, c1, l, block, false)", "mark_live(body, c1, l, block, true)"),
 )
 
 # Where the local of a test of an enum is made: a file and its text.
-TEST_LOCAL = "body_lowering/src/temps.rt", "    temp(image, tables, body, counts, I128, block)\n"
+TEST_LOCAL = "body_temps/src/lib.rt", "    temp(image, tables, body, counts, I128, block)\n"
 
 # Further changes: a name, the file below crates/, the text, and what it becomes.
 CHANGES = (
@@ -141,7 +141,7 @@ CHANGES = (
     ("no live mark of a binding's local", "pattern_parts/src/bindings.rt",
      "        BoundLocal::Local(l) => match push_storage_live_for_local(body, counts, l, current) {\n",
      "        BoundLocal::Local(l) => match Stepped::Now(counts) {\n"),
-    ("no live mark of a temporary", "body_lowering/src/temps.rt",
+    ("no live mark of a temporary", "body_temps/src/lib.rt",
      "    match mark_live(body, c1, l, block, false) {\n",
      "    match Stepped::Now(c1) {\n"),
     ("fields in another order", "pattern_rows/src/lib.rt",

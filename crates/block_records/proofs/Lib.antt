@@ -1,10 +1,1 @@
 pub mod Reading
-pub mod Looking
-pub mod Filling
-pub mod Through
-pub mod Numbers
-pub mod Bodies
-pub mod Samples
-pub mod Row
-pub mod Local
-pub mod Given

@@ -6,7 +6,7 @@ use Rattle.state.specs.State.{Body, State}
 use Rattle.drop_scopes_spec.specs.declared.AtBlock.{AtBlock}
 use Rattle.drop_scopes_spec.specs.Dropping.{At}
 use Rattle.drop_scopes_spec.specs.Promises.{Pops}
-use Rattle.body_scopes.specs.Promises.{Leaves}
+use Rattle.body_leaving.specs.Promises.{Leaves}
 
 pub stays-open : {defined : State → Result At} {c : Counts} {block : BasicBlockId} {b b₂ : Body} (r : AtBlock) → Leaves defined c block b r b₂ → Pops defined c block b r b₂
 stays-open (AtBlock.At c′ k) D = record { says = λ R. D .answers R .says; goes = λ R. D .answers R .goes .0; kept = λ R refusal. D .answers R .kept }

@@ -12,7 +12,7 @@ use Rattle.body_calls_spec.specs.declared.MergeCall.{MergeCall}
 use Rattle.body_calls_spec.specs.Calls.{stepped}
 use Rattle.body_calls_spec.specs.Sizes.{Sized}
 use Rattle.body_calls_spec.proofs.Clearing.{Cleared, counted}
-use Rattle.body_lowering.specs.Promises.{Merges}
+use Rattle.body_merging.specs.Promises.{Merges}
 use Rattle.body_calls_spec.specs.Promises.{Gives}
 use Rattle.body_calls_spec.specs.Ways.{mergeWay}
 use Rattle.body_opening.proofs.Replying.{accepted, not-accepted}

@@ -24,7 +24,7 @@ fn merge_step(body: &mut [u16; BODY_WORDS], counts: Counts, x: OptBlock, y: OptB
     ensures { λ r. ⌜ Gives (mergeWay x y) (bodyOf (now (body .entry))) counts (stepped (mergeBlocks (decode (bodyOf (now (body .entry))) counts) x y)) r (bodyOf (now (body .exit))) ⌝ }
 {
     clear_above(body, counts);
-    match body_lowering::merging::merge_blocks(body, counts, x, y) {
+    match body_merging::merge_blocks(body, counts, x, y) {
         Merged::At(c1, b) => MergeCall::At(c1, b),
         Merged::Refused(e) => MergeCall::Refused(e),
     }

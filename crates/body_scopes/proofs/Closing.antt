@@ -28,9 +28,10 @@ use Rattle.drop_scopes_spec.specs.declared.AtBlock.{AtBlock}
 use Rattle.drop_scopes_spec.specs.Dropping.{At, leaveAll, lastFirst, entriesFrom, dropUntilScope, popAndDrop, popAssumeDropped}
 use Rattle.drop_scopes_spec.specs.Promises.{ScopesNamed, Pops}
 use Rattle.body_tables.specs.Layout.{blockWidth, statementWidth, withScopes, withEntries}
-use Rattle.body_scopes.specs.Promises.{Beside, Leaves, Closed, Closes}
+use Rattle.body_leaving.specs.Promises.{Beside, Leaves}
+use Rattle.body_scopes.specs.Promises.{Closed, Closes}
 use Rattle.body_scopes.proofs.Emptying.{blank-last, blank-emptied}
-use Rattle.body_scopes.proofs.Departing.{beside-refl}
+use Rattle.body_leaving.proofs.Departing.{beside-refl}
 
 -- a word that a table has, whatever stands for one that it has not
 any-default : (t : List ℕ) (i d d′ : ℕ) → i < length t → getD t i d ≡ getD t i d′

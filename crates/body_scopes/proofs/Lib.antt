@@ -1,5 +1,3 @@
-pub mod Making
-pub mod Departing
 pub mod Emptying
 pub mod Opening
 pub mod Closing

@@ -1,6 +1,5 @@
 // Drop scopes on a body in one table: they are opened, their locals leave, and they are closed.
-pub mod leaving; // leaving.rt: locals leave, one by one
-
+use body_leaving::emit_drop_and_storage_dead_for_scope;
 use body_tables::BODY_WORDS;
 use body_tables::scopes::clear_entries;
 use body_tables::scopes::clear_scope;
@@ -8,7 +7,6 @@ use body_tables::scopes::push_scope;
 use body_tables::scopes::scope_word;
 use drop_scopes_spec::AtBlock;
 use image::Tables;
-use leaving::emit_drop_and_storage_dead_for_scope;
 use mir::BasicBlockId;
 use mir::Counts;
 use mir::scopes::Counted;
@@ -23,7 +21,8 @@ ghost use Rattle.image.specs.Tables.{Whole};
 ghost use Rattle.drop_scopes_spec.specs.Dropping.{dropUntilScope, popAndDrop};
 ghost use Rattle.drop_scopes_spec.specs.Promises.{Pops, EntriesNamed, ScopesNamed};
 ghost use Rattle.body_tables.specs.Layout.{bodyWords, bodyOf};
-ghost use Rattle.body_scopes.specs.Promises.{Leaves, Opens, Closes, Closed};
+ghost use Rattle.body_leaving.specs.Promises.{Leaves};
+ghost use Rattle.body_scopes.specs.Promises.{Opens, Closes, Closed};
 
 // A new scope, with no entry.
 pub fn push_drop_scope(body: &mut [u16; BODY_WORDS], counts: Counts) -> Stepped

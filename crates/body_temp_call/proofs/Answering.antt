@@ -15,7 +15,7 @@ use Rattle.body_calls_spec.specs.declared.TempCall.{TempCall}
 use Rattle.body_calls_spec.specs.Calls.{stepped}
 use Rattle.body_calls_spec.specs.Sizes.{Sized}
 use Rattle.body_calls_spec.proofs.Clearing.{Cleared, counted}
-use Rattle.body_lowering.specs.Promises.{Makes}
+use Rattle.body_temps.specs.Promises.{Makes}
 use Rattle.body_calls_spec.specs.Promises.{Gives}
 use Rattle.body_calls_spec.specs.Ways.{tempWay}
 use Rattle.body_opening.proofs.Replying.{accepted, not-accepted, all-below}

@@ -32,7 +32,7 @@ fn temp_step(
     ensures { λ r. ⌜ Gives tempWay (bodyOf (now (body .entry))) counts (stepped (temp (now (image .entry)) (decode (bodyOf (now (body .entry))) counts) word block)) r (bodyOf (now (body .exit))) ⌝ }
 {
     clear_above(body, counts);
-    match body_lowering::temps::temp(image, tables, body, counts, word, block) {
+    match body_temps::temp(image, tables, body, counts, word, block) {
         NewTemp::Local(c1, l) => TempCall::Local(c1, l),
         NewTemp::Refused(e) => {
             clear_above(body, counts);

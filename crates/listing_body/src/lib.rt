@@ -1,7 +1,7 @@
 // Document 01's listing of a body, written into a lent buffer.
 mod blocks; // blocks.rt: blocks, with their statements and terminators
 
-use block_records::records_of;
+use block_record_filling::records_of;
 use blocks::put_blocks;
 use body_tables::LOCALS;
 use body_tables::SCOPES;

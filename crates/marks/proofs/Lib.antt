@@ -1,6 +1,2 @@
 pub mod Takes
-pub mod Fresh
-pub mod Walk
 pub mod Shapes
-pub mod Uses
-pub mod Adts

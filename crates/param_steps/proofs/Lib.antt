@@ -1,3 +1,1 @@
-mod Telling
 mod Keeping
-pub mod Unreached

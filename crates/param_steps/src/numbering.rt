@@ -20,11 +20,11 @@ pub fn self_count(receiver: SelfParam) -> u16
 }
 
 // The local of the parameter behind one whose local is l.
-pub fn next_local(l: u16) -> u16
-    requires { ⌜ l < 512 ⌝ }
-    ensures { λ r. ⌜ r ≡ l + 1 ⌝ }
+pub fn next_local(l: LocalId) -> LocalId
+    requires { ⌜ l .0 < 512 ⌝ }
+    ensures { λ r. ⌜ r ≡ record { 0 = l .0 + 1 } ⌝ }
 {
-    l + 1
+    LocalId(l.0 + 1)
 }
 
 // The answer of a call whose parameters are lowered: the first parameter's local, self's or not, is the next one when the call comes, the counts being `before` then.

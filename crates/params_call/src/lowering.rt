@@ -6,11 +6,11 @@ use lower_spec::merging::OptBlock;
 use mir::BasicBlockId;
 use mir::Counts;
 use param_locals::declaring::declare;
+use param_owning::Owned;
+use param_owning::param_owned;
+use param_shutting::shut;
 use param_steps::numbering::next_local;
 use param_steps::numbering::self_count;
-use param_steps::owning::Owned;
-use param_steps::owning::param_owned;
-use param_steps::shutting::shut;
 use params_spec::SelfParam;
 use pattern_entering::VISIT_WORDS;
 use pattern_passes::check_and_bind;
@@ -110,7 +110,7 @@ fn lower_params(
                 here = then;
             }
         }
-        l = LocalId(next_local(l.0));
+        l = next_local(l);
         k += 2;
         left -= 1;
     }

@@ -27,10 +27,10 @@ use Rattle.pattern_walk_laws.specs.Walk.{Walkable}
 use Rattle.params_spec.specs.Params.{shut, lowerParam, lowerParams}
 use Rattle.params_spec.specs.Calls.{paramsFrom, paramCount, paramsOf}
 use Rattle.param_lists.proofs.Listing.{params-none, params-more, Listed, list-taken, listed-behind}
-use Rattle.param_steps.specs.declared.owning.Owned.{Owned}
-use Rattle.param_steps.specs.Owning.{TellsParam}
-use Rattle.param_steps.specs.Shutting.{shutAnswer, shutBody}
-use Rattle.param_steps.proofs.Unreached.{shut-walks}
+use Rattle.param_owning.specs.declared.Owned.{Owned}
+use Rattle.param_owning.specs.Owning.{TellsParam}
+use Rattle.param_shutting.specs.Shutting.{shutAnswer, shutBody}
+use Rattle.param_shutting.proofs.Unreached.{shut-walks}
 use Rattle.params_laws.specs.Walking.{LocalsPlaced, ParamsWalkable}
 
 -- `lower_param`: the parameter p, whose local is l

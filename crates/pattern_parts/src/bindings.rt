@@ -1,7 +1,7 @@
 // What bindings are filled with.
 use body_assignments::push_assignment;
-use body_lowering::temps::binding_local;
-use body_lowering::temps::push_storage_live_for_local;
+use body_live_marks::push_storage_live_for_local;
+use body_locals::binding_local;
 use body_tables::BODY_WORDS;
 use image::BindingId;
 use image::PatId;

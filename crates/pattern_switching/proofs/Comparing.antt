@@ -30,7 +30,7 @@ use Rattle.lower_spec.specs.declared.temps.NewTemp.{NewTemp}
 use Rattle.lower_spec.specs.Temps.{temp}
 use Rattle.body_tables.specs.Layout.{blockWidth, withBlocks, withStatements}
 use Rattle.body_tables.proofs.Building.{statement-made, terminator-set}
-use Rattle.body_lowering.specs.Promises.{Makes}
+use Rattle.body_temps.specs.Promises.{Makes}
 use Rattle.pattern_matching.specs.Tests.{ifTrue}
 use Rattle.pattern_walk_spec.proofs.Following.{answers-by}
 use Rattle.pattern_switching.specs.Switching.{compareStep, Steps}

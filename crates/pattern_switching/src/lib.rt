@@ -1,8 +1,8 @@
 // The blocks of a test, and its end: a new local is what an operator makes of two operands, and the block goes on by it.
 use body_assignments::push_binary_assignment;
-use body_lowering::temps::temp;
 use body_tables::BODY_WORDS;
 use body_tables::blocks::set_terminator;
+use body_temps::temp;
 use image::PatId;
 use image::Tables;
 use lower_spec::merging::OptBlock;

@@ -34,7 +34,7 @@ use Rattle.lower_spec.specs.declared.temps.NewTemp.{NewTemp}
 use Rattle.lower_spec.specs.declared.merging.OptBlock.{OptBlock}
 use Rattle.lower_spec.specs.Temps.{temp}
 use Rattle.body_tables.specs.Layout.{withStatements}
-use Rattle.body_lowering.specs.Promises.{Makes}
+use Rattle.body_temps.specs.Promises.{Makes}
 use Rattle.pattern_matching.specs.declared.MatchingMode.{MatchingMode}
 use Rattle.pattern_matching.specs.Modes.{isCheck}
 use Rattle.pattern_matching.specs.Walking.{Ctx, Out, Walk, refused, step, out, withState}

@@ -30,7 +30,7 @@ use Rattle.lower_spec.specs.declared.merging.OptBlock.{OptBlock}
 use Rattle.lower_spec.specs.Temps.{temp}
 use Rattle.body_tables.specs.Layout.{blockWidth, withBlocks, withStatements}
 use Rattle.body_tables.proofs.Building.{terminator-set}
-use Rattle.body_lowering.specs.Promises.{Makes}
+use Rattle.body_temps.specs.Promises.{Makes}
 use Rattle.pattern_matching.specs.Walking.{Ctx, Out, Walk, localPlace}
 use Rattle.pattern_matching.specs.Slices.{lengthConstant}
 use Rattle.pattern_walk_spec.specs.declared.Lowered.{Lowered}

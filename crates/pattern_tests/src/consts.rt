@@ -1,8 +1,8 @@
 // Literals and constants.
 use body_assignments::push_binary_assignment;
 use body_assignments::push_constant_assignment;
-use body_lowering::temps::temp;
 use body_tables::BODY_WORDS;
+use body_temps::temp;
 use image::PatId;
 use image::Tables;
 use image::kinds::OperandKind;

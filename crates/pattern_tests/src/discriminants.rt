@@ -1,7 +1,7 @@
 // The variant of an enum: a new local holds the discriminant of what lies at the place.
 use body_assignments::push_assignment;
-use body_lowering::temps::discr_temp_place;
 use body_tables::BODY_WORDS;
+use body_temps::discr_temp_place;
 use image::PatId;
 use image::Tables;
 use image::rows::OperandRow;

@@ -1,8 +1,8 @@
 // The length of a slice.
 use body_assignments::push_assignment;
-use body_lowering::temps::temp;
 use body_tables::BODY_WORDS;
 use body_tables::blocks::set_terminator;
+use body_temps::temp;
 use image::PatId;
 use image::Tables;
 use lower_spec::merging::OptBlock;

@@ -1,43 +1,26 @@
 -- The ways through `read_image`, over the parts of the test. Assumes nothing.
-use Prim.Native.Nat.{ℕ, _<_}
+use Prim.Native.Nat.{ℕ}
 use mathlib.Core.Path.{_≡_, refl, sym, ap, _∙_}
-use mathlib.Core.Bool.{Bool, true, false, _&&_, true≢false, false≢true}
+use mathlib.Core.Bool.{Bool, true, false, true≢false}
 use mathlib.Core.List.{List, [], _∷_}
 use Rattle.image.specs.declared.Tables.{Tables}
-use Rattle.image.specs.Tables.{typeCount, variantCount, patternCount, bindingCount, tablesOf}
+use Rattle.image.specs.Tables.{patternCount, tablesOf}
 use Rattle.image.specs.Lists.{allBelow, allTrue}
-use Rattle.image.specs.Rules.{typeHolds, variantHolds, bindingHolds, adtsShareNoVariant}
-use Rattle.image.specs.Patterns.{patternHolds, subpatternsBelow, usedOnce}
+use Rattle.image.specs.Rules.{adtsShareNoVariant}
+use Rattle.image.specs.Patterns.{subpatternsBelow, usedOnce}
 use Rattle.image.specs.Valid.{rules, valid}
-use Rattle.image.proofs.Bools.{and-left, and-right, and-true, and-false-left, and-false-right, all-true-at, below-false}
+use Rattle.image.proofs.Bools.{and-left, and-right, and-true, all-true-at}
+use Rattle.image_tables.proofs.Walking.{types, variants, bindings, shapes, uses, patterns}
 use Rattle.read_image.specs.declared.Read.{Read}
-use Rattle.read_image.specs.Parts.{framed, rowsHold}
+use Rattle.read_image.specs.Parts.{framed}
+use Rattle.image_tables.specs.Parts.{rowsHold}
 use Rattle.read_image.specs.Read.{readOf, Reads}
 use Rattle.read_image.proofs.Frames.{frame-rules}
 
 module _ (image : List ℕ) where
   -- the rules on single rows of types, variants and bindings
-  abbrev types : Bool
-  types = allBelow (typeHolds image) (typeCount image)
-
-  abbrev variants : Bool
-  variants = allBelow (variantHolds image) (variantCount image)
-
-  abbrev bindings : Bool
-  bindings = allBelow (bindingHolds image) (bindingCount image)
-
   abbrev row-rules : List Bool
-  row-rules = types ∷ variants ∷ bindings ∷ []
-
-  -- the rules on patterns: on their rows, and on subpatterns' numbers
-  abbrev shapes : Bool
-  shapes = allBelow (patternHolds image) (patternCount image)
-
-  abbrev uses : Bool
-  uses = allBelow (subpatternsBelow image) (patternCount image) && usedOnce image
-
-  abbrev patterns : Bool
-  patterns = shapes && uses
+  row-rules = types image ∷ variants image ∷ bindings image ∷ []
 
   refused : valid image ≡ false → Reads image Read.Refused
   unfolding readOf
@@ -63,46 +46,16 @@ module _ (image : List ℕ) where
   unfolding valid
   shared-variant e = fails (adtsShareNoVariant image) (λ v. all-true-at (rules image) 5 v) e
 
-  pub no-patterns : patterns ≡ false → Reads image Read.Refused
+  pub no-patterns : patterns image ≡ false → Reads image Read.Refused
   unfolding valid
-  no-patterns e = fails patterns (λ v. and-true shapes uses (all-true-at (rules image) 6 v) (and-true (allBelow (subpatternsBelow image) (patternCount image)) (usedOnce image) (all-true-at (rules image) 8 v) (all-true-at (rules image) 9 v))) e
-
-  -- the ways through the tests of the rows
-  pub types-fail : types && variants ≡ false → false ≡ rowsHold image
-  unfolding rowsHold allTrue
-  types-fail e = go types variants bindings e
-    where
-      go : (a b c : Bool) → a && b ≡ false → false ≡ a && (b && (c && true))
-      go true true c e = absurd (true≢false e)
-      go true false c e = refl
-      go false b c e = refl
-
-  pub rows-left : types && variants ≡ true → rowsHold image ≡ bindings
-  unfolding rowsHold allTrue
-  rows-left e = go types variants bindings e
-    where
-      go : (a b c : Bool) → a && b ≡ true → a && (b && (c && true)) ≡ c
-      go true true true e = refl
-      go true true false e = refl
-      go true false c e = absurd (false≢true e)
-      go false b c e = absurd (false≢true e)
-
-  -- the ways through the walk over the patterns
-  pub shape-fails : (p : ℕ) → p < patternCount image → patternHolds image p ≡ false → false ≡ patterns
-  shape-fails p h e = sym (and-false-left shapes uses (below-false (patternHolds image) (patternCount image) p h e))
-
-  pub use-fails : false ≡ uses → false ≡ patterns
-  use-fails e = sym (and-false-right shapes uses (sym e))
-
-  pub patterns-end : (p : ℕ) → p ≡ patternCount image → allBelow (patternHolds image) p ≡ true → true ≡ uses → true ≡ patterns
-  patterns-end p same e u = sym (and-true shapes uses (rw same at e) (sym u))
+  no-patterns e = fails (patterns image) (λ v. and-true (shapes image) (uses image) (all-true-at (rules image) 6 v) (and-true (allBelow (subpatternsBelow image) (patternCount image)) (usedOnce image) (all-true-at (rules image) 8 v) (all-true-at (rules image) 9 v))) e
 
   -- what the tests of the rows have shown
-  pub types-hold : rowsHold image ≡ true → types ≡ true
+  pub types-hold : rowsHold image ≡ true → types image ≡ true
   unfolding rowsHold
   types-hold r = all-true-at row-rules 0 r
 
-  all-rules : framed image ≡ true → rowsHold image ≡ true → adtsShareNoVariant image ≡ true → patterns ≡ true → valid image ≡ true
+  all-rules : framed image ≡ true → rowsHold image ≡ true → adtsShareNoVariant image ≡ true → patterns image ≡ true → valid image ≡ true
   unfolding valid framed rowsHold allTrue
   all-rules f r a p =
       rw (
@@ -114,11 +67,11 @@ module _ (image : List ℕ) where
         all-true-at row-rules 1 r,
         all-true-at row-rules 2 r,
         a,
-        and-left shapes uses p,
-        and-left (allBelow (subpatternsBelow image) (patternCount image)) (usedOnce image) (and-right shapes uses p),
-        and-right (allBelow (subpatternsBelow image) (patternCount image)) (usedOnce image) (and-right shapes uses p),
+        and-left (shapes image) (uses image) p,
+        and-left (allBelow (subpatternsBelow image) (patternCount image)) (usedOnce image) (and-right (shapes image) (uses image) p),
+        and-right (allBelow (subpatternsBelow image) (patternCount image)) (usedOnce image) (and-right (shapes image) (uses image) p),
       )
 
-  pub read : (tables : Tables) → tables ≡ tablesOf image → framed image ≡ true → rowsHold image ≡ true → adtsShareNoVariant image ≡ true → patterns ≡ true → Reads image (Read.Image tables)
+  pub read : (tables : Tables) → tables ≡ tablesOf image → framed image ≡ true → rowsHold image ≡ true → adtsShareNoVariant image ≡ true → patterns image ≡ true → Reads image (Read.Image tables)
   unfolding readOf
   read tables same f r a p = let v = all-rules f r a p in record { answer = ap Read.Image same ∙ rw v; refusal = rw v }

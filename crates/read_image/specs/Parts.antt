@@ -5,9 +5,9 @@ use mathlib.Core.Bool.{Bool, true, cond, _&&_}
 use mathlib.Core.List.{List, [], _∷_}
 use lib.Dec.{leb}
 use lib.ListN.{length}
-use Rattle.image.specs.Tables.{typeCount, variantCount, bindingCount, tablesOf}
-use Rattle.image.specs.Lists.{allBelow, allTrue}
-use Rattle.image.specs.Rules.{countsWhatFollows, versionIsOne, tablesFillTheRest, typeHolds, variantHolds, bindingHolds, withinLimits}
+use Rattle.image.specs.Tables.{tablesOf}
+use Rattle.image.specs.Lists.{allTrue}
+use Rattle.image.specs.Rules.{countsWhatFollows, versionIsOne, tablesFillTheRest, withinLimits}
 use Rattle.read_image.specs.declared.Read.{Read}
 
 -- the six counts are within their limits
@@ -27,13 +27,3 @@ pub record Begun (image : List ℕ) : Type 0 where
 -- the tables' places, where the frame holds
 unfoldable pub frameOf : List ℕ → Read
 frameOf image = cond (framed image) (Read.Image (tablesOf image)) Read.Refused
-
--- the rules on single rows of types, variants and bindings
-unfoldable pub rowsHold : List ℕ → Bool
-rowsHold image =
-    allTrue (
-    allBelow (typeHolds image) (typeCount image)
-    ∷ allBelow (variantHolds image) (variantCount image)
-    ∷ allBelow (bindingHolds image) (bindingCount image)
-    ∷ []
-    )

@@ -1,13 +1,11 @@
 // Reads an image: every byte string is an image, whose tables' places are answered, or is refused.
 pub mod frame; // frame.rt: the bytes before the tables, and the limits
-pub mod patterns; // patterns.rt: the rows of patterns, and the numbers of their subpatterns
-pub mod tables_hold; // tables_hold.rt: the rows of types, variants and bindings
 
 use frame::read_frame;
 use image::Tables;
-use marks::adts_apart;
-use patterns::patterns_hold;
-use tables_hold::rows_hold;
+use image_marks::adts_apart;
+use image_tables::patterns::patterns_hold;
+use image_tables::tables_hold::rows_hold;
 ghost use Rattle.read_image.specs.Read.{Reads};
 
 // The places of the tables; or the image breaks a rule.

@@ -9,7 +9,7 @@ use Rattle.image.specs.Lists.{allBelow, allTrue}
 use Rattle.image.specs.Rules.{typeHolds, variantHolds, bindingHolds, adtsShareNoVariant}
 use Rattle.image.specs.Patterns.{patternHolds, subpatternsBelow, usedOnce}
 use Rattle.image.proofs.Bools.{and-left, and-right, and-true, all-true-at}
-use Rattle.read_image.specs.Parts.{rowsHold}
+use Rattle.image_tables.specs.Parts.{rowsHold}
 use Rattle.type_sheets.specs.declared.Sheet.{Sheet}
 use Rattle.type_sheets.specs.Sheets.{sheetRules, sheetHolds}
 use Rattle.type_sheets.specs.Reading.{sheetOf, sheetFramed}

@@ -4,9 +4,9 @@ mod frame; // frame.rt: the bytes before the tables, and the limits
 
 use frame::read_sheet_frame;
 use image::Tables;
-use marks::adts_apart;
-use read_image::patterns::patterns_hold;
-use read_image::tables_hold::rows_hold;
+use image_marks::adts_apart;
+use image_tables::patterns::patterns_hold;
+use image_tables::tables_hold::rows_hold;
 ghost use mathlib.Core.Path.{_≡_};
 ghost use Rattle.type_sheets.specs.Reading.{sheetOf};
 

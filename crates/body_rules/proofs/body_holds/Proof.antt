@@ -3,13 +3,13 @@ use Rattle.body_rules.proofs.body_holds.Statement.{statement}
 use Rattle.body_rules.proofs.body_holds.Tie as tie
 use Rattle.body_rules.proofs.body_holds.Reads as reads
 use Rattle.body_rules.proofs.body_holds.Lts as lts
-use Rattle.body_rules.proofs.blocks_hold.Reads as blocks-hold-reads
+use Rattle.body_table_rules.proofs.blocks_hold.Reads as blocks-hold-reads
 use Rattle.body_rules.proofs.counts_within.Reads as counts-within-reads
-use Rattle.body_rules.proofs.entries_belong.Reads as entries-belong-reads
-use Rattle.body_rules.proofs.entries_hold.Reads as entries-hold-reads
-use Rattle.body_rules.proofs.locals_hold.Reads as locals-hold-reads
-use Rattle.body_rules.proofs.scopes_hold.Reads as scopes-hold-reads
-use Rattle.body_rules.proofs.statements_hold.Reads as statements-hold-reads
+use Rattle.body_table_rules.proofs.entries_belong.Reads as entries-belong-reads
+use Rattle.body_table_rules.proofs.entries_hold.Reads as entries-hold-reads
+use Rattle.body_table_rules.proofs.locals_hold.Reads as locals-hold-reads
+use Rattle.body_table_rules.proofs.scopes_hold.Reads as scopes-hold-reads
+use Rattle.body_table_rules.proofs.statements_hold.Reads as statements-hold-reads
 use mathlib.Core.Path.{sym, _∙_}
 use mathlib.Core.Bool.{and-true}
 use native.Mathlib.Omega.{arith}

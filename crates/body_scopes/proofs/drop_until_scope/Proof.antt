@@ -3,7 +3,7 @@ use Rattle.body_scopes.proofs.drop_until_scope.Statement.{statement}
 use Rattle.body_scopes.proofs.drop_until_scope.Tie as tie
 use Rattle.body_scopes.proofs.drop_until_scope.Reads as reads
 use Rattle.body_scopes.proofs.drop_until_scope.Lts as lts
-use Rattle.body_scopes.proofs.leaving.emit_drop_and_storage_dead_for_scope.Reads as emit-drop-and-storage-dead-for-scope-reads
+use Rattle.body_leaving.proofs.emit_drop_and_storage_dead_for_scope.Reads as emit-drop-and-storage-dead-for-scope-reads
 use Rattle.body_scopes.proofs.scope_start.Reads as scope-start-reads
 use native.Mathlib.Omega.{arith}
 use native.Mathlib.Nat.{le-refl}

@@ -4,7 +4,7 @@ use Rattle.pattern_switching.proofs.compare.Tie as tie
 use Rattle.pattern_switching.proofs.compare.Reads as reads
 use Rattle.pattern_switching.proofs.compare.Lts as lts
 use Rattle.body_assignments.proofs.push_binary_assignment.Reads as push-binary-assignment-reads
-use Rattle.body_lowering.proofs.temps.temp.Reads as temp-reads
+use Rattle.body_temps.proofs.temp.Reads as temp-reads
 use Rattle.body_tables.proofs.blocks.set_terminator.Reads as set-terminator-reads
 use mathlib.Core.Path.{sym, _∙_}
 use Rattle.pattern_switching.proofs.Comparing.{compare-no-temp, compare-full, compare-ends}

@@ -3,10 +3,10 @@ use Rattle.read_image.proofs.read_image.Statement.{statement}
 use Rattle.read_image.proofs.read_image.Tie as tie
 use Rattle.read_image.proofs.read_image.Reads as reads
 use Rattle.read_image.proofs.read_image.Lts as lts
-use Rattle.marks.proofs.adts_apart.Reads as adts-apart-reads
+use Rattle.image_marks.proofs.adts_apart.Reads as adts-apart-reads
 use Rattle.read_image.proofs.frame.read_frame.Reads as read-frame-reads
-use Rattle.read_image.proofs.patterns.patterns_hold.Reads as patterns-hold-reads
-use Rattle.read_image.proofs.tables_hold.rows_hold.Reads as rows-hold-reads
+use Rattle.image_tables.proofs.patterns.patterns_hold.Reads as patterns-hold-reads
+use Rattle.image_tables.proofs.tables_hold.rows_hold.Reads as rows-hold-reads
 use mathlib.Core.Path.{sym, _∙_}
 use borrow.Author.Tests.{not-true, not-false}
 use Rattle.read_image.proofs.Frames.{known, unknown}

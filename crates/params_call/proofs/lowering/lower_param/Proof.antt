@@ -2,7 +2,7 @@ use borrow.Author.Needs.{needs}
 use Rattle.params_call.proofs.lowering.lower_param.Statement.{statement}
 use Rattle.params_call.proofs.lowering.lower_param.Tie as tie
 use Rattle.pattern_matching.specs.Walking.{localPlace}
-use Rattle.param_steps.proofs.Unreached.{shuttable-of}
+use Rattle.param_shutting.proofs.Unreached.{shuttable-of}
 use Rattle.params_laws.proofs.Lowering.{param-refused, param-own, param-walked}
 
 check-and-bind-requires : tie.Need-check-and-bind-requires

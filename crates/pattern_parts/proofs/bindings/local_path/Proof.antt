@@ -4,7 +4,7 @@ use Rattle.pattern_parts.proofs.bindings.local_path.Tie as tie
 use Rattle.pattern_parts.proofs.bindings.local_path.Reads as reads
 use Rattle.pattern_parts.proofs.bindings.local_path.Lts as lts
 use Rattle.body_assignments.proofs.push_assignment.Reads as push-assignment-reads
-use Rattle.body_lowering.proofs.temps.binding_local.Reads as binding-local-reads
+use Rattle.body_locals.proofs.binding_local.Reads as binding-local-reads
 use mathlib.Core.Path.{sym, _∙_}
 use Rattle.mir.specs.declared.scopes.Counted.{Counted}
 use Rattle.pattern_parts.proofs.Filling.{path-check, path-bind, path-absent, path-assigned}

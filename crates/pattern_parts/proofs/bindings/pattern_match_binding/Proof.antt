@@ -4,8 +4,8 @@ use Rattle.pattern_parts.proofs.bindings.pattern_match_binding.Tie as t
 use Rattle.pattern_parts.proofs.bindings.pattern_match_binding.Reads as reads
 use Rattle.pattern_parts.proofs.bindings.pattern_match_binding.Lts as lts
 use Rattle.body_assignments.proofs.push_assignment.Reads as push-assignment-reads
-use Rattle.body_lowering.proofs.temps.binding_local.Reads as binding-local-reads
-use Rattle.body_lowering.proofs.temps.push_storage_live_for_local.Reads as push-storage-live-for-local-reads
+use Rattle.body_locals.proofs.binding_local.Reads as binding-local-reads
+use Rattle.body_live_marks.proofs.push_storage_live_for_local.Reads as push-storage-live-for-local-reads
 use Rattle.pattern_parts.proofs.bindings.binding_rvalue.Reads as binding-rvalue-reads
 use mathlib.Core.Path.{sym, _∙_}
 use Rattle.mir.specs.declared.scopes.Counted.{Counted}

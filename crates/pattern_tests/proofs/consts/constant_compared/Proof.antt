@@ -4,7 +4,7 @@ use Rattle.pattern_tests.proofs.consts.constant_compared.Tie as tie
 use Rattle.pattern_tests.proofs.consts.constant_compared.Reads as reads
 use Rattle.pattern_tests.proofs.consts.constant_compared.Lts as lts
 use Rattle.body_assignments.proofs.push_binary_assignment.Reads as push-binary-assignment-reads
-use Rattle.body_lowering.proofs.temps.temp.Reads as temp-reads
+use Rattle.body_temps.proofs.temp.Reads as temp-reads
 use Rattle.pattern_switching.proofs.then_switch.Reads as then-switch-reads
 use mathlib.Core.Path.{sym, _∙_}
 use Rattle.state.proofs.RowLengths.{binary-length}

@@ -4,7 +4,7 @@ use Rattle.pattern_tests.proofs.consts.constant_path.Tie as tie
 use Rattle.pattern_tests.proofs.consts.constant_path.Reads as reads
 use Rattle.pattern_tests.proofs.consts.constant_path.Lts as lts
 use Rattle.body_assignments.proofs.push_constant_assignment.Reads as push-constant-assignment-reads
-use Rattle.body_lowering.proofs.temps.temp.Reads as temp-reads
+use Rattle.body_temps.proofs.temp.Reads as temp-reads
 use Rattle.literals.proofs.lower_const_to_operand.Reads as lower-const-to-operand-reads
 use Rattle.pattern_matching.proofs.is_check.Reads as is-check-reads
 use Rattle.pattern_tests.proofs.consts.constant_compared.Reads as constant-compared-reads

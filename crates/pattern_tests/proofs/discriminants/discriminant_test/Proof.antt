@@ -4,7 +4,7 @@ use Rattle.pattern_tests.proofs.discriminants.discriminant_test.Tie as 
 use Rattle.pattern_tests.proofs.discriminants.discriminant_test.Reads as reads
 use Rattle.pattern_tests.proofs.discriminants.discriminant_test.Lts as lts
 use Rattle.body_assignments.proofs.push_assignment.Reads as push-assignment-reads
-use Rattle.body_lowering.proofs.temps.discr_temp_place.Reads as discr-temp-place-reads
+use Rattle.body_temps.proofs.discr_temp_place.Reads as discr-temp-place-reads
 use Rattle.image.proofs.rows.operand_bytes.Reads as operand-bytes-reads
 use Rattle.image.proofs.rows.variant_at.Reads as variant-at-reads
 use Rattle.literals.proofs.half.Reads as half-reads

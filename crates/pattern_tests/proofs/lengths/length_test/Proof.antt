@@ -4,7 +4,7 @@ use Rattle.pattern_tests.proofs.lengths.length_test.Tie as tie
 use Rattle.pattern_tests.proofs.lengths.length_test.Reads as reads
 use Rattle.pattern_tests.proofs.lengths.length_test.Lts as lts
 use Rattle.body_assignments.proofs.push_assignment.Reads as push-assignment-reads
-use Rattle.body_lowering.proofs.temps.temp.Reads as temp-reads
+use Rattle.body_temps.proofs.temp.Reads as temp-reads
 use Rattle.pattern_tests.proofs.lengths.length_switch.Reads as length-switch-reads
 use mathlib.Core.Path.{sym, _∙_}
 use Rattle.state.proofs.RowLengths.{place-rvalue-length}

@@ -1,4 +1,0 @@
-pub mod Holding
-pub mod Marking
-pub mod Temporaries
-pub mod Joining

@@ -1,0 +1,4 @@
+pub mod Fresh
+pub mod Walk
+pub mod Uses
+pub mod Adts

@@ -1,2 +1,0 @@
-pub mod Owning
-pub mod Shutting
