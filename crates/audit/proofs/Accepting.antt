@@ -2,9 +2,11 @@
 -- `pattern_match` promises of a call, its answer, and what lies in the tables when it returns. Assumes nothing.
 use Prim.Native.Nat.{ℕ}
 use mathlib.Core.Path.{_≡_}
+use mathlib.Core.Logic.{_⊎_}
 use mathlib.Core.List.{List}
 use lib.ListN.{length}
 use Rattle.refusals.specs.declared.MirLowerError.{MirLowerError}
+use Rattle.refusals.specs.Refusals.{numberOf}
 use Rattle.image.specs.declared.PatId.{PatId}
 use Rattle.state.specs.State.{Body}
 use Rattle.pattern_matching.specs.Walking.{Out, ok}
@@ -14,6 +16,7 @@ use Rattle.called.specs.Call.{Call, HandedOut, Promised, Accepted, Refused, bef
 use Rattle.called.specs.Runs.{FittingPattern}
 use Rattle.called.specs.Acceptance.{Taken, HasRoom, LimitPassed, IsAcceptance}
 use Rattle.called.proofs.Acceptances as calls
+use Rattle.called.proofs.Refusals.{fit-refused}
 use Rattle.audit.specs.Call.{lowering}
 
 -- A call whose image, body and numbers are taken, and whose pattern fits its place: with room by document 01's counts (blocks, statements, locals, entries, elements) and a
@@ -21,6 +24,10 @@ use Rattle.audit.specs.Call.{lowering}
 pub a-fitting-pattern-with-room-and-a-scope-open-is-accepted : {call : Call} → FittingPattern call → Taken call → HasRoom call → ScopeOpen (startOf call) →
     (answer : MatchCall) (body : Body) (visits : List ℕ) → Promised call answer body visits → IsAcceptance call answer body visits
 a-fitting-pattern-with-room-and-a-scope-open-is-accepted = calls.fit-accepted
+
+-- A pattern that fits is refused for a limit (11) or for want of a scope (14) alone.
+pub a-fitting-pattern-is-refused-by-11-or-14-alone : {call : Call} → FittingPattern call → (e : MirLowerError) (p : PatId) → Refused call e p → (numberOf e ≡ 11) ⊎ (numberOf e ≡ 14)
+a-fitting-pattern-is-refused-by-11-or-14-alone = fit-refused
 
 -- A refusal by 11 names a limit that is passed, whether the pattern fits or not ..
 pub a-refusal-by-11-names-a-limit-that-is-passed : (call : Call) (p : PatId) → Refused call MirLowerError.Limit p → LimitPassed call

@@ -1,6 +1,8 @@
 pub mod Proved
 pub mod Further
 pub mod Audit
+pub mod Defined
+pub mod Locals
 pub mod Accepting
 pub mod Refusing
 pub mod Judged

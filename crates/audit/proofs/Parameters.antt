@@ -1,27 +1,18 @@
--- The auditor's page on parameters: the calls of `lower_params_and_bindings`. `AcceptedParams call out` is what its contract promises of a call that is accepted, with what
+-- The auditor's page on parameters, demands 2 and 3: the calls of `lower_params_and_bindings`. `AcceptedParams call out` is what its contract promises of a call that is accepted, with what
 -- lies in the tables when it returns. Each theorem is proved by one citation. Assumes nothing.
 use Prim.Native.Nat.{ℕ, _≤_, _<_}
 use mathlib.Core.Path.{_≡_}
 use mathlib.Core.List.{List}
-use lib.ListN.{length}
-use Rattle.refusals.specs.Refusals.{ok as done}
 use Rattle.mir.specs.declared.blocks.Terminator.{Terminator}
-use Rattle.pattern_matching.specs.Walking.{ok}
 use Rattle.views.specs.Views.{Mir, mirOf}
 use Rattle.views.specs.Growing.{terminatorAt, GoesOn}
 use Rattle.meaning.specs.Values.{Value}
 use Rattle.meaning.specs.Running.{Env}
-use Rattle.params_spec.specs.Params.{Declared}
-use Rattle.param_runs.proofs.Receivers.{callWithSelf, SelfHas}
-use Rattle.called.specs.Params.{ParamsHanded, ListTaken, NumbersTaken, definedOf, ParamsHandedOut, AcceptedParams, startOfParams, declaredOf, loweredOf, afterParams, resultOfParams, CountedParams, FittingParams, ComesThroughParams}
+use Rattle.called.specs.Params.{ParamsHanded, ParamsHandedOut, AcceptedParams, afterParams, CountedParams, FittingParams, ComesThroughParams}
 use Rattle.called.proofs.Params as calls
 
 -- Every call that is accepted, and what it hands out.
 module _ (call : ParamsHanded) (out : ParamsHandedOut) (accepted : AcceptedParams call out) where
-  -- demand 1: what it hands out is what the definition of `lower_params_and_bindings` gives, a transcription of the Rust but for requests S-1, S-4, S-5 and S-13
-  pub what-the-definition-gives-is-handed-out : loweredOf call ≡ ok (resultOfParams out)
-  what-the-definition-gives-is-handed-out = calls.params-give call out accepted
-
   -- the first parameter's local, or self's, is the next one when the call comes
   pub the-first-local-is-the-next-one : out .first .0 ≡ call .counts .locals
   the-first-local-is-the-next-one = calls.first-next call out accepted
@@ -43,14 +34,3 @@ module _ (call : ParamsHanded) (out : ParamsHandedOut) (accepted : AcceptedParam
   pub values-that-match-come-to-the-returned-block : (M : Mir) → GoesOn (mirOf (afterParams out)) M → (vs : List Value) (env : Env) → FittingParams call out vs env →
       ComesThroughParams call out M vs env
   values-that-match-come-to-the-returned-block = calls.values-come-through call out accepted
-
--- "`lower_params_and_bindings` gives the self binding its own parameter local": in every call whose list and own values are taken, when all locals are made, self's binding has
--- self's own local, which is the next one when the call comes.
-pub self-has-its-own-local : (call : ParamsHanded) (made : Declared) → ListTaken call → NumbersTaken call → declaredOf call ≡ done made →
-    SelfHas (call .self) (made .bindings) (length (startOfParams call .state .locals))
-self-has-its-own-local = calls.self-own-local
-
--- "show the branch has no input left": the call with the Rust's branch for self, as the definition had it, is the call without it, whatever it is handed.
-pub the-self-branch-has-no-input : (call : ParamsHanded) →
-    callWithSelf (call .image) (call .list) (call .self) (call .bindings) (call .body) (call .counts) (call .start) ≡ definedOf call
-the-self-branch-has-no-input = calls.self-branch-idle

@@ -15,9 +15,9 @@ use Rattle.body_calls_spec.specs.declared.ScopeCall.{ScopeCall}
 use Rattle.body_calls_spec.specs.declared.DropCall.{DropCall}
 use Rattle.body_calls_spec.specs.Answers.{tempRefusal, mergeRefusal, scopeRefusal, dropRefusal}
 use Rattle.pattern_calls_spec.specs.declared.MatchCall.{MatchCall}
-use Rattle.pattern_calls_spec.specs.Calls.{numbers}
+use Rattle.pattern_calls_spec.specs.Calls.{matchRefusal}
 use Rattle.params_spec.specs.declared.ParamsCall.{ParamsCall}
-use Rattle.params_spec.specs.Calls.{numbers as paramsNumbers}
+use Rattle.params_spec.specs.Calls.{paramsRefusal}
 use Rattle.called.specs.Call.{Call, Promised}
 use Rattle.called.specs.AsFound.{AsFound, NoneVisited}
 use Rattle.called.specs.Params.{ParamsHanded, ParamsTables, PromisedParams}
@@ -25,7 +25,7 @@ use Rattle.called.specs.Contracts.{PromisedAssignment, SelfHanded, PromisedSelf
 use Rattle.called.proofs.Restored as restored
 
 -- A call on a pattern, its answer, what lies in the tables when it returns, and the numbers of a refusal.
-module _ (call : Call) (answer : MatchCall) (body : Body) (visits : List ℕ) (refusal : Refusal) (is-refused : numbers answer ≡ some refusal) where
+module _ (call : Call) (answer : MatchCall) (body : Body) (visits : List ℕ) (refusal : Refusal) (is-refused : matchRefusal answer ≡ some refusal) where
   -- `pattern_match`
   pub a-refused-pattern-match-leaves-all-as-found : Promised call answer body visits → AsFound (call .body) (call .counts) refusal body × NoneVisited (call .visits) refusal visits
   a-refused-pattern-match-leaves-all-as-found promised = restored.match-left call answer body visits refusal promised is-refused
@@ -35,12 +35,12 @@ module _ (call : Call) (answer : MatchCall) (body : Body) (visits : List ℕ) (r
   a-refused-assignment-leaves-all-as-found promised = restored.assignment-left call answer body visits refusal promised is-refused
 
 -- `match_self_param`
-pub a-refused-match-self-param-leaves-all-as-found : (call : SelfHanded) (answer : MatchCall) (body : Body) (refusal : Refusal) → PromisedSelf call answer body → numbers answer ≡ some refusal →
+pub a-refused-match-self-param-leaves-all-as-found : (call : SelfHanded) (answer : MatchCall) (body : Body) (refusal : Refusal) → PromisedSelf call answer body → matchRefusal answer ≡ some refusal →
     AsFound (call .body) (call .counts) refusal body
 a-refused-match-self-param-leaves-all-as-found = restored.self-left
 
 -- `lower_params_and_bindings`, "and the bindings' locals .. as handed in"
-module _ (call : ParamsHanded) (answer : ParamsCall) (tables : ParamsTables) (refusal : Refusal) (is-refused : paramsNumbers answer ≡ some refusal) where
+module _ (call : ParamsHanded) (answer : ParamsCall) (tables : ParamsTables) (refusal : Refusal) (is-refused : paramsRefusal answer ≡ some refusal) where
   pub refused-parameters-leave-all-as-found : PromisedParams call answer tables →
       AsFound (call .body) (call .counts) refusal (tables .body) × NoneVisited (call .visits) refusal (tables .visits) × (tables .bindings ≡ call .bindings)
   refused-parameters-leave-all-as-found promised = restored.params-left call answer tables refusal promised is-refused

@@ -1,3 +1,4 @@
 pub mod Clearing
 pub mod Restoring
 pub mod Prologue
+pub mod Replying

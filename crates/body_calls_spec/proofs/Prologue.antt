@@ -1,5 +1,5 @@
 -- Before a call's own step: what `open` answers, what is known of what it takes, and the blocks that a merge is handed. Assumes nothing.
-use Prim.Native.Nat.{ℕ}
+use Prim.Native.Nat.{ℕ, _≤_}
 use mathlib.Core.Path.{_≡_, refl, sym, ap, _∙_}
 use mathlib.Core.Bool.{Bool, true, false, cond}
 use mathlib.Core.List.{List}
@@ -16,8 +16,9 @@ use Rattle.read_image.specs.Read.{readOf}
 use Rattle.read_image.proofs.Frames.{known}
 use Rattle.mir.specs.declared.Counts.{Counts}
 use Rattle.state.specs.State.{Body}
+use Rattle.calls_spec.specs.Lengths.{Lengths}
 use Rattle.body_row_rules.specs.Bodies.{bodyHolds}
-use Rattle.body_row_rules.proofs.Checked.{sizes, within}
+use Rattle.body_row_rules.proofs.Checked.{within}
 use Rattle.lower_spec.specs.declared.merging.OptBlock.{OptBlock}
 use Rattle.lower_spec.specs.Promises.{Within}
 use Rattle.handed.specs.Handed.{isBlockOrNone, mergeHolds}
@@ -100,28 +101,40 @@ module _ (image : List ℕ) (b : Body) (c : Counts) where
       go true false q = (refl, refl)
       go false t q = absurd (let z : _≡_ {A = ℕ} 0 1 = cc in omega arith)
 
-  pub taken : {tables : Tables} → Opened.Image tables ≡ openedOf image b c → Taken image tables b c
+  -- image and body were looked at
+  pub record Looked (tables : Tables) : Type 0 where
+    pub valid-image : valid image ≡ true
+    pub whole : Whole image tables
+    pub body : bodyTaken image b c ≡ true
+
+  pub looked : {tables : Tables} → Opened.Image tables ≡ openedOf image b c → Looked tables
   unfolding openedOf
-  taken {tables = tables} e = go (valid image) (bodyTaken image b c) refl refl e
+  looked {tables = tables} e = go (valid image) (bodyTaken image b c) refl refl e
     where
-      go : (v t : Bool) → valid image ≡ v → bodyTaken image b c ≡ t → Opened.Image tables ≡ cond v (cond t (Opened.Image (tablesOf image)) Opened.BadCall) Opened.BadImage → Taken image tables b c
+      go : (v t : Bool) → valid image ≡ v → bodyTaken image b c ≡ t → Opened.Image tables ≡ cond v (cond t (Opened.Image (tablesOf image)) Opened.BadCall) Opened.BadImage → Looked tables
       go true true f h q =
           let same : tables ≡ tablesOf image = cc in
           record { valid-image = f; whole = rw same (whole-of image f); body = h }
       go true false f h q = absurd (let z : _≡_ {A = ℕ} 0 1 = cc in omega arith)
       go false t f h q = absurd (let z : _≡_ {A = ℕ} 0 1 = cc in omega arith)
 
+  -- it has at most 512 blocks
+  pub few-blocks : {tables : Tables} → Looked tables → c .blocks ≤ 512
+  few-blocks L = within _ _ (b .blocks) (b .statements) (b .locals) (b .scopes) (b .entries) c (L .body) .blocks
+
+  pub taken : {tables : Tables} → Opened.Image tables ≡ openedOf image b c → Lengths b → Taken image tables b c
+  taken e long = let L = looked e in record { lengths = long; valid-image = L .valid-image; whole = L .whole; body = L .body }
+
   -- a body that is taken has its sizes
   pub taken-sized : {tables : Tables} → Taken image tables b c → Sized b c
   taken-sized T =
-      let long = sizes _ _ (b .blocks) (b .statements) (b .locals) (b .scopes) (b .entries) c (T .body) in
       let few = within _ _ (b .blocks) (b .statements) (b .locals) (b .scopes) (b .entries) c (T .body) in
       record {
-        blocks = long .blocks;
-        statements = long .statements;
-        locals = long .locals;
-        scopes = long .scopes;
-        entries = long .entries;
+        blocks = T .lengths .blocks;
+        statements = T .lengths .statements;
+        locals = T .lengths .locals;
+        scopes = T .lengths .scopes;
+        entries = T .lengths .entries;
         block-count = few .blocks;
         statement-count = few .statements;
         local-count = few .locals;

@@ -12,16 +12,17 @@ use mir::Counts;
 ghost use Rattle.state.specs.State.{decode};
 ghost use Rattle.lower_spec.specs.Merging.{mergeBlocks};
 ghost use Rattle.lower_spec.specs.Promises.{Within};
-ghost use Rattle.body_calls_spec.specs.Calls.{stepped, mergeBlocksCall};
+ghost use Rattle.calls_spec.specs.Calls.{byStep};
+ghost use Rattle.body_calls_spec.specs.Calls.{mergeBlocksCall};
 ghost use Rattle.body_calls_spec.specs.Sizes.{Sized};
 ghost use Rattle.body_tables.specs.Layout.{bodyOf};
-ghost use Rattle.body_calls_spec.specs.Promises.{Gives};
-ghost use Rattle.body_calls_spec.specs.Ways.{mergeWay};
+ghost use Rattle.calls_spec.specs.Promises.{Gives};
+ghost use Rattle.body_calls_spec.specs.Answers.{mergeWay};
 
 // The call's own step, on an image and a body that were looked at: zeros are written above the counts first, so that a new row lies among zeros.
 fn merge_step(body: &mut [u16; BODY_WORDS], counts: Counts, x: OptBlock, y: OptBlock) -> MergeCall
     requires { ⌜ Sized (bodyOf (now body)) counts × Within counts x × Within counts y ⌝ }
-    ensures { λ r. ⌜ Gives (mergeWay x y) (bodyOf (now (body .entry))) counts (stepped (mergeBlocks (decode (bodyOf (now (body .entry))) counts) x y)) r (bodyOf (now (body .exit))) ⌝ }
+    ensures { λ r. ⌜ Gives (mergeWay x y) (bodyOf (now (body .entry))) counts (byStep (mergeBlocks (decode (bodyOf (now (body .entry))) counts) x y)) r (bodyOf (now (body .exit))) ⌝ }
 {
     clear_above(body, counts);
     match body_merging::merge_blocks(body, counts, x, y) {

@@ -9,13 +9,12 @@ use body_tables::BODY_WORDS;
 use mir::Counts;
 use read_image::Read;
 use read_image::read_image;
-ghost use mathlib.Core.Path.{_≡_};
-ghost use Rattle.body_calls_spec.specs.Calls.{openedOf};
+ghost use Rattle.body_calls_spec.specs.Sizes.{Opens};
 ghost use Rattle.body_tables.specs.Layout.{bodyOf};
 
 // Image and body, with its scopes, are taken.
 pub fn open(image: &[u8], body: &[u16; BODY_WORDS], counts: Counts) -> Opened
-    ensures { λ r. ⌜ r ≡ openedOf (now (image .entry)) (bodyOf (now (body .entry))) counts ⌝ }
+    ensures { λ r. ⌜ Opens (now (image .entry)) (bodyOf (now (body .entry))) counts r ⌝ }
 {
     match read_image(image) {
         Read::Refused => Opened::BadImage,

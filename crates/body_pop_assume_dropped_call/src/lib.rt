@@ -10,16 +10,17 @@ use state::Stepped;
 ghost use Rattle.state.specs.State.{decode};
 ghost use Rattle.drop_scopes_spec.specs.Dropping.{popAssumeDropped};
 ghost use Rattle.drop_scopes_spec.specs.Promises.{ScopesNamed};
-ghost use Rattle.body_calls_spec.specs.Calls.{stepped, popAssumeDroppedCall};
+ghost use Rattle.calls_spec.specs.Calls.{byStep};
+ghost use Rattle.body_calls_spec.specs.Calls.{popAssumeDroppedCall};
 ghost use Rattle.body_calls_spec.specs.Sizes.{Sized};
 ghost use Rattle.body_tables.specs.Layout.{bodyOf};
-ghost use Rattle.body_calls_spec.specs.Promises.{Gives};
-ghost use Rattle.body_calls_spec.specs.Ways.{scopeWay};
+ghost use Rattle.calls_spec.specs.Promises.{Gives};
+ghost use Rattle.body_calls_spec.specs.Answers.{scopeWay};
 
 // The call's own step, on an image and a body that were looked at: zeros are written above the counts first, so that a new row lies among zeros.
 fn pop_step(body: &mut [u16; BODY_WORDS], counts: Counts) -> ScopeCall
     requires { ⌜ Sized (bodyOf (now body)) counts × ScopesNamed (bodyOf (now body) .scopes) counts ⌝ }
-    ensures { λ r. ⌜ Gives scopeWay (bodyOf (now (body .entry))) counts (stepped (popAssumeDropped (decode (bodyOf (now (body .entry))) counts))) r (bodyOf (now (body .exit))) ⌝ }
+    ensures { λ r. ⌜ Gives scopeWay (bodyOf (now (body .entry))) counts (byStep (popAssumeDropped (decode (bodyOf (now (body .entry))) counts))) r (bodyOf (now (body .exit))) ⌝ }
 {
     clear_above(body, counts);
     match body_scopes::pop_assume_dropped(body, counts) {

@@ -9,16 +9,17 @@ use mir::Counts;
 use state::Stepped;
 ghost use Rattle.state.specs.State.{decode};
 ghost use Rattle.state.specs.Steps.{tryScope};
-ghost use Rattle.body_calls_spec.specs.Calls.{stepped, pushDropScopeCall};
+ghost use Rattle.calls_spec.specs.Calls.{byStep};
+ghost use Rattle.body_calls_spec.specs.Calls.{pushDropScopeCall};
 ghost use Rattle.body_calls_spec.specs.Sizes.{Sized};
 ghost use Rattle.body_tables.specs.Layout.{bodyOf};
-ghost use Rattle.body_calls_spec.specs.Promises.{Gives};
-ghost use Rattle.body_calls_spec.specs.Ways.{scopeWay};
+ghost use Rattle.calls_spec.specs.Promises.{Gives};
+ghost use Rattle.body_calls_spec.specs.Answers.{scopeWay};
 
 // The call's own step, on an image and a body that were looked at: zeros are written above the counts first, so that a new row lies among zeros.
 fn push_step(body: &mut [u16; BODY_WORDS], counts: Counts) -> ScopeCall
     requires { ⌜ Sized (bodyOf (now body)) counts ⌝ }
-    ensures { λ r. ⌜ Gives scopeWay (bodyOf (now (body .entry))) counts (stepped (tryScope (decode (bodyOf (now (body .entry))) counts))) r (bodyOf (now (body .exit))) ⌝ }
+    ensures { λ r. ⌜ Gives scopeWay (bodyOf (now (body .entry))) counts (byStep (tryScope (decode (bodyOf (now (body .entry))) counts))) r (bodyOf (now (body .exit))) ⌝ }
 {
     clear_above(body, counts);
     match body_scopes::push_drop_scope(body, counts) {

@@ -4,21 +4,13 @@ use mathlib.Core.Path.{_≡_}
 use mathlib.Core.Bool.{Bool, true}
 use mathlib.Core.List.{List, [], _∷_}
 use native.Mathlib.Omega.{arith}
-use borrow.Author.Tests.{lt-ltb, le-ltb, ltb-true, leb-true, eqb-true}
-use lib.Dec.{eqb, leb}
-use lib.ListN.{length, getD}
+use borrow.Author.Tests.{lt-ltb, le-ltb, ltb-true, leb-true}
+use lib.Dec.{leb}
+use lib.ListN.{getD}
 use Rattle.mir.specs.declared.Counts.{Counts}
 use Rattle.image.specs.Lists.{allBelow}
 use Rattle.image.proofs.Bools.{all-true-at, below-at}
-use Rattle.body_row_rules.specs.Bodies.{isTypeWord, tablesSized, countsWithin, blockHolds, statementHolds, localHolds, scopeEnd, scopeHolds, entryHolds, entriesBelong, bodyHolds}
-
--- the lengths of the tables of blocks, statements, locals, scopes and entries
-pub record Sizes (b s l c e : List ℕ) : Type 0 where
-  pub blocks : length b ≡ 6144
-  pub statements : length s ≡ 50176
-  pub locals : length l ≡ 512
-  pub scopes : length c ≡ 32
-  pub entries : length e ≡ 1024
+use Rattle.body_row_rules.specs.Bodies.{isTypeWord, countsWithin, blockHolds, statementHolds, localHolds, scopeEnd, scopeHolds, entryHolds, entriesBelong, bodyHolds}
 
 -- the counts are within the limits
 pub record Within (c : Counts) : Type 0 where
@@ -28,20 +20,7 @@ pub record Within (c : Counts) : Type 0 where
   pub scopes : c .scopes ≤ 32
   pub entries : c .entries ≤ 1024
 
--- they have these lengths where their test says so
-pub sizes-of : (blocks statements locals scopes entries : List ℕ) → tablesSized blocks statements locals scopes entries ≡ true → Sizes blocks statements locals scopes entries
-unfolding tablesSized
-sizes-of blocks statements locals scopes entries e =
-    let rules = eqb (length blocks) 6144 ∷ eqb (length statements) 50176 ∷ eqb (length locals) 512 ∷ eqb (length scopes) 32 ∷ eqb (length entries) 1024 ∷ [] in
-    record {
-      blocks = eqb-true _ _ (all-true-at rules 0 e);
-      statements = eqb-true _ _ (all-true-at rules 1 e);
-      locals = eqb-true _ _ (all-true-at rules 2 e);
-      scopes = eqb-true _ _ (all-true-at rules 3 e);
-      entries = eqb-true _ _ (all-true-at rules 4 e);
-    }
-
--- they are where their test says so
+-- they are, where their test says so
 pub within-of : (c : Counts) → countsWithin c ≡ true → Within c
 unfolding countsWithin
 within-of c e =
@@ -58,8 +37,7 @@ module _ (types variants : ℕ) (blocks statements locals scopes entries : List 
   -- the rules
   abbrev rules : List Bool
   rules =
-      tablesSized blocks statements locals scopes entries
-      ∷ countsWithin c
+      countsWithin c
       ∷ allBelow (blockHolds blocks c) (c .blocks)
       ∷ allBelow (statementHolds types variants statements c) (c .statements)
       ∷ allBelow (localHolds types locals) (c .locals)
@@ -77,28 +55,24 @@ module _ (types variants : ℕ) (blocks statements locals scopes entries : List 
   unfolding bodyHolds
   rule h k = all-true-at rules k h
 
-  -- the tables have their lengths
-  pub sizes : Holds → Sizes blocks statements locals scopes entries
-  sizes h = sizes-of blocks statements locals scopes entries (rule h 0)
-
   -- the counts are within the limits
   pub within : Holds → Within c
-  within h = within-of c (rule h 1)
+  within h = within-of c (rule h 0)
 
   -- a local's type is there
   pub local-type : Holds → (i : ℕ) → i < c .locals → isTypeWord types (getD locals i 0) ≡ true
   unfolding localHolds
-  local-type h i l = below-at (localHolds types locals) (c .locals) i (rule h 4) l
+  local-type h i l = below-at (localHolds types locals) (c .locals) i (rule h 3) l
 
   -- an entry is a local that there is
   pub entry-local : Holds → (i : ℕ) → i < c .entries → getD entries i 0 < c .locals
   unfolding entryHolds
-  entry-local h i l = ltb-true _ _ (below-at (entryHolds entries c) (c .entries) i (rule h 6) l)
+  entry-local h i l = ltb-true _ _ (below-at (entryHolds entries c) (c .entries) i (rule h 5) l)
 
   -- a scope's entries do not end before they begin
   rises : Holds → (i : ℕ) → i < c .scopes → getD scopes i 0 ≤ scopeEnd scopes c i
   unfolding scopeHolds
-  rises h i l = leb-true _ _ (below-at (scopeHolds scopes c) (c .scopes) i (rule h 5) l)
+  rises h i l = leb-true _ _ (below-at (scopeHolds scopes c) (c .scopes) i (rule h 4) l)
 
   -- with d scopes behind it, the scope i begins at or before the end of the entries
   start-before : Holds → (d i : ℕ) → suc (i + d) ≡ c .scopes → getD scopes i 0 ≤ c .entries

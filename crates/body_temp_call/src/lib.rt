@@ -13,11 +13,12 @@ use mir::Counts;
 ghost use Rattle.image.specs.Tables.{Whole};
 ghost use Rattle.state.specs.State.{decode};
 ghost use Rattle.lower_spec.specs.Temps.{temp};
-ghost use Rattle.body_calls_spec.specs.Calls.{stepped, tempCall};
+ghost use Rattle.calls_spec.specs.Calls.{byStep};
+ghost use Rattle.body_calls_spec.specs.Calls.{tempCall};
 ghost use Rattle.body_calls_spec.specs.Sizes.{Sized};
 ghost use Rattle.body_tables.specs.Layout.{bodyOf};
-ghost use Rattle.body_calls_spec.specs.Promises.{Gives};
-ghost use Rattle.body_calls_spec.specs.Ways.{tempWay};
+ghost use Rattle.calls_spec.specs.Promises.{Gives};
+ghost use Rattle.body_calls_spec.specs.Answers.{tempWay};
 
 // The call's own step, on an image and a body that were looked at: zeros are written above the counts first, so that a new row lies among zeros.
 fn temp_step(
@@ -29,7 +30,7 @@ fn temp_step(
     block: BasicBlockId,
 ) -> TempCall
     requires { ⌜ Whole (now image) tables × Sized (bodyOf (now body)) counts ⌝ }
-    ensures { λ r. ⌜ Gives tempWay (bodyOf (now (body .entry))) counts (stepped (temp (now (image .entry)) (decode (bodyOf (now (body .entry))) counts) word block)) r (bodyOf (now (body .exit))) ⌝ }
+    ensures { λ r. ⌜ Gives tempWay (bodyOf (now (body .entry))) counts (byStep (temp (now (image .entry)) (decode (bodyOf (now (body .entry))) counts) word block)) r (bodyOf (now (body .exit))) ⌝ }
 {
     clear_above(body, counts);
     match body_temps::temp(image, tables, body, counts, word, block) {

@@ -13,8 +13,10 @@ use Rattle.counting.specs.Demand3.{Counted}
 use Rattle.room.specs.Room.{ScopeOpen, Made}
 use Rattle.room.proofs.Rooms as rooms
 use Rattle.pattern_calls_spec.specs.declared.MatchCall.{MatchCall}
-use Rattle.pattern_calls_spec.specs.Calls.{walked, patternMatchCall, walkAnswer, answer, ReadyWalk}
-use Rattle.pattern_calls_spec.specs.Calls.{call as calling}
+use Rattle.calls_spec.specs.Promises.{CallHolds}
+use Rattle.pattern_walk_spec.specs.Calls.{byWalk}
+use Rattle.pattern_calls_spec.specs.Calls.{matchAnswer, patternMatchCall}
+use Rattle.calls_spec.specs.Calls.{call as calling}
 use Rattle.called.specs.Call.{Call, HandedOut, Promised, Accepted, Refused, before, after, patternOf, startOf, resultOf}
 use Rattle.called.specs.Runs.{FittingPattern}
 use Rattle.called.specs.Acceptance.{Taken, HasRoom, LimitPassed, IsAcceptance}
@@ -24,7 +26,7 @@ use Rattle.called.proofs.Bodies.{handed, gives, counted}
 
 -- a call that is taken comes to the walk
 walks : (call : Call) → Taken call →
-    patternMatchCall (call .image) (call .bindings) (call .body) (call .counts) (call .pattern) (call .start) (call .else) (call .place) ≡ walked (walkOf call)
+    patternMatchCall (call .image) (call .bindings) (call .body) (call .counts) (call .pattern) (call .start) (call .else) (call .place) ≡ byWalk (walkOf call)
 unfolding patternMatchCall calling
 walks call T = rw (T .image-valid, T .body, T .names)
 
@@ -40,7 +42,7 @@ pub fit-accepted : {call : Call} → FittingPattern call → Taken call → HasR
     IsAcceptance call r body visits
 fit-accepted {call} fit T room scope r body visits P =
     let (o, gave) = fit-lowered fit T room scope in
-    let is : r ≡ MatchCall.Matched (countsOf (o .ctx .state)) (o .then) (o .else) = P .gives .reply ∙ ap answer (walks call T) ∙ ap walkAnswer gave in
+    let is : r ≡ MatchCall.Matched (countsOf (o .ctx .state)) (o .then) (o .else) = P .gives .reply ∙ ap (matchAnswer (call .counts)) (walks call T ∙ ap byWalk gave) in
     (record { counts = countsOf (o .ctx .state); then = o .then; else = o .else; body = body; visits = visits }, is, refl, refl, subst (λ (x : MatchCall). Promised call x body visits) is P)
 
 -- a refusal by 11 names a limit that is passed, whether the pattern fits or not
@@ -86,5 +88,5 @@ had-room call out accepted =
 
     ready : Ready (out .body) (countsOf (after out))
     ready =
-        subst (λ (w : Walk Out). ReadyWalk w (out .body)) gave
-        (taken call (MatchCall.Matched (out .counts) (out .then) (out .else)) (out .body) (out .visits) tt accepted .1 .gives .ready)
+        subst (λ (w : Walk Out). CallHolds (λ r. r .ctx .state) (call .body) (call .counts) (byWalk w) (out .body)) gave
+        (taken call (MatchCall.Matched (out .counts) (out .then) (out .else)) (out .body) (out .visits) tt accepted .1 .gives .holds) .ready

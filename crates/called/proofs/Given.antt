@@ -23,8 +23,8 @@ use Rattle.mir.specs.Blocks.{isOpen}
 use Rattle.state.specs.State.{Body, decode}
 use Rattle.state.proofs.Answering.{block-count}
 use Rattle.state.proofs.Words.{length-words}
-use Rattle.body_row_rules.specs.Bodies.{isBlock, isLocal, tablesSized, countsWithin, blockHolds, elemHolds, rvalueHolds, statementHolds, localHolds, scopeHolds, entryHolds, entriesBelong, bodyHolds}
-use Rattle.body_row_rules.proofs.Checked.{sizes, within}
+use Rattle.body_row_rules.specs.Bodies.{isBlock, isLocal, countsWithin, blockHolds, elemHolds, rvalueHolds, statementHolds, localHolds, scopeHolds, entryHolds, entriesBelong, bodyHolds}
+use Rattle.body_row_rules.proofs.Checked.{within}
 use Rattle.lower_spec.specs.declared.merging.OptBlock.{OptBlock}
 use Rattle.views.specs.Views.{terminatorOf, lineOf, mirOf}
 use Rattle.body_calls_spec.specs.Calls.{bodyTaken}
@@ -90,8 +90,7 @@ statement-block : (types variants : ℕ) (b : Body) (c : Counts) → bodyHolds t
 unfolding bodyHolds statementHolds
 statement-block types variants b c h i l =
     let tests =
-    tablesSized (b .blocks) (b .statements) (b .locals) (b .scopes) (b .entries)
-    ∷ countsWithin c
+    countsWithin c
     ∷ allBelow (blockHolds (b .blocks) c) (c .blocks)
     ∷ allBelow (statementHolds types variants (b .statements) c) (c .statements)
     ∷ allBelow (localHolds types (b .locals)) (c .locals)
@@ -103,7 +102,7 @@ statement-block types variants b c h i l =
     let block = isBlock c (getD (b .statements) (49 * i + 0) 0) in
     let about = isLocal c (getD (b .statements) (49 * i + 2) 0) in
     let rest = rvalueHolds types variants (b .statements) c i (getD (b .statements) (49 * i + 1) 0) in
-    ltb-true _ _ (and-left block about (and-left (block && about) rest (below-at (statementHolds types variants (b .statements) c) (c .statements) i (all-true-at tests 3 h) l)))
+    ltb-true _ _ (and-left block about (and-left (block && about) rest (below-at (statementHolds types variants (b .statements) c) (c .statements) i (all-true-at tests 2 h) l)))
 
 -- an else that is taken is another block, or none
 else-ready : (b : Body) (c : Counts) (current : BasicBlockId) (els : OptBlock) → elseHolds c current els ≡ true → ElseReady (decode b c) current els
@@ -171,7 +170,7 @@ module _ (call : Call) (T : Taken call) where
   unfolding decode
   locals-counted =
       let b = call .body in
-      let long = sizes _ _ (b .blocks) (b .statements) (b .locals) (b .scopes) (b .entries) c (T .body) .locals in
+      let long = call .lengths .locals in
       let few = within _ _ (b .blocks) (b .statements) (b .locals) (b .scopes) (b .entries) c (T .body) .locals in
       length-words (b .locals) (c .locals) (omega (arith, long, few))
 

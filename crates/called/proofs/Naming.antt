@@ -14,7 +14,7 @@ use Rattle.called.proofs.Bodies.{handed, gives}
 
 -- the body that was handed in
 named-before : (call : Call) → Taken call → NamedBelow (before call)
-named-before call T = handed-named (typeCount (call .image)) (variantCount (call .image)) (call .body) (call .counts) (T .body)
+named-before call T = handed-named (typeCount (call .image)) (variantCount (call .image)) (call .body) (call .counts) (call .lengths) (T .body)
 
 -- the theorem
 pub named-throughout : (call : Call) (out : HandedOut) → Accepted call out → NoneUnmade call out

@@ -16,10 +16,11 @@ use Rattle.place.specs.declared.LocalId.{LocalId}
 use Rattle.mir.specs.declared.Counts.{Counts}
 use Rattle.mir.specs.declared.blocks.Terminator.{Terminator}
 use Rattle.state.specs.State.{Body, decode, countsOf}
-use Rattle.state.proofs.Answering.{block-count}
+use Rattle.state.proofs.Answering.{block-count, statement-count}
+use Rattle.state.proofs.Words.{length-words}
+use Rattle.body_row_rules.proofs.Checked.{within}
 use Rattle.lower_spec.specs.declared.merging.OptBlock.{OptBlock}
 use Rattle.body_calls_spec.specs.Calls.{bodyTaken}
-use Rattle.body_calls_spec.proofs.Clearing.{clears, counted}
 use Rattle.views.specs.Views.{Mir, mirOf}
 use Rattle.views.specs.Growing.{terminatorAt, GoesOn}
 use Rattle.pattern_matching.specs.Walking.{Walk, ok, refused}
@@ -30,7 +31,10 @@ use Rattle.meaning.specs.Values.{Value}
 use Rattle.meaning.specs.Running.{Env}
 use Rattle.params_spec.specs.declared.ParamsCall.{ParamsCall}
 use Rattle.params_spec.specs.Params.{Declared, ParamsOut}
-use Rattle.params_spec.specs.Calls.{badImage, badCall, walked, paramsFrom, paramCount, paramsNamed, listFormed, receiverApart, listHolds, selfNamed, paramsHold, paramsCall, GivesParams}
+use Rattle.calls_spec.specs.Calls.{badImage, badCall}
+use Rattle.calls_spec.specs.Calls.{call as calling}
+use Rattle.pattern_walk_spec.specs.Calls.{byWalk}
+use Rattle.params_spec.specs.Calls.{paramsFrom, paramCount, paramsNamed, listFormed, receiverApart, listHolds, selfNamed, paramsHold, paramsCall, GivesParams}
 use Rattle.param_runs.specs.Totals.{firstLocal}
 use Rattle.param_runs.specs.Through.{Handed, allFit, HeldFrom}
 use Rattle.param_runs.proofs.OpenBlocks as opens
@@ -41,7 +45,6 @@ use Rattle.param_runs.proofs.Runs.{comes-through}
 use Rattle.called.specs.Params.{ParamsHanded, ListTaken, NumbersTaken, definedOf, ParamsHandedOut, AcceptedParams, parametersOf, startOfParams, declaredOf, loweredOf, afterParams, resultOfParams, CountedParams, FittingParams, ComesThroughParams}
 use Rattle.called.proofs.Given.{few-patterns, may-start}
 use Rattle.called.proofs.Visited.{words-same}
-use Rattle.called.proofs.Restored.{sized}
 
 -- an answer that accepts
 abbrev IsLowered : ParamsCall → Type 0
@@ -58,12 +61,12 @@ record Taken (call : ParamsHanded) : Type 0 where
   names : NumbersTaken call
 
 passed : (v q t n : Bool) (w : Walk ParamsOut) {m m′ : List ℕ} {b : Body} {before : List ℕ} {c : Counts} (r : ParamsCall) {b′ : Body} {after : List ℕ} → IsLowered r →
-    GivesParams m b before c (cond (v && q) (cond (t && n) (walked w) badCall) badImage) r m′ b′ after →
-    (v ≡ true) × (q ≡ true) × (t ≡ true) × (n ≡ true) × GivesParams m b before c (walked w) r m′ b′ after
-passed false q t n w r k P = absurd (subst IsLowered (P .reply) k)
-passed true false t n w r k P = absurd (subst IsLowered (P .reply) k)
-passed true true false n w r k P = absurd (subst IsLowered (P .reply) k)
-passed true true true false w r k P = absurd (subst IsLowered (P .reply) k)
+    GivesParams m b before c (cond (v && q) (cond (t && n) (byWalk w) badCall) badImage) r m′ b′ after →
+    (v ≡ true) × (q ≡ true) × (t ≡ true) × (n ≡ true) × GivesParams m b before c (byWalk w) r m′ b′ after
+passed false q t n w r k P = absurd (subst IsLowered (P .visits .gives .reply) k)
+passed true false t n w r k P = absurd (subst IsLowered (P .visits .gives .reply) k)
+passed true true false n w r k P = absurd (subst IsLowered (P .visits .gives .reply) k)
+passed true true true false w r k P = absurd (subst IsLowered (P .visits .gives .reply) k)
 passed true true true true w r k P = (refl, refl, refl, refl, P)
 
 -- what an accepted walk gave, and how it was handed out
@@ -78,11 +81,11 @@ record Handing (w : Walk ParamsOut) (c : Counts) (out : ParamsHandedOut) : Type 
   bindings : out .tables .bindings ≡ result .bindings
 
 handing : (w : Walk ParamsOut) (out : ParamsHandedOut) {m : List ℕ} {b : Body} {before : List ℕ} {c : Counts} →
-    GivesParams m b before c (walked w) (ParamsCall.Lowered (out .counts) (out .then) (out .first)) (out .tables .bindings) (out .tables .body) (out .tables .visits) → Handing w c out
+    GivesParams m b before c (byWalk w) (ParamsCall.Lowered (out .counts) (out .then) (out .first)) (out .tables .bindings) (out .tables .body) (out .tables .visits) → Handing w c out
 handing (ok r) out P =
-    let reply = P .reply in
-    record { result = r; gave = refl; counts = cc; then = cc; first = cc; reads = P .reads; visits = P .visits; bindings = P .locals }
-handing (refused e p) out P = let reply = P .reply in absurd (let z : _≡_ {A = ℕ} 0 1 = cc in omega arith)
+    let reply = P .visits .gives .reply in
+    record { result = r; gave = refl; counts = cc; then = cc; first = cc; reads = P .visits .gives .holds .reads; visits = P .visits .visits; bindings = P .locals }
+handing (refused e p) out P = let reply = P .visits .gives .reply in absurd (let z : _≡_ {A = ℕ} 0 1 = cc in omega arith)
 
 -- a list has as many parameters as it is said to have
 params-many : (words : List ℕ) (k n : ℕ) → length (paramsFrom words k n) ≡ n
@@ -92,7 +95,7 @@ params-many words k (suc n) = let e = params-many words (k + 2) n in omega (arit
 
 module _ (call : ParamsHanded) (out : ParamsHandedOut) (accepted : AcceptedParams call out) where
   both : Taken call × Handing (loweredOf call) (call .counts) out
-  unfolding paramsCall
+  unfolding paramsCall calling
   both =
       let (v, q, t, n, w) = passed (valid (call .image)) (listHolds (call .image) (call .self) (call .list)) (bodyTaken (call .image) (call .body) (call .counts))
       (paramsHold (call .image) (call .self) (call .bindings) (call .body .blocks) (call .counts) (call .start)) (loweredOf call)
@@ -135,9 +138,17 @@ module _ (call : ParamsHanded) (out : ParamsHandedOut) (accepted : AcceptedParam
 
   -- the rows that there are are as many as the counts say
   counts-same : countsOf (startOfParams call .state) ≡ call .counts
+  unfolding countsOf decode
   counts-same =
-      let C = clears (sized (call .image) (call .body) (call .counts) (taken .body)) refl in
-      ap countsOf (sym (C .same)) ∙ counted _ (call .counts) (C .ready)
+      let few = within _ _ (call .body .blocks) (call .body .statements) (call .body .locals) (call .body .scopes) (call .body .entries) (call .counts) (taken .body) in
+      let long = call .lengths in
+      λ i. record {
+        blocks = block-count (call .body) (call .counts) i;
+        statements = statement-count (call .body) (call .counts) i;
+        locals = length-words (call .body .locals) (call .counts .locals) (let x = long .locals in let y = few .locals in omega (arith, x, y)) i;
+        scopes = length-words (call .body .scopes) (call .counts .scopes) (let x = long .scopes in let y = few .scopes in omega (arith, x, y)) i;
+        entries = length-words (call .body .entries) (call .counts .entries) (let x = long .entries in let y = few .entries in omega (arith, x, y)) i;
+      }
 
   locals-same : length (startOfParams call .state .locals) ≡ call .counts .locals
   unfolding countsOf

@@ -15,8 +15,10 @@ use Rattle.pattern_matching.specs.Patterns.{patternMatch}
 use Rattle.pattern_walk_spec.specs.Answers.{visitWord}
 use Rattle.pattern_calls_spec.specs.declared.MatchCall.{MatchCall}
 use Rattle.handed.specs.Handed.{matchHolds}
-use Rattle.pattern_calls_spec.specs.Calls.{badImage, badCall, walked, namedIn, patternMatchCall, Visits}
-use Rattle.pattern_calls_spec.specs.Calls.{call as calling}
+use Rattle.calls_spec.specs.Calls.{badImage, badCall}
+use Rattle.calls_spec.specs.Calls.{call as calling}
+use Rattle.pattern_walk_spec.specs.Calls.{byWalk, Visits}
+use Rattle.pattern_calls_spec.specs.Calls.{namedIn, patternMatchCall, matchWay, matchCtx}
 use Rattle.called.specs.Call.{Call, HandedOut, Promised, patternOf, startOf}
 use Rattle.called.specs.Acceptance.{Taken}
 
@@ -33,7 +35,7 @@ walkOf call = patternMatch (call .image) (call .bindings) (patternOf call) (star
 
 -- a promise whose answer is one of the walk: the three tests were passed
 passed : (v t n : Bool) (w : Walk Out) {b : Body} {before : List ℕ} {c : Counts} (r : MatchCall) {b′ : Body} {after : List ℕ} → OfTheWalk r →
-    Visits b before c (cond v (cond (t && n) (walked w) badCall) badImage) r b′ after → (v ≡ true) × (t ≡ true) × (n ≡ true) × Visits b before c (walked w) r b′ after
+    Visits matchWay matchCtx b before c (cond v (cond (t && n) (byWalk w) badCall) badImage) r b′ after → (v ≡ true) × (t ≡ true) × (n ≡ true) × Visits matchWay matchCtx b before c (byWalk w) r b′ after
 passed false t n w r k P = absurd (subst OfTheWalk (P .gives .reply) k)
 passed true false n w r k P = absurd (subst OfTheWalk (P .gives .reply) k)
 passed true true false w r k P = absurd (subst OfTheWalk (P .gives .reply) k)
@@ -41,7 +43,7 @@ passed true true true w r k P = (refl, refl, refl, P)
 
 -- a call with such an answer was handed what is taken, and its promise is that of the walk
 pub taken : (call : Call) (r : MatchCall) (b : Body) (visits : List ℕ) → OfTheWalk r → Promised call r b visits →
-    Taken call × Visits (call .body) (call .visits) (call .counts) (walked (walkOf call)) r b visits
+    Taken call × Visits matchWay matchCtx (call .body) (call .visits) (call .counts) (byWalk (walkOf call)) r b visits
 unfolding patternMatchCall calling
 taken call r b visits k P =
     let (v, t, n, w) = passed (valid (call .image)) (bodyTaken (call .image) (call .body) (call .counts))
@@ -60,15 +62,15 @@ pub record Handing (w : Walk Out) (out : HandedOut) : Type 0 where
 
 -- it is what the promise says
 pub handing : (w : Walk Out) (out : HandedOut) {b : Body} {before : List ℕ} {c : Counts} →
-    Visits b before c (walked w) (MatchCall.Matched (out .counts) (out .then) (out .else)) (out .body) (out .visits) → Handing w out
+    Visits matchWay matchCtx b before c (byWalk w) (MatchCall.Matched (out .counts) (out .then) (out .else)) (out .body) (out .visits) → Handing w out
 handing (ok r) out P =
     let reply = P .gives .reply in
-    record { result = r; gave = refl; counts = cc; then = cc; else = cc; reads = P .gives .reads; visits = P .visits }
+    record { result = r; gave = refl; counts = cc; then = cc; else = cc; reads = P .gives .holds .reads; visits = P .visits }
 handing (refused e p) out P = let reply = P .gives .reply in absurd (let z : _≡_ {A = ℕ} 0 1 = cc in omega arith)
 
 -- what a refused walk gave
 pub stopping : (w : Walk Out) (e : MirLowerError) (p : PatId) {b b′ : Body} {before after : List ℕ} {c : Counts} →
-    Visits b before c (walked w) (MatchCall.Refused e p) b′ after → w ≡ refused e (p .0)
+    Visits matchWay matchCtx b before c (byWalk w) (MatchCall.Refused e p) b′ after → w ≡ refused e (p .0)
 stopping (ok r) e p P = let reply = P .gives .reply in absurd (let z : _≡_ {A = ℕ} 0 1 = cc in omega arith)
 stopping (refused e₁ q) e p P =
     let reply = P .gives .reply in

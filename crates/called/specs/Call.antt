@@ -12,6 +12,7 @@ use Rattle.mir.specs.declared.BasicBlockId.{BasicBlockId}
 use Rattle.mir.specs.declared.Counts.{Counts}
 use Rattle.state.specs.State.{Body, State, decode}
 use Rattle.lower_spec.specs.declared.merging.OptBlock.{OptBlock}
+use Rattle.calls_spec.specs.Lengths.{Lengths}
 use Rattle.pattern_matching.specs.Walking.{Ctx, Out}
 use Rattle.pattern_calls_spec.specs.declared.MatchCall.{MatchCall}
 use Rattle.pattern_calls_spec.specs.Calls.{MatchGives}
@@ -28,7 +29,8 @@ pub record Call : Type 0 where
   pub start : BasicBlockId
   pub else : OptBlock
   pub place : Place
-  -- a place has room for 16 elements
+  -- a body's tables have their lengths, and a place has room for 16 elements, by their types
+  pub lengths : Lengths body
   pub elements : length (place .elems) ≡ 16
 
 -- what a call hands out where it is accepted: the counts, the block where a match goes on, the one where a mismatch does, and the words of the tables

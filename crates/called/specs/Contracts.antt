@@ -11,8 +11,9 @@ use Rattle.body_calls_spec.specs.declared.MergeCall.{MergeCall}
 use Rattle.body_calls_spec.specs.declared.ScopeCall.{ScopeCall}
 use Rattle.body_calls_spec.specs.declared.DropCall.{DropCall}
 use Rattle.body_calls_spec.specs.Calls.{tempCall, mergeBlocksCall, pushDropScopeCall, popAssumeDroppedCall, popAndDropCall, dropUntilScopeCall}
-use Rattle.body_calls_spec.specs.Promises.{Gives}
-use Rattle.body_calls_spec.specs.Ways.{tempWay, mergeWay, scopeWay, dropWay}
+use Rattle.calls_spec.specs.Lengths.{Lengths}
+use Rattle.calls_spec.specs.Promises.{Gives}
+use Rattle.body_calls_spec.specs.Answers.{tempWay, mergeWay, scopeWay, dropWay}
 use Rattle.pattern_calls_spec.specs.declared.MatchCall.{MatchCall}
 use Rattle.pattern_calls_spec.specs.Calls.{AssignmentGives, SelfGives}
 use Rattle.called.specs.Call.{Call}
@@ -32,6 +33,7 @@ pub record SelfHanded : Type 0 where
   pub binding : ℕ
   pub start : BasicBlockId
   pub local : LocalId
+  pub lengths : Lengths body
 
 -- its contract (crates/self_param_call/src/lib.rt), of a call, its answer, and the body when it returns
 abbrev pub PromisedSelf : SelfHanded → MatchCall → Body → Type 0
@@ -42,6 +44,7 @@ pub record OnBody : Type 0 where
   pub image : List ℕ
   pub body : Body
   pub counts : Counts
+  pub lengths : Lengths body
 
 -- The contracts of the calls on a body (crates/body_temp_call/src/lib.rt and so on): of a call, its numbers, its answer, and the body when it returns.
 module _ (call : OnBody) where

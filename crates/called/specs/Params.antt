@@ -14,10 +14,12 @@ use Rattle.views.specs.Views.{Mir}
 use Rattle.pattern_matching.specs.Walking.{Ctx, Walk}
 use Rattle.meaning.specs.Values.{Value}
 use Rattle.meaning.specs.Running.{Env}
+use Rattle.calls_spec.specs.Lengths.{Lengths}
+use Rattle.calls_spec.specs.Calls.{Called}
 use Rattle.params_spec.specs.declared.SelfParam.{SelfParam}
 use Rattle.params_spec.specs.declared.ParamsCall.{ParamsCall}
 use Rattle.params_spec.specs.Params.{Param, Declared, ParamsOut, declare, lowerParamsAndBindings}
-use Rattle.params_spec.specs.Calls.{ParamsCalled, paramsOf, listHolds, paramsHold, paramsCall, ParamsGives}
+use Rattle.params_spec.specs.Calls.{paramsOf, listHolds, paramsHold, paramsCall, ParamsGives}
 use Rattle.param_runs.specs.Totals.{ParamsCounted}
 use Rattle.param_runs.specs.Through.{allFit, bindingsDiffer, HeldFrom, ComesThrough}
 
@@ -32,6 +34,8 @@ pub record ParamsHanded : Type 0 where
   pub visits : List ℕ
   pub counts : Counts
   pub start : BasicBlockId
+  -- a body's tables have their lengths, by their type
+  pub lengths : Lengths body
 
 -- what lies in the bindings' locals and in the tables when it returns
 pub record ParamsTables : Type 0 where
@@ -47,7 +51,7 @@ abbrev pub NumbersTaken : ParamsHanded → Type 0
 NumbersTaken call = paramsHold (call .image) (call .self) (call .bindings) (call .body .blocks) (call .counts) (call .start) ≡ true
 
 -- what the call gives, by its definition
-abbrev pub definedOf : ParamsHanded → ParamsCalled
+abbrev pub definedOf : ParamsHanded → Called ParamsOut
 definedOf call = paramsCall (call .image) (call .list) (call .self) (call .bindings) (call .body) (call .counts) (call .start)
 
 -- its contract (crates/params_call/src/lib.rt), of a call, its answer, and what is left

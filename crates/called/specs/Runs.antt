@@ -3,7 +3,7 @@ use Prim.Native.Nat.{ℕ, _<_}
 use mathlib.Core.Path.{_≡_}
 use mathlib.Core.Bool.{Bool, true}
 use mathlib.Core.List.{List}
-use lib.ListN.{drop}
+use lib.ListN.{getD, drop}
 use Rattle.image.specs.Tables.{typeCount}
 use Rattle.place.specs.declared.place_ty.PlaceTy.{PlaceTy}
 use Rattle.mir.specs.declared.BasicBlockId.{BasicBlockId}
@@ -12,13 +12,13 @@ use Rattle.pattern_matching.specs.Variants.{placeTy}
 use Rattle.views.specs.Views.{Line, Mir, mirOf}
 use Rattle.counting.specs.Reaching.{Reached}
 use Rattle.counting.specs.Counting.{reachedFrom, IsReached}
-use Rattle.meaning.specs.Values.{Value}
+use Rattle.meaning.specs.Values.{Value, valueFits}
 use Rattle.meaning.specs.Running.{Env}
 use Rattle.meaning.specs.Executing.{Position, Ending, atThen, atElse}
 use Rattle.meaning.specs.Matching.{Bound, matches}
 use Rattle.meaning.specs.Binding.{binds}
 use Rattle.meaning.specs.Fit.{fits}
-use Rattle.correctness.specs.Demand2.{placePath, Fitting, Stops, Comes, Ends}
+use Rattle.correctness.specs.Demand2.{placePath, Stops, Comes, Ends}
 use Rattle.called.specs.Call.{Call, HandedOut, Accepted, before, after, patternOf, startOf}
 
 -- the type of the place that the call is about
@@ -40,13 +40,13 @@ pub record FittingPattern (call : Call) : Type 0 where
   pub of-type : OfType call type
   pub fitting : fits (call .image) (call .bindings) (call .place .local .0) type (patternOf call) ≡ true
 
--- the call is accepted, its pattern fits its place, and so does a value
+-- the call is accepted, its pattern fits its place, and so does a value; an image is bytes
 pub record FittingValue (call : Call) (out : HandedOut) : Type 0 where
   pub accepted : Accepted call out
-  pub type : ℕ
-  pub of-type : OfType call type
+  pub image-bytes : (i : ℕ) → getD (call .image) i 0 < 256
+  pub pattern : FittingPattern call
   pub value : Value
-  pub fitting : Fitting (call .image) (call .bindings) (startOf call) (call .place) type (patternOf call) value
+  pub value-fits : valueFits (call .image) value (pattern .type) ≡ true
 
 module _ {call : Call} {out : HandedOut} (on : FittingValue call out) where
   -- whether "the Reference says it matches"

@@ -13,70 +13,67 @@ use Rattle.state.specs.Contracts.{Ready}
 use Rattle.lower_spec.specs.declared.merging.OptBlock.{OptBlock}
 use Rattle.views.specs.Views.{mirOf}
 use Rattle.listing_text.specs.Listing.{listing, refusalText}
-use Rattle.pattern_matching.specs.Walking.{ok, refused}
+use Rattle.calls_spec.specs.Calls.{Called, badImage, badCall, refusedAt, accepted}
+use Rattle.calls_spec.specs.Promises.{CallHolds}
+use Rattle.pattern_matching.specs.Walking.{Out}
+use Rattle.pattern_walk_spec.specs.Calls.{Visits}
 use Rattle.pattern_calls_spec.specs.declared.MatchCall.{MatchCall}
-use Rattle.pattern_calls_spec.specs.Calls.{Called, badImage, badCall, walked, answer, Reads, ReadyAfter, Visits}
-use Rattle.image_text.specs.Listed.{walkText, callText, answerText, Listable}
+use Rattle.pattern_calls_spec.specs.Calls.{matchAnswer, matchWay, matchCtx}
+use Rattle.image_text.specs.Listed.{callText, answerText, Listable}
 
 -- an accepted call
-accepted-text : (defined : Called) (b : Body) {c : Counts} {then : BasicBlockId} {els : OptBlock} → MatchCall.Matched c then els ≡ answer defined → Reads defined b →
-    listing then els (mirOf (decode b c)) ≡ callText defined
-unfolding callText walkText
-accepted-text badImage b is reads = absurd (let z : _≡_ {A = ℕ} 0 1 = cc in omega arith)
-accepted-text badCall b is reads = absurd (let z : _≡_ {A = ℕ} 0 1 = cc in omega arith)
-accepted-text (walked (refused e p)) b is reads = absurd (let z : _≡_ {A = ℕ} 0 1 = cc in omega arith)
-accepted-text (walked (ok r)) b {c} {then} {els} is reads =
-    let count : c ≡ countsOf (r .ctx .state) = cc in
+accepted-text : (before : Body) (c : Counts) (defined : Called Out) (b : Body) {c′ : Counts} {then : BasicBlockId} {els : OptBlock} → MatchCall.Matched c′ then els ≡ matchAnswer c defined →
+    CallHolds (λ r. r .ctx .state) before c defined b → (listing then els (mirOf (decode b c′)) ≡ callText defined) × Ready b c′
+unfolding callText
+accepted-text before c badImage b is holds = absurd (let z : _≡_ {A = ℕ} 0 1 = cc in omega arith)
+accepted-text before c badCall b is holds = absurd (let z : _≡_ {A = ℕ} 0 1 = cc in omega arith)
+accepted-text before c (refusedAt e p) b is holds = absurd (let z : _≡_ {A = ℕ} 0 1 = cc in omega arith)
+accepted-text before c (accepted r) b {c′} {then} {els} is holds =
+    let count : c′ ≡ countsOf (r .ctx .state) = cc in
     let goes-on : then ≡ r .then = cc in
     let fails : els ≡ r .else = cc in
-    let state : decode b c ≡ r .ctx .state = ap (decode b) count ∙ reads in
-    rw (goes-on, fails) (ap (listing (r .then) (r .else)) (ap mirOf state))
-
-accepted-ready : (defined : Called) (b : Body) {c : Counts} {then : BasicBlockId} {els : OptBlock} → MatchCall.Matched c then els ≡ answer defined → ReadyAfter defined b → Ready b c
-accepted-ready badImage b is ready = absurd (let z : _≡_ {A = ℕ} 0 1 = cc in omega arith)
-accepted-ready badCall b is ready = absurd (let z : _≡_ {A = ℕ} 0 1 = cc in omega arith)
-accepted-ready (walked (refused e p)) b is ready = absurd (let z : _≡_ {A = ℕ} 0 1 = cc in omega arith)
-accepted-ready (walked (ok r)) b {c} is ready = let count : c ≡ countsOf (r .ctx .state) = cc in rw count ready
+    let state : decode b c′ ≡ r .ctx .state = ap (decode b) count ∙ holds .reads in
+    (rw (goes-on, fails) (ap (listing (r .then) (r .else)) (ap mirOf state)), subst (Ready b) (sym count) (holds .ready))
 
 -- a refused one
-refused-text : (defined : Called) {e : MirLowerError} {p : PatId} → MatchCall.Refused e p ≡ answer defined → refusalText (refusalAt e (p .0)) ≡ callText defined
-unfolding callText walkText
-refused-text badImage is = absurd (let z : _≡_ {A = ℕ} 0 1 = cc in omega arith)
-refused-text badCall is = absurd (let z : _≡_ {A = ℕ} 0 1 = cc in omega arith)
-refused-text (walked (ok r)) is = absurd (let z : _≡_ {A = ℕ} 0 1 = cc in omega arith)
-refused-text (walked (refused f q)) {e} {p} is =
+refused-text : (c : Counts) (defined : Called Out) {e : MirLowerError} {p : PatId} → MatchCall.Refused e p ≡ matchAnswer c defined → refusalText (refusalAt e (p .0)) ≡ callText defined
+unfolding callText
+refused-text c badImage is = absurd (let z : _≡_ {A = ℕ} 0 1 = cc in omega arith)
+refused-text c badCall is = absurd (let z : _≡_ {A = ℕ} 0 1 = cc in omega arith)
+refused-text c (accepted r) is = absurd (let z : _≡_ {A = ℕ} 0 1 = cc in omega arith)
+refused-text c (refusedAt f q) {e} {p} is =
     let why : e ≡ f = cc in
     let at : p ≡ record { 0 = q } = cc in
     rw (why, at)
 
-bad-call-text : (defined : Called) → MatchCall.BadCall ≡ answer defined → refusalText namesNothing ≡ callText defined
+bad-call-text : (c : Counts) (defined : Called Out) → MatchCall.BadCall ≡ matchAnswer c defined → refusalText namesNothing ≡ callText defined
 unfolding callText
-bad-call-text badImage is = absurd (let z : _≡_ {A = ℕ} 0 1 = cc in omega arith)
-bad-call-text badCall is = refl
-bad-call-text (walked (ok r)) is = absurd (let z : _≡_ {A = ℕ} 0 1 = cc in omega arith)
-bad-call-text (walked (refused e p)) is = absurd (let z : _≡_ {A = ℕ} 0 1 = cc in omega arith)
+bad-call-text c badImage is = absurd (let z : _≡_ {A = ℕ} 0 1 = cc in omega arith)
+bad-call-text c badCall is = refl
+bad-call-text c (accepted r) is = absurd (let z : _≡_ {A = ℕ} 0 1 = cc in omega arith)
+bad-call-text c (refusedAt e p) is = absurd (let z : _≡_ {A = ℕ} 0 1 = cc in omega arith)
 
-bad-image-text : (defined : Called) → MatchCall.BadImage ≡ answer defined → refusalText breaksARule ≡ callText defined
+bad-image-text : (c : Counts) (defined : Called Out) → MatchCall.BadImage ≡ matchAnswer c defined → refusalText breaksARule ≡ callText defined
 unfolding callText
-bad-image-text badImage is = refl
-bad-image-text badCall is = absurd (let z : _≡_ {A = ℕ} 0 1 = cc in omega arith)
-bad-image-text (walked (ok r)) is = absurd (let z : _≡_ {A = ℕ} 0 1 = cc in omega arith)
-bad-image-text (walked (refused e p)) is = absurd (let z : _≡_ {A = ℕ} 0 1 = cc in omega arith)
+bad-image-text c badImage is = refl
+bad-image-text c badCall is = absurd (let z : _≡_ {A = ℕ} 0 1 = cc in omega arith)
+bad-image-text c (accepted r) is = absurd (let z : _≡_ {A = ℕ} 0 1 = cc in omega arith)
+bad-image-text c (refusedAt e p) is = absurd (let z : _≡_ {A = ℕ} 0 1 = cc in omega arith)
 
 -- of a call that answered r, with the body b′ at exit
-module _ {b : Body} {v : List ℕ} {c : Counts} {defined : Called} {b′ : Body} {v′ : List ℕ} where
+module _ {b : Body} {v : List ℕ} {c : Counts} {defined : Called Out} {b′ : Body} {v′ : List ℕ} where
   -- the text is what the definition prints
-  pub answered : (r : MatchCall) → Visits b v c defined r b′ v′ → answerText b′ r ≡ callText defined
+  pub answered : (r : MatchCall) → Visits matchWay matchCtx b v c defined r b′ v′ → answerText b′ r ≡ callText defined
   unfolding answerText
-  answered (MatchCall.Matched c′ then els) G = accepted-text defined b′ (G .gives .reply) (G .gives .reads)
-  answered (MatchCall.Refused e p) G = refused-text defined (G .gives .reply)
-  answered MatchCall.BadCall G = bad-call-text defined (G .gives .reply)
-  answered MatchCall.BadImage G = bad-image-text defined (G .gives .reply)
+  answered (MatchCall.Matched c′ then els) G = accepted-text b c defined b′ (G .gives .reply) (G .gives .holds) .0
+  answered (MatchCall.Refused e p) G = refused-text c defined (G .gives .reply)
+  answered MatchCall.BadCall G = bad-call-text c defined (G .gives .reply)
+  answered MatchCall.BadImage G = bad-image-text c defined (G .gives .reply)
 
   -- and the body can be listed
-  pub listable : (r : MatchCall) → Visits b v c defined r b′ v′ → Listable r
+  pub listable : (r : MatchCall) → Visits matchWay matchCtx b v c defined r b′ v′ → Listable r
   listable (MatchCall.Matched c′ then els) G =
-      let R = accepted-ready defined b′ (G .gives .reply) (G .gives .ready) in
+      let R = accepted-text b c defined b′ (G .gives .reply) (G .gives .holds) .1 in
       (R .block-count, R .statement-count, R .local-count)
   listable (MatchCall.Refused e p) G = tt
   listable MatchCall.BadCall G = tt

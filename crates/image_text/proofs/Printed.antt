@@ -25,9 +25,11 @@ use Rattle.body_calls_spec.proofs.Prologue.{read-valid, read-refused, whole-of}
 use Rattle.listing_text.specs.declared.pen.Pen.{Pen}
 use Rattle.listing_text.specs.Listing.{refusalText}
 use Rattle.listing_text.specs.Writing.{Wrote}
-use Rattle.pattern_matching.specs.Walking.{localPlace}
+use Rattle.pattern_matching.specs.Walking.{Out, localPlace}
 use Rattle.pattern_calls_spec.specs.declared.MatchCall.{MatchCall}
-use Rattle.pattern_calls_spec.specs.Calls.{Called, patternMatchCall, Visits}
+use Rattle.calls_spec.specs.Calls.{Called}
+use Rattle.pattern_walk_spec.specs.Calls.{Visits}
+use Rattle.pattern_calls_spec.specs.Calls.{patternMatchCall, matchWay, matchCtx}
 use Rattle.listing_start.specs.Started.{lastPattern, startType, startState, bindingLocals}
 use Rattle.image_text.specs.Listed.{listingCall, callText, typedText, imageText, Printed}
 
@@ -57,9 +59,9 @@ unfolding listingCall
 same-call {image} H = λ i. patternMatchCall image (H .locals i) (H .tables i) (H .counts i) (H .pattern i) (record { 0 = 0 }) OptBlock.None (H .at i)
 
 pub called : {image : List ℕ} {t : ℕ} {bindings : List ℕ} {b : Body} {v : List ℕ} {c : Counts} {p : ℕ} {place : Place} {r : MatchCall} {b′ : Body} {v′ : List ℕ} →
-    Handed image t bindings b v c p place → Visits b v c (patternMatchCall image bindings b c p (record { 0 = 0 }) OptBlock.None place) r b′ v′ →
-    Visits b v c (listingCall image t) r b′ v′
-called {b = b} {v = v} {c = c} {r = r} {b′ = b′} {v′ = v′} H G = subst (λ (x : Called). Visits b v c x r b′ v′) (same-call H) G
+    Handed image t bindings b v c p place → Visits matchWay matchCtx b v c (patternMatchCall image bindings b c p (record { 0 = 0 }) OptBlock.None place) r b′ v′ →
+    Visits matchWay matchCtx b v c (listingCall image t) r b′ v′
+called {b = b} {v = v} {c = c} {r = r} {b′ = b′} {v′ = v′} H G = subst (λ (x : Called Out). Visits matchWay matchCtx b v c x r b′ v′) (same-call H) G
 
 -- the ways through `put_image`: the image is refused
 module _ (image : List ℕ) where

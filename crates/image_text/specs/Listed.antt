@@ -11,26 +11,24 @@ use Rattle.state.specs.State.{Body, decode, encode, countsOf}
 use Rattle.lower_spec.specs.declared.merging.OptBlock.{OptBlock}
 use Rattle.views.specs.Views.{mirOf}
 use Rattle.listing_text.specs.Listing.{listing, refusalText}
-use Rattle.pattern_matching.specs.Walking.{Out, Walk, ok, refused, localPlace}
+use Rattle.pattern_matching.specs.Walking.{Out, localPlace}
 use Rattle.pattern_calls_spec.specs.declared.MatchCall.{MatchCall}
-use Rattle.pattern_calls_spec.specs.Calls.{Called, badImage, badCall, walked, patternMatchCall}
+use Rattle.calls_spec.specs.Calls.{Called, badImage, badCall, refusedAt, accepted}
+use Rattle.pattern_calls_spec.specs.Calls.{patternMatchCall}
 use Rattle.listing_start.specs.Started.{lastPattern, startType, startState, bindingLocals}
 
 -- the call of `pattern_match`: from block 0, with no else, on local 0 of the type t
-unfoldable pub listingCall : List ℕ → ℕ → Called
+unfoldable pub listingCall : List ℕ → ℕ → Called Out
 listingCall image t =
     patternMatchCall image (bindingLocals image) (encode (startState image t)) (countsOf (startState image t)) (lastPattern image)
     (record { 0 = 0 }) OptBlock.None (localPlace (record { 0 = 0 }))
 
 -- the text of what the call gives: the listing, or the refusal
-unfoldable pub walkText : Walk Out → List ℕ
-walkText (ok r) = listing (r .then) (r .else) (mirOf (r .ctx .state))
-walkText (refused e p) = refusalText (refusalAt e p)
-
-unfoldable pub callText : Called → List ℕ
+unfoldable pub callText : Called Out → List ℕ
 callText badImage = refusalText breaksARule
 callText badCall = refusalText namesNothing
-callText (walked w) = walkText w
+callText (refusedAt e p) = refusalText (refusalAt e p)
+callText (accepted r) = listing (r .then) (r .else) (mirOf (r .ctx .state))
 
 -- "(2 if none)"
 unfoldable pub typedText : List ℕ → Option ℕ → List ℕ

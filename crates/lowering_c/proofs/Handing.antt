@@ -11,7 +11,8 @@ use Rattle.mir.specs.declared.Counts.{Counts}
 use Rattle.state.specs.State.{Body}
 use Rattle.lower_spec.specs.declared.merging.OptBlock.{OptBlock}
 use Rattle.pattern_calls_spec.specs.declared.MatchCall.{MatchCall}
-use Rattle.pattern_calls_spec.specs.Calls.{patternMatchCall, Visits}
+use Rattle.pattern_walk_spec.specs.Calls.{Visits}
+use Rattle.pattern_calls_spec.specs.Calls.{patternMatchCall, matchWay, matchCtx}
 use Rattle.pattern_calls_spec.proofs.Stepping.{visits-by}
 use Rattle.lowering_c.specs.Words.{blockWord, answerWords, refusalWords, Answered}
 
@@ -29,7 +30,7 @@ refused-words is number reason = rw (is, number, reason)
 
 -- what the call gives is handed out: e is the else that its words say
 pub hands-out : (image bindings : List ℕ) (p : ℕ) (current : BasicBlockId) (place : Place) {b b′ : Body} {v v′ : List ℕ} {c : Counts} {e e′ : OptBlock} {r : MatchCall} {words : List ℕ} →
-    e ≡ e′ → Visits b v c (patternMatchCall image bindings b c p current e place) r b′ v′ → words ≡ answerWords r →
+    e ≡ e′ → Visits matchWay matchCtx b v c (patternMatchCall image bindings b c p current e place) r b′ v′ → words ≡ answerWords r →
     Answered b v c (patternMatchCall image bindings b c p current e′ place) words b′ v′
 hands-out image bindings p current place {b = b} {v = v} {c = c} ise G is =
     let G′ = visits-by (λ i. patternMatchCall image bindings b c p current (ise i) place) G in

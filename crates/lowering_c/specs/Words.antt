@@ -11,8 +11,10 @@ use Rattle.mir.specs.declared.Counts.{Counts}
 use Rattle.state.specs.State.{Body}
 use Rattle.lower_spec.specs.declared.merging.OptBlock.{OptBlock}
 use Rattle.pattern_calls_spec.specs.declared.MatchCall.{MatchCall}
-use Rattle.pattern_matching.specs.Walking.{localPlace}
-use Rattle.pattern_calls_spec.specs.Calls.{Called, answer, bodyAfter, visitsAfter, patternMatchCall}
+use Rattle.pattern_matching.specs.Walking.{Out, localPlace}
+use Rattle.calls_spec.specs.Calls.{Called, bodyAfter}
+use Rattle.pattern_walk_spec.specs.Calls.{visitsAfter}
+use Rattle.pattern_calls_spec.specs.Calls.{matchAnswer, matchWay, matchCtx, patternMatchCall}
 
 -- a block's number, or 65535 for none
 unfoldable pub blockOrNone : ℕ → OptBlock
@@ -40,10 +42,10 @@ answerWords MatchCall.BadCall = refusalWords 2 65535 0
 answerWords MatchCall.BadImage = refusalWords 1 65535 0
 
 -- what a call promises: the words of the answer, and the tables b′ and v′ at exit, are those that the definition gives, from the tables b and v
-pub record Answered (b : Body) (v : List ℕ) (c : Counts) (defined : Called) (words : List ℕ) (b′ : Body) (v′ : List ℕ) : Type 0 where
-  pub answers : words ≡ answerWords (answer defined)
-  pub tables : b′ ≡ bodyAfter b c defined
-  pub visits : v′ ≡ visitsAfter v defined
+pub record Answered (b : Body) (v : List ℕ) (c : Counts) (defined : Called Out) (words : List ℕ) (b′ : Body) (v′ : List ℕ) : Type 0 where
+  pub answers : words ≡ answerWords (matchAnswer c defined)
+  pub tables : b′ ≡ bodyAfter (matchWay .stateOf) b c defined
+  pub visits : v′ ≡ visitsAfter matchCtx v defined
 
 -- the contract, of what the call is handed, nine words among it: the five counts, the pattern, the block to start from, the else and the local
 abbrev pub WordsGive : List ℕ → List ℕ → List ℕ → Body → List ℕ → List ℕ → Body → List ℕ → Type 0

@@ -17,8 +17,9 @@ use Rattle.mir.specs.declared.rvalues.Constant.{Constant}
 use Rattle.mir.specs.declared.rvalues.Left.{Left}
 use Rattle.state.specs.State.{Body, decode}
 use Rattle.state.proofs.Words.{length-words}
-use Rattle.body_row_rules.specs.Bodies.{wordOf, isBlock, isLocal, tablesSized, countsWithin, blockHolds, elemAtHolds, placeHolds, constantHolds, leftHolds, rvalueHolds, statementHolds, localHolds, scopeHolds, entryHolds, entriesBelong, bodyHolds}
-use Rattle.body_row_rules.proofs.Checked.{sizes, within, entry-local}
+use Rattle.calls_spec.specs.Lengths.{Lengths}
+use Rattle.body_row_rules.specs.Bodies.{wordOf, isBlock, isLocal, countsWithin, blockHolds, elemAtHolds, placeHolds, constantHolds, leftHolds, rvalueHolds, statementHolds, localHolds, scopeHolds, entryHolds, entriesBelong, bodyHolds}
+use Rattle.body_row_rules.proofs.Checked.{within, entry-local}
 use Rattle.views.specs.Views.{set, unknown, Line, word, terminatorKinds, terminatorOf, pathOf, constantAt, leftOf, statementKinds, lineOf, mirOf}
 use Rattle.named.specs.Named.{LeftBelow, StatementBelow, TerminatorBelow, Throughout, NamesBelow, NamedBelow}
 use Rattle.named.proofs.Rows.{each-made}
@@ -127,20 +128,18 @@ module _ (types variants : ℕ) (table : List ℕ) (c : Counts) (i : ℕ) where
       by l (suc (suc (suc (suc (suc (suc (suc (suc (suc (suc (suc (suc (suc k))))))))))))) e = (l, tt)
 
 -- a body that may be handed in
-pub handed-named : (types variants : ℕ) (b : Body) (c : Counts) → bodyHolds types variants (b .blocks) (b .statements) (b .locals) (b .scopes) (b .entries) c ≡ true → NamedBelow (decode b c)
+pub handed-named : (types variants : ℕ) (b : Body) (c : Counts) → Lengths b → bodyHolds types variants (b .blocks) (b .statements) (b .locals) (b .scopes) (b .entries) c ≡ true → NamedBelow (decode b c)
 unfolding bodyHolds decode mirOf
-handed-named types variants b c h = subst (λ (n : ℕ). NamesBelow n (decode b c)) (sym counted) names
+handed-named types variants b c long h = subst (λ (n : ℕ). NamesBelow n (decode b c)) (sym counted) names
   where
     counted : length (take (c .locals) (b .locals)) ≡ c .locals
     counted =
-        let long = sizes types variants (b .blocks) (b .statements) (b .locals) (b .scopes) (b .entries) c h .locals in
         let few = within types variants (b .blocks) (b .statements) (b .locals) (b .scopes) (b .entries) c h .locals in
-        length-words (b .locals) (c .locals) (omega (arith, long, few))
+        length-words (b .locals) (c .locals) (omega (arith, long .locals, few))
 
     tests : List Bool
     tests =
-        tablesSized (b .blocks) (b .statements) (b .locals) (b .scopes) (b .entries)
-        ∷ countsWithin c
+        countsWithin c
         ∷ allBelow (blockHolds (b .blocks) c) (c .blocks)
         ∷ allBelow (statementHolds types variants (b .statements) c) (c .statements)
         ∷ allBelow (localHolds types (b .locals)) (c .locals)
@@ -153,8 +152,8 @@ handed-named types variants b c h = subst (λ (n : ℕ). NamesBelow n (decode b 
     names =
         record {
           statements = rows-each (λ (x : Line). StatementBelow (c .locals) (x .statement)) lineOf 49 (b .statements) (c .statements)
-              (λ i l. statement-named types variants (b .statements) c i (below-at (statementHolds types variants (b .statements) c) (c .statements) i (all-true-at tests 3 h) l));
+              (λ i l. statement-named types variants (b .statements) c i (below-at (statementHolds types variants (b .statements) c) (c .statements) i (all-true-at tests 2 h) l));
           terminators = rows-each (TerminatorBelow (c .locals)) terminatorOf 12 (b .blocks) (c .blocks)
-              (λ i l. block-named (b .blocks) c i (below-at (blockHolds (b .blocks) c) (c .blocks) i (all-true-at tests 2 h) l));
+              (λ i l. block-named (b .blocks) c i (below-at (blockHolds (b .blocks) c) (c .blocks) i (all-true-at tests 1 h) l));
           entries = words-each (c .locals) (b .entries) (c .entries) (λ i l. entry-local types variants (b .blocks) (b .statements) (b .locals) (b .scopes) (b .entries) c h i l);
         }

@@ -16,8 +16,8 @@ use Rattle.state.specs.State.{Body}
 use Rattle.body_row_rules.specs.Bodies.{bodyHolds}
 use Rattle.body_calls_spec.specs.declared.Opened.{Opened}
 use Rattle.body_calls_spec.specs.Calls.{bodyTaken}
-use Rattle.body_calls_spec.specs.Sizes.{Taken}
-use Rattle.body_calls_spec.proofs.Prologue.{read-valid, read-refused, whole-of, opens-image, opens-no-body, not-taken, taken}
+use Rattle.calls_spec.specs.Lengths.{Lengths}
+use Rattle.body_calls_spec.proofs.Prologue.{read-valid, read-refused, whole-of, opens-image, opens-no-body, not-taken, Looked, looked}
 use Rattle.params_spec.specs.declared.SelfParam.{SelfParam}
 use Rattle.params_spec.specs.Calls.{listHolds, paramsHold}
 use Rattle.param_locals.specs.Looking.{openedParams, ParamsTaken}
@@ -28,8 +28,8 @@ read-whole image tables e = let v = read-valid image tables e in rw (v .1) (whol
 
 -- image and body are taken
 pub both-taken : (image : List ℕ) (b : Body) (c : Counts) (tables : Tables) {r : Bool} → Read.Image tables ≡ readOf image →
-    r ≡ bodyHolds (tables .types .count) (tables .variants .count) (b .blocks) (b .statements) (b .locals) (b .scopes) (b .entries) c → r ≡ true → Taken image tables b c
-both-taken image b c tables read is t = taken image b c (opens-image image b c tables read is t)
+    r ≡ bodyHolds (tables .types .count) (tables .variants .count) (b .blocks) (b .statements) (b .locals) (b .scopes) (b .entries) c → r ≡ true → Looked image b c tables
+both-taken image b c tables read is t = looked image b c (opens-image image b c tables read is t)
 
 module _ (image words : List ℕ) (self : SelfParam) (bindings : List ℕ) (b : Body) (c : Counts) (current : BasicBlockId) where
   -- what `open_params` gives
@@ -88,10 +88,10 @@ module _ (image words : List ℕ) (self : SelfParam) (bindings : List ℕ) (b : 
       go false t q = absurd (let z : _≡_ {A = ℕ} 0 1 = cc in omega arith)
 
   -- all is taken
-  pub params-taken : {tables : Tables} → Opened.Image tables ≡ openedParams image words self bindings b c current →
+  pub params-taken : {tables : Tables} → Opened.Image tables ≡ openedParams image words self bindings b c current → Lengths b →
       ParamsTaken image tables words self bindings b c current
   unfolding openedParams
-  params-taken {tables = tables} e = go (valid image && listHolds image self words) (bodyTaken image b c && paramsHold image self bindings (b .blocks) c current) refl refl e
+  params-taken {tables = tables} e long = go (valid image && listHolds image self words) (bodyTaken image b c && paramsHold image self bindings (b .blocks) c current) refl refl e
     where
       go : (v t : Bool) → valid image && listHolds image self words ≡ v → bodyTaken image b c && paramsHold image self bindings (b .blocks) c current ≡ t →
           Opened.Image tables ≡ cond v (cond t (Opened.Image (tablesOf image)) Opened.BadCall) Opened.BadImage → ParamsTaken image tables words self bindings b c current
@@ -100,7 +100,7 @@ module _ (image words : List ℕ) (self : SelfParam) (bindings : List ℕ) (b : 
           let v = and-left (valid image) (listHolds image self words) f in
           let held = paramsHold image self bindings (b .blocks) c current in
           record {
-            both = record { valid-image = v; whole = rw same (whole-of image v); body = and-left (bodyTaken image b c) held h };
+            both = record { lengths = long; valid-image = v; whole = rw same (whole-of image v); body = and-left (bodyTaken image b c) held h };
             list = and-right (valid image) (listHolds image self words) f;
             call = and-right (bodyTaken image b c) held h;
           }

@@ -11,7 +11,7 @@ use Rattle.mir.specs.declared.Counts.{Counts}
 use Rattle.state.specs.State.{Body}
 use Rattle.body_calls_spec.specs.declared.Opened.{Opened}
 use Rattle.body_calls_spec.specs.Calls.{bodyTaken}
-use Rattle.body_calls_spec.specs.Sizes.{Taken}
+use Rattle.body_calls_spec.specs.Sizes.{TakenLengths, Taken}
 use Rattle.params_spec.specs.declared.SelfParam.{SelfParam}
 use Rattle.params_spec.specs.Calls.{listHolds, paramsHold}
 
@@ -20,6 +20,11 @@ unfoldable pub openedParams : List ℕ → List ℕ → SelfParam → List ℕ �
 openedParams image words self bindings b c current =
     cond (valid image && listHolds image self words)
     (cond (bodyTaken image b c && paramsHold image self bindings (b .blocks) c current) (Opened.Image (tablesOf image)) Opened.BadCall) Opened.BadImage
+
+-- what `open_params` answers
+pub record OpensParams (image words : List ℕ) (self : SelfParam) (bindings : List ℕ) (b : Body) (c : Counts) (current : BasicBlockId) (r : Opened) : Type 0 where
+  pub answer : r ≡ openedParams image words self bindings b c current
+  pub lengths : TakenLengths r b
 
 -- image, list, body and the call's own values are taken
 pub record ParamsTaken (image : List ℕ) (tables : Tables) (words : List ℕ) (self : SelfParam) (bindings : List ℕ) (b : Body) (c : Counts) (current : BasicBlockId) : Type 0 where

@@ -15,7 +15,7 @@ ghost use mathlib.Core.Path.{_≡_};
 ghost use Prim.Native.Nat.{_≤_};
 ghost use Rattle.image.specs.Tables.{Whole};
 ghost use Rattle.params_spec.specs.Calls.{selfNamed, paramsHold};
-ghost use Rattle.param_locals.specs.Looking.{openedParams};
+ghost use Rattle.param_locals.specs.Looking.{OpensParams};
 ghost use Rattle.body_tables.specs.Layout.{bodyOf};
 
 // Self names a binding and a type.
@@ -64,7 +64,7 @@ pub fn open_params(
     counts: Counts,
     current: BasicBlockId,
 ) -> Opened
-    ensures { λ r. ⌜ r ≡ openedParams (now (image .entry)) (now (words .entry)) receiver (now (bindings .entry)) (bodyOf (now (body .entry))) counts current ⌝ }
+    ensures { λ r. ⌜ OpensParams (now (image .entry)) (now (words .entry)) receiver (now (bindings .entry)) (bodyOf (now (body .entry))) counts current r ⌝ }
 {
     let Read::Image(tables) = read_image(image) else {
         return Opened::BadImage;

@@ -19,15 +19,17 @@ use Rattle.mir.specs.declared.Counts.{Counts}
 use Rattle.state.specs.State.{Body, decode}
 use Rattle.lower_spec.specs.declared.merging.OptBlock.{OptBlock}
 use Rattle.lower_spec.specs.Temps.{bindingLocal}
+use Rattle.calls_spec.specs.Calls.{Called, badImage, badCall, call}
 use Rattle.body_calls_spec.specs.Calls.{bodyTaken}
 use Rattle.pattern_matching.specs.Walking.{Ctx, Out, Walk, next, step, out, withState}
 use Rattle.pattern_matching.specs.Walking.{ok as gives}
 use Rattle.pattern_matching.specs.Patterns.{matchSelfParam}
 use Rattle.pattern_walk_spec.specs.Answers.{ctxOf}
+use Rattle.pattern_walk_spec.specs.Calls.{byWalk, startCtx}
 use Rattle.handed.specs.Handed.{bindingHolds, bindingsHold}
 use Rattle.params_spec.specs.declared.SelfParam.{SelfParam}
 use Rattle.params_spec.specs.Params.{Param, Declared, ParamsOut, declare, shut, unlessBound, lowerParams, selfCount, lowerAll, lowerParamsAndBindings}
-use Rattle.params_spec.specs.Calls.{ParamsCalled, badImage, badCall, walked, paramsOf, listFormed, receiverApart, listHolds, selfNamed, paramsHold, paramsCall}
+use Rattle.params_spec.specs.Calls.{paramsOf, listFormed, receiverApart, listHolds, selfNamed, paramsHold, paramsCall}
 use Rattle.param_runs.proofs.Declaring.{makes-count, all-made}
 
 -- self, whose local is l, from the block `current` on: a binding with another local is filled by `match_self_param`
@@ -50,11 +52,10 @@ lowerWithSelf image self params bindings ctx current =
     lowerAllWithSelf image (d .bindings) self params (length (ctx .state .locals)) (withState ctx (d .state)) current)
 
 -- the call with that step
-unfoldable pub callWithSelf : List ℕ → List ℕ → SelfParam → List ℕ → Body → Counts → BasicBlockId → ParamsCalled
+unfoldable pub callWithSelf : List ℕ → List ℕ → SelfParam → List ℕ → Body → Counts → BasicBlockId → Called ParamsOut
 callWithSelf image words self bindings b c current =
-    cond (valid image && listHolds image self words)
-    (cond (bodyTaken image b c && paramsHold image self bindings (b .blocks) c current)
-    (walked (lowerWithSelf image self (paramsOf words) bindings (ctxOf b c (zeros 512)) current)) badCall) badImage
+    call (valid image && listHolds image self words) (bodyTaken image b c && paramsHold image self bindings (b .blocks) c current)
+    (byWalk (lowerWithSelf image self (paramsOf words) bindings (startCtx b c) current))
 
 -- self's binding has the local l
 abbrev pub SelfHas : SelfParam → List ℕ → ℕ → Type 0
@@ -109,20 +110,20 @@ module _ (image : List ℕ) (self : SelfParam) (params : List Param) (bindings :
 
 -- what a call is handed that is taken
 module _ (image words : List ℕ) (self : SelfParam) (bindings : List ℕ) (b : Body) (c : Counts) (current : BasicBlockId)
-    (list : listHolds image self words ≡ true) (call : paramsHold image self bindings (b .blocks) c current ≡ true) where
+    (list : listHolds image self words ≡ true) (held : paramsHold image self bindings (b .blocks) c current ≡ true) where
   taken-apart : receiverApart image self (paramsOf words) ≡ true
   unfolding listHolds
   taken-apart = and-right (listFormed image words) (receiverApart image self (paramsOf words)) list
 
   taken-named : selfNamed image self ≡ true
   unfolding paramsHold allTrue
-  taken-named = and-left (selfNamed image self) _ call
+  taken-named = and-left (selfNamed image self) _ held
 
   taken-long : length bindings ≡ bindingCount image
   unfolding paramsHold allTrue bindingsHold
   taken-long =
-      let held = and-left (bindingsHold (bindingCount image) c bindings) _ (and-right (selfNamed image self) _ call) in
-      eqb-true (length bindings) (bindingCount image) (and-left (eqb (length bindings) (bindingCount image)) (allIn (bindingHolds c) bindings) held)
+      let rest = and-left (bindingsHold (bindingCount image) c bindings) _ (and-right (selfNamed image self) _ held) in
+      eqb-true (length bindings) (bindingCount image) (and-left (eqb (length bindings) (bindingCount image)) (allIn (bindingHolds c) bindings) rest)
 
   -- When all locals are made, self's binding has self's own local.
   pub self-has-its-own-local : (made : Declared) → declare image self (paramsOf words) (record { state = decode b c; bindings = bindings }) ≡ done made →
@@ -144,7 +145,7 @@ guarded false t u v x y z w f = refl
 -- The call with that step is the call without it, whatever it is handed.
 pub the-step-for-self-has-no-input : (image words : List ℕ) (self : SelfParam) (bindings : List ℕ) (b : Body) (c : Counts) (current : BasicBlockId) →
     callWithSelf image words self bindings b c current ≡ paramsCall image words self bindings b c current
-unfolding callWithSelf paramsCall
+unfolding callWithSelf paramsCall call
 the-step-for-self-has-no-input image words self bindings b c current =
-    guarded (valid image) (listHolds image self words) (bodyTaken image b c) (paramsHold image self bindings (b .blocks) c current) _ _ badCall badImage (λ list call.
-    ap walked (same-walk image words self bindings b c current list call))
+    guarded (valid image) (listHolds image self words) (bodyTaken image b c) (paramsHold image self bindings (b .blocks) c current) _ _ badCall badImage (λ list names.
+    ap byWalk (same-walk image words self bindings b c current list names))

@@ -20,10 +20,9 @@ use params_spec::SelfParam;
 use pattern_entering::VISIT_WORDS;
 use pattern_walk_spec::Lowered;
 use row_tables::clear_from;
-ghost use Rattle.row_tables.specs.Rows.{zeros};
-ghost use Rattle.pattern_walk_spec.specs.Answers.{ctxOf};
+ghost use Rattle.pattern_walk_spec.specs.Calls.{byWalk, startCtx};
 ghost use Rattle.params_spec.specs.Params.{lowerParamsAndBindings};
-ghost use Rattle.params_spec.specs.Calls.{walked, paramsOf, GivesParams, ParamsGives};
+ghost use Rattle.params_spec.specs.Calls.{paramsOf, GivesParams, ParamsGives};
 ghost use Rattle.param_locals.specs.Looking.{ParamsTaken};
 ghost use Rattle.body_tables.specs.Layout.{bodyOf};
 
@@ -40,7 +39,7 @@ fn params_step(
     current: BasicBlockId,
 ) -> ParamsCall
     requires { ⌜ ParamsTaken (now image) tables (now words) receiver (now bindings) (bodyOf (now body)) counts current ⌝ }
-    ensures { λ r. ⌜ GivesParams (now (bindings .entry)) (bodyOf (now (body .entry))) (now (visits .entry)) counts (walked (lowerParamsAndBindings (now (image .entry)) receiver (paramsOf (now (words .entry))) (now (bindings .entry)) (ctxOf (bodyOf (now (body .entry))) counts (zeros 512)) current)) r (now (bindings .exit)) (bodyOf (now (body .exit))) (now (visits .exit)) ⌝ }
+    ensures { λ r. ⌜ GivesParams (now (bindings .entry)) (bodyOf (now (body .entry))) (now (visits .entry)) counts (byWalk (lowerParamsAndBindings (now (image .entry)) receiver (paramsOf (now (words .entry))) (now (bindings .entry)) (startCtx (bodyOf (now (body .entry))) counts) current)) r (now (bindings .exit)) (bodyOf (now (body .exit))) (now (visits .exit)) ⌝ }
 {
     let row = block_row(body, current);
     let saved = saved_words(bindings);

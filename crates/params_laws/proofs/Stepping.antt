@@ -20,31 +20,32 @@ use Rattle.mir.specs.declared.BasicBlockId.{BasicBlockId}
 use Rattle.mir.specs.declared.Counts.{Counts}
 use Rattle.mir.specs.Blocks.{isOpen}
 use Rattle.state.specs.State.{Body, State, decode, encode}
-use Rattle.state.specs.Contracts.{Ready}
 use Rattle.body_row_rules.specs.Bodies.{isBlock, countsWithin}
 use Rattle.lower_spec.specs.declared.merging.OptBlock.{OptBlock}
+use Rattle.calls_spec.specs.Calls.{Called}
 use Rattle.body_calls_spec.specs.Sizes.{Sized}
-use Rattle.body_calls_spec.proofs.Clearing.{Cleared, clears, held, counted}
+use Rattle.body_calls_spec.proofs.Clearing.{Cleared, clears, counted}
 use Rattle.body_calls_spec.proofs.Prologue.{taken-sized}
+use Rattle.body_calls_spec.proofs.Replying.{accepts, refuses}
 use Rattle.body_calls_spec.proofs.Restoring.{put-back}
 use Rattle.pattern_walk_spec.specs.declared.Lowered.{Lowered}
-use Rattle.pattern_walk_spec.specs.Answers.{ctxOf}
+use Rattle.pattern_walk_spec.specs.Calls.{byWalk, startCtx}
 use Rattle.handed.specs.Handed.{startHolds, bindingHolds, bindingsHold}
 use Rattle.pattern_calls_spec.proofs.Starting.{no-visits, visits-cleared, row-found}
 use Rattle.body_tables.specs.Layout.{blockWidth, blockWords, withBlocks}
 use Rattle.body_opening.proofs.Replying.{few-counts}
 use Rattle.params_spec.specs.declared.SelfParam.{SelfParam}
 use Rattle.params_spec.specs.declared.ParamsCall.{ParamsCall}
-use Rattle.params_spec.specs.Params.{lowerParamsAndBindings}
-use Rattle.params_spec.specs.Calls.{ParamsCalled, walked, paramsOf, numbers, selfNamed, paramsHold, GivesParams}
+use Rattle.params_spec.specs.Params.{ParamsOut, lowerParamsAndBindings}
+use Rattle.params_spec.specs.Calls.{paramsOf, paramsRefusal, selfNamed, paramsHold, GivesParams}
 use Rattle.param_locals.specs.Looking.{ParamsTaken}
 use Rattle.param_lists.proofs.Listing.{taken-formed}
 use Rattle.params_laws.specs.Walking.{Startable, WalksParams}
 
 -- the same by another name
-pub params-by : {bindings bindings′ v v′ : List ℕ} {b b′ : Body} {c : Counts} {given defined : ParamsCalled} {r : ParamsCall} → given ≡ defined →
-    GivesParams bindings b v c given r bindings′ b′ v′ → GivesParams bindings b v c defined r bindings′ b′ v′
-params-by {bindings = bindings} {bindings′ = bindings′} {v = v} {v′ = v′} {b = b} {b′ = b′} {c = c} {r = r} e G = subst (λ x. GivesParams bindings b v c x r bindings′ b′ v′) e G
+pub params-by : {m m′ v v′ : List ℕ} {b b′ : Body} {c : Counts} {given defined : Called ParamsOut} {r : ParamsCall} → given ≡ defined →
+    GivesParams m b v c given r m′ b′ v′ → GivesParams m b v c defined r m′ b′ v′
+params-by {m = m} {m′ = m′} {v = v} {v′ = v′} {b = b} {b′ = b′} {c = c} {r = r} e G = subst (λ x. GivesParams m b v c x r m′ b′ v′) e G
 
 -- a valid image has at most 256 bindings
 bindings-few : (image : List ℕ) → valid image ≡ true → bindingCount image ≤ 256
@@ -129,20 +130,20 @@ module _ {image : List ℕ} {tables : Tables} {words : List ℕ} {self : SelfPar
       -- the walk is accepted
       pub lowered : {c′ : Counts} {then : BasicBlockId} {els : OptBlock} {t : Body} {v′ m : List ℕ} {r : ParamsCall} → r ≡ ParamsCall.Lowered c′ then (record { 0 = c .locals }) →
           WalksParams (λ ctx. lowerParamsAndBindings image self (paramsOf words) bindings ctx current) c current b₁ v₁ (Lowered.Done c′ then els) t v′ m →
-          GivesParams bindings b visits c (walked (lowerParamsAndBindings image self (paramsOf words) bindings (ctxOf b c (zeros 512)) current)) r m t v′
+          GivesParams bindings b visits c (byWalk (lowerParamsAndBindings image self (paramsOf words) bindings (startCtx b c) current)) r m t v′
       lowered {c′ = c′} {then = then} {t = t} is-answer W =
           let A = W .answers (zeros 512) (step-cleared .ready) (no-visit ∙ no-visits) in
           let ready = A .answers .goes .0 in
-          params-by
-          (ap walked (A .answers .says ∙ ap (λ (st : State). lowerParamsAndBindings image self (paramsOf words) bindings (record { state = st; visits = zeros 512 }) current) (step-cleared .same)))
+          let is-walk = A .answers .says ∙ ap (λ (st : State). lowerParamsAndBindings image self (paramsOf words) bindings (record { state = st; visits = zeros 512 }) current) (step-cleared .same) in
+          params-by (ap byWalk is-walk)
           (record {
-            reply = is-answer ∙ ap (λ (n : Counts). ParamsCall.Lowered n then (record { 0 = c .locals })) (sym (counted t c′ ready));
-            refusal = ap numbers is-answer;
-            tables = held t c′ ready;
-            reads = ap (decode t) (counted t c′ ready);
-            ready = subst (Ready t) (sym (counted t c′ ready)) ready;
+            visits = record {
+              gives = accepts c′ _ refl refl ready
+                  (is-answer ∙ ap (λ (n : Counts). ParamsCall.Lowered n then (record { 0 = c .locals })) (sym (counted t c′ ready)))
+                  (ap paramsRefusal is-answer);
+              visits = A .holds;
+            };
             locals = refl;
-            visits = A .holds;
           })
 
       -- it is refused: t is the body behind the walk, t₂ after the row of the block where it started was put back, and b₃ after zeros were written again; the bindings' locals
@@ -151,8 +152,8 @@ module _ {image : List ℕ} {tables : Tables} {words : List ℕ} {self : SelfPar
           WalksParams (λ ctx. lowerParamsAndBindings image self (paramsOf words) bindings ctx current) c current b₁ v₁ (Lowered.Refused err q) t v′ m →
           length (t .blocks) ≡ blockWords → length v′ ≡ 512 → length m ≡ length bindings → row ≡ rowAt blockWidth (b .blocks) (current .0) → take (length bindings) saved ≡ bindings →
           t₂ ≡ withBlocks t (stored (t .blocks) (blockWidth * current .0) row) → b₃ ≡ encode (decode t₂ c) → v₃ ≡ cleared v′ 0 → m₃ ≡ take (length m) saved →
-          GivesParams bindings b visits c (walked (lowerParamsAndBindings image self (paramsOf words) bindings (ctxOf b c (zeros 512)) current)) (ParamsCall.Refused err q) m₃ b₃ v₃
-      not-lowered {t = t} {v′ = v′} saved W long seen many is-row kept back again blank₃ put =
+          GivesParams bindings b visits c (byWalk (lowerParamsAndBindings image self (paramsOf words) bindings (startCtx b c) current)) (ParamsCall.Refused err q) m₃ b₃ v₃
+      not-lowered {err = err} {q = q} {t = t} {v′ = v′} saved W long seen many is-row kept back again blank₃ put =
           let C = step-cleared in
           let R = C .ready in
           let A = W .answers (zeros 512) R (no-visit ∙ no-visits) in
@@ -160,14 +161,9 @@ module _ {image : List ℕ} {tables : Tables} {words : List ℕ} {self : SelfPar
           let stored-row = back ∙ ap (λ (x : List ℕ). withBlocks t (stored (t .blocks) (blockWidth * current .0) x)) found in
           let rest = put-back c (current .0) b₁ t step-start (R .block-count) (R .blocks) long (A .answers .kept) in
           let same = ap (λ (x : Body). decode x c) stored-row ∙ rest ∙ C .same in
-          params-by
-          (ap walked (A .answers .says ∙ ap (λ (st : State). lowerParamsAndBindings image self (paramsOf words) bindings (record { state = st; visits = zeros 512 }) current) (C .same)))
+          let is-walk = A .answers .says ∙ ap (λ (st : State). lowerParamsAndBindings image self (paramsOf words) bindings (record { state = st; visits = zeros 512 }) current) (C .same) in
+          params-by (ap byWalk is-walk)
           (record {
-            reply = refl;
-            refusal = refl;
-            tables = again ∙ ap encode same;
-            reads = tt;
-            ready = tt;
+            visits = record { gives = refuses err (q .0) step-sized refl (again ∙ ap encode same) refl refl; visits = visits-cleared v′ seen blank₃ };
             locals = put ∙ ap (λ (n : ℕ). take n saved) many ∙ kept;
-            visits = visits-cleared v′ seen blank₃;
           })

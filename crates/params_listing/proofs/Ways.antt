@@ -12,6 +12,7 @@ use Rattle.mir.specs.declared.Counts.{Counts}
 use Rattle.state.specs.State.{Body}
 use Rattle.read_image.specs.declared.Read.{Read}
 use Rattle.read_image.specs.Read.{Reads}
+use Rattle.calls_spec.specs.Calls.{call}
 use Rattle.body_calls_spec.proofs.Prologue.{read-refused}
 use Rattle.listing_text.specs.Listing.{refusalText}
 use Rattle.params_spec.specs.declared.SelfParam.{SelfParam}
@@ -31,7 +32,7 @@ text-is S self list is = λ i. callText (no-locals S i) (is i) (same-call S self
 -- the ways through `put_params`
 module _ (image words : List ℕ) where
   pub prints-refused : {r : Read} → Reads image r → r ≡ Read.Refused → refusalText breaksARule ≡ paramsText image words
-  unfolding paramsText startText startCall paramsCall callText
+  unfolding paramsText startText startCall paramsCall call callText
   prints-refused R is = rw (read-refused image (sym is ∙ R .answer))
 
   pub too-few : valid image ≡ true → length words < 4 → refusalText namesNothing ≡ paramsText image words

@@ -1,12 +1,11 @@
 -- The public call on parameters: every image, list, body and number is taken, or refused by document 01's number. Assumes nothing: these are definitions.
 use Prim.Native.Nat.{ℕ, zero, suc, _+_, _*_, _/_}
 use mathlib.Core.Path.{_≡_}
-use mathlib.Core.Bool.{Bool, true, false, cond, not, _&&_}
+use mathlib.Core.Bool.{Bool, true, false, not, _&&_}
 use mathlib.Core.Option.{Option, none, some}
-use mathlib.Core.List.{List, [], _∷_, map}
+use mathlib.Core.List.{List, [], _∷_}
 use lib.Dec.{eqb, ltb, leb}
 use lib.ListN.{length, getD}
-use Rattle.row_tables.specs.Rows.{zeros}
 use Rattle.refusals.specs.Refusals.{Refusal, breaksARule, namesNothing, refusalAt}
 use Rattle.image.specs.Lists.{allTrue}
 use Rattle.image.specs.Tables.{typeCount, patternCount, bindingCount}
@@ -14,11 +13,12 @@ use Rattle.image.specs.Tree.{tree}
 use Rattle.image.specs.Valid.{valid}
 use Rattle.mir.specs.declared.BasicBlockId.{BasicBlockId}
 use Rattle.mir.specs.declared.Counts.{Counts}
-use Rattle.state.specs.State.{Body, decode, encode, countsOf}
-use Rattle.state.specs.Contracts.{Ready}
+use Rattle.state.specs.State.{Body, countsOf}
+use Rattle.calls_spec.specs.Calls.{Called, badImage, badCall, refusedAt, accepted, call, leaves}
+use Rattle.calls_spec.specs.Promises.{Way}
 use Rattle.body_calls_spec.specs.Calls.{bodyTaken}
-use Rattle.pattern_matching.specs.Walking.{Walk, ok, refused}
-use Rattle.pattern_walk_spec.specs.Answers.{ctxOf, visitWord}
+use Rattle.pattern_matching.specs.Walking.{Ctx}
+use Rattle.pattern_walk_spec.specs.Calls.{byWalk, startCtx, Visits}
 use Rattle.handed.specs.Handed.{bindingsHold, startHolds}
 use Rattle.params_spec.specs.declared.SelfParam.{SelfParam}
 use Rattle.params_spec.specs.declared.ParamsCall.{ParamsCall}
@@ -75,104 +75,41 @@ unfoldable pub paramsHold : List ℕ → SelfParam → List ℕ → List ℕ →
 paramsHold image self bindings blocks c current =
     allTrue (selfNamed image self ∷ bindingsHold (bindingCount image) c bindings ∷ startHolds blocks c current ∷ [])
 
--- what the call gives: the image or the list breaks a rule, the body or a number of the call names nothing, or what the walk gives
-pub data ParamsCalled : Type 0 where
-  badImage : ParamsCalled
-  badCall : ParamsCalled
-  walked : Walk ParamsOut → ParamsCalled
-
--- `lower_params_and_bindings`: "1 is tried before 2, both before the walk"
-unfoldable pub paramsCall : List ℕ → List ℕ → SelfParam → List ℕ → Body → Counts → BasicBlockId → ParamsCalled
+-- `lower_params_and_bindings`
+unfoldable pub paramsCall : List ℕ → List ℕ → SelfParam → List ℕ → Body → Counts → BasicBlockId → Called ParamsOut
 paramsCall image words self bindings b c current =
-    cond (valid image && listHolds image self words)
-    (cond (bodyTaken image b c && paramsHold image self bindings (b .blocks) c current)
-    (walked (lowerParamsAndBindings image self (paramsOf words) bindings (ctxOf b c (zeros 512)) current)) badCall) badImage
+    call (valid image && listHolds image self words) (bodyTaken image b c && paramsHold image self bindings (b .blocks) c current)
+    (byWalk (lowerParamsAndBindings image self (paramsOf words) bindings (startCtx b c) current))
 
 -- the answer: the counts, the block to go on from and the first parameter's local, which is the next one when the call comes
-abbrev pub walkAnswer : Counts → Walk ParamsOut → ParamsCall
-walkAnswer c (ok r) = ParamsCall.Lowered (countsOf (r .ctx .state)) (r .then) (record { 0 = c .locals })
-walkAnswer c (refused e p) = ParamsCall.Refused e (record { 0 = p })
+abbrev pub paramsAnswer : Counts → Called ParamsOut → ParamsCall
+paramsAnswer c badImage = ParamsCall.BadImage
+paramsAnswer c badCall = ParamsCall.BadCall
+paramsAnswer c (refusedAt e p) = ParamsCall.Refused e (record { 0 = p })
+paramsAnswer c (accepted r) = ParamsCall.Lowered (countsOf (r .ctx .state)) (r .then) (record { 0 = c .locals })
 
-abbrev pub answer : Counts → ParamsCalled → ParamsCall
-answer c badImage = ParamsCall.BadImage
-answer c badCall = ParamsCall.BadCall
-answer c (walked w) = walkAnswer c w
+-- document 01's three numbers, where it is a refusal
+abbrev pub paramsRefusal : ParamsCall → Option Refusal
+paramsRefusal (ParamsCall.Lowered c then first) = none
+paramsRefusal (ParamsCall.Refused e p) = some (refusalAt e (p .0))
+paramsRefusal ParamsCall.BadCall = some namesNothing
+paramsRefusal ParamsCall.BadImage = some breaksARule
 
--- document 01's three numbers, of an answer and of what is defined
-abbrev pub numbers : ParamsCall → Option Refusal
-numbers (ParamsCall.Lowered c then first) = none
-numbers (ParamsCall.Refused e p) = some (refusalAt e (p .0))
-numbers ParamsCall.BadCall = some namesNothing
-numbers ParamsCall.BadImage = some breaksARule
+-- how the call answers, and the context that an accepted walk leaves
+abbrev pub paramsWay : Way ParamsOut ParamsCall
+paramsWay = record { stateOf = λ r. r .ctx .state; answer = paramsAnswer; numbers = paramsRefusal }
 
-abbrev pub walkRefusal : Walk ParamsOut → Option Refusal
-walkRefusal (ok r) = none
-walkRefusal (refused e p) = some (refusalAt e p)
-
-abbrev pub refusalOf : ParamsCalled → Option Refusal
-refusalOf badImage = some breaksARule
-refusalOf badCall = some namesNothing
-refusalOf (walked w) = walkRefusal w
-
--- the tables after the call: zeros stand above the counts, and after a refusal what lies below them is as found
-abbrev pub walkBody : Body → Counts → Walk ParamsOut → Body
-walkBody b c (ok r) = encode (r .ctx .state)
-walkBody b c (refused e p) = encode (decode b c)
-
-abbrev pub bodyAfter : Body → Counts → ParamsCalled → Body
-bodyAfter b c badImage = b
-bodyAfter b c badCall = b
-bodyAfter b c (walked w) = walkBody b c w
-
--- an accepted body's tables, read with the counts that are handed out, hold the state that the definition gives
-abbrev pub ReadsWalk : Walk ParamsOut → Body → Type 0
-ReadsWalk (ok r) b = decode b (countsOf (r .ctx .state)) ≡ r .ctx .state
-ReadsWalk (refused e p) b = Unit
-
-abbrev pub Reads : ParamsCalled → Body → Type 0
-Reads badImage b = Unit
-Reads badCall b = Unit
-Reads (walked w) b = ReadsWalk w b
-
--- and they are ready for the next step: the counts are within the limits, and zeros stand above them
-abbrev pub ReadyWalk : Walk ParamsOut → Body → Type 0
-ReadyWalk (ok r) b = Ready b (countsOf (r .ctx .state))
-ReadyWalk (refused e p) b = Unit
-
-abbrev pub ReadyAfter : ParamsCalled → Body → Type 0
-ReadyAfter badImage b = Unit
-ReadyAfter badCall b = Unit
-ReadyAfter (walked w) b = ReadyWalk w b
+abbrev pub paramsCtx : ParamsOut → Ctx
+paramsCtx r = r .ctx
 
 -- the bindings' locals after the call: "as handed in" after a refusal
-abbrev pub walkBindings : List ℕ → Walk ParamsOut → List ℕ
-walkBindings bindings (ok r) = r .bindings
-walkBindings bindings (refused e p) = bindings
+abbrev pub bindingsAfter : List ℕ → Called ParamsOut → List ℕ
+bindingsAfter bindings = leaves bindings bindings (λ r. r .bindings)
 
-abbrev pub bindingsAfter : List ℕ → ParamsCalled → List ℕ
-bindingsAfter bindings badImage = bindings
-bindingsAfter bindings badCall = bindings
-bindingsAfter bindings (walked w) = walkBindings bindings w
-
--- the visits' table after the call: how often each pattern was visited, in all parameters together, or zeros after a refusal of the walk
-abbrev pub walkVisits : Walk ParamsOut → List ℕ
-walkVisits (ok r) = map visitWord (r .ctx .visits)
-walkVisits (refused e p) = zeros 512
-
-abbrev pub visitsAfter : List ℕ → ParamsCalled → List ℕ
-visitsAfter v badImage = v
-visitsAfter v badCall = v
-visitsAfter v (walked w) = walkVisits w
-
--- the call's promise: its answer r, the three numbers of a refusal, the body b′, the bindings' locals and the visits at exit are those that the definition gives
-pub record GivesParams (bindings : List ℕ) (b : Body) (v : List ℕ) (c : Counts) (defined : ParamsCalled) (r : ParamsCall) (bindings′ : List ℕ) (b′ : Body) (v′ : List ℕ) : Type 0 where
-  pub reply : r ≡ answer c defined
-  pub refusal : numbers r ≡ refusalOf defined
-  pub tables : b′ ≡ bodyAfter b c defined
-  pub reads : Reads defined b′
-  pub ready : ReadyAfter defined b′
-  pub locals : bindings′ ≡ bindingsAfter bindings defined
-  pub visits : v′ ≡ visitsAfter v defined
+-- the call's promise, with the visits' table and the bindings' locals: m before and m′ after
+pub record GivesParams (m : List ℕ) (b : Body) (v : List ℕ) (c : Counts) (defined : Called ParamsOut) (r : ParamsCall) (m′ : List ℕ) (b′ : Body) (v′ : List ℕ) : Type 0 where
+  pub visits : Visits paramsWay paramsCtx b v c defined r b′ v′
+  pub locals : m′ ≡ bindingsAfter m defined
 
 -- The contract, of what the call is handed, m, b and v being the bindings' locals, the body and the visits then, its answer r, and these three when it returns.
 abbrev pub ParamsGives : List ℕ → List ℕ → SelfParam → Counts → BasicBlockId → List ℕ → Body → List ℕ → ParamsCall → List ℕ → Body → List ℕ → Type 0

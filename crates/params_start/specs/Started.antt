@@ -10,8 +10,9 @@ use Rattle.image.specs.Tables.{bindingCount}
 use Rattle.mir.specs.declared.Counts.{Counts}
 use Rattle.state.specs.State.{Body, State, encode, countsOf}
 use Rattle.params_spec.specs.declared.SelfParam.{SelfParam}
-use Rattle.params_spec.specs.Params.{selfCount}
-use Rattle.params_spec.specs.Calls.{ParamsCalled, paramsCall}
+use Rattle.calls_spec.specs.Calls.{Called}
+use Rattle.params_spec.specs.Params.{ParamsOut, selfCount}
+use Rattle.params_spec.specs.Calls.{paramsCall}
 use Rattle.params_start.specs.declared.CallWords.{CallWords}
 
 -- block 0 opened, no local, and a scope or none
@@ -42,7 +43,7 @@ unfoldable pub manyOf : SelfParam → ℕ → ℕ
 manyOf self size = cond (leb size 128) (size / 2 + selfCount self) 0
 
 -- the call from the start, for an image, the opened scopes, self and the list
-unfoldable pub startCall : List ℕ → ℕ → SelfParam → List ℕ → ParamsCalled
+unfoldable pub startCall : List ℕ → ℕ → SelfParam → List ℕ → Called ParamsOut
 startCall image opened self list =
     paramsCall image list self (unbound image) (encode (startState opened)) (countsOf (startState opened)) (record { 0 = 0 })
 

@@ -17,10 +17,12 @@ use Rattle.lower_spec.specs.declared.merging.OptBlock.{OptBlock}
 use Rattle.views.specs.Views.{mirOf}
 use Rattle.body_tables.specs.Layout.{entriesAt, bodyOf}
 use Rattle.listing_text.specs.Listing.{listing, refusalText}
-use Rattle.pattern_matching.specs.Walking.{ok, refused}
+use Rattle.calls_spec.specs.Calls.{Called, badImage, badCall, refusedAt, accepted}
+use Rattle.calls_spec.specs.Promises.{CallHolds}
 use Rattle.params_spec.specs.declared.ParamsCall.{ParamsCall}
-use Rattle.params_spec.specs.Calls.{ParamsCalled, badImage, badCall, walked, answer, bindingsAfter, Reads, ReadyAfter, GivesParams}
-use Rattle.params_text.specs.Texts.{linesText, walkText, callText, answerText, Listable}
+use Rattle.params_spec.specs.Params.{ParamsOut}
+use Rattle.params_spec.specs.Calls.{paramsAnswer, bindingsAfter, GivesParams}
+use Rattle.params_text.specs.Texts.{linesText, callText, answerText, Listable}
 
 -- the text of a state, with the parameters' and the bindings' locals
 stateText : BasicBlockId → ℕ → ℕ → List ℕ → State → List ℕ
@@ -33,71 +35,71 @@ unfolding decode stateText
 state-same b c then first many bindings = refl
 
 -- an accepted call
-accepted-text : (c : Counts) (many : ℕ) (defined : ParamsCalled) (b : Body) (bindings : List ℕ) {m : List ℕ} {c′ : Counts} {then : BasicBlockId} {first : LocalId} →
-    ParamsCall.Lowered c′ then first ≡ answer c defined → Reads defined b → m ≡ bindingsAfter bindings defined →
+accepted-text : (before : Body) (c : Counts) (many : ℕ) (defined : Called ParamsOut) (b : Body) (bindings : List ℕ) {m : List ℕ} {c′ : Counts} {then : BasicBlockId} {first : LocalId} →
+    ParamsCall.Lowered c′ then first ≡ paramsAnswer c defined → CallHolds (λ r. r .ctx .state) before c defined b → m ≡ bindingsAfter bindings defined →
     stateText then (first .0) many m (decode b c′) ≡ callText (c .locals) many defined
-unfolding callText walkText stateText
-accepted-text c many badImage b bindings is reads bound = absurd (let z : _≡_ {A = ℕ} 0 1 = cc in omega arith)
-accepted-text c many badCall b bindings is reads bound = absurd (let z : _≡_ {A = ℕ} 0 1 = cc in omega arith)
-accepted-text c many (walked (refused e p)) b bindings is reads bound = absurd (let z : _≡_ {A = ℕ} 0 1 = cc in omega arith)
-accepted-text c many (walked (ok r)) b bindings {m} {c′} {then} {first} is reads bound =
+unfolding callText stateText
+accepted-text before c many badImage b bindings is holds bound = absurd (let z : _≡_ {A = ℕ} 0 1 = cc in omega arith)
+accepted-text before c many badCall b bindings is holds bound = absurd (let z : _≡_ {A = ℕ} 0 1 = cc in omega arith)
+accepted-text before c many (refusedAt e p) b bindings is holds bound = absurd (let z : _≡_ {A = ℕ} 0 1 = cc in omega arith)
+accepted-text before c many (accepted r) b bindings {m} {c′} {then} {first} is holds bound =
     let count : c′ ≡ countsOf (r .ctx .state) = cc in
     let goes-on : then ≡ r .then = cc in
     let begins : first ≡ record { 0 = c .locals } = cc in
-    let state : decode b c′ ≡ r .ctx .state = ap (decode b) count ∙ reads in
+    let state : decode b c′ ≡ r .ctx .state = ap (decode b) count ∙ holds .reads in
     λ i. stateText (goes-on i) (begins i .0) many (bound i) (state i)
 
-accepted-ready : (c : Counts) (defined : ParamsCalled) (b : Body) {c′ : Counts} {then : BasicBlockId} {first : LocalId} →
-    ParamsCall.Lowered c′ then first ≡ answer c defined → ReadyAfter defined b → Ready b c′ × (first .0 ≡ c .locals)
-accepted-ready c badImage b is ready = absurd (let z : _≡_ {A = ℕ} 0 1 = cc in omega arith)
-accepted-ready c badCall b is ready = absurd (let z : _≡_ {A = ℕ} 0 1 = cc in omega arith)
-accepted-ready c (walked (refused e p)) b is ready = absurd (let z : _≡_ {A = ℕ} 0 1 = cc in omega arith)
-accepted-ready c (walked (ok r)) b {c′} {first = first} is ready =
+accepted-ready : (before : Body) (c : Counts) (defined : Called ParamsOut) (b : Body) {c′ : Counts} {then : BasicBlockId} {first : LocalId} →
+    ParamsCall.Lowered c′ then first ≡ paramsAnswer c defined → CallHolds (λ r. r .ctx .state) before c defined b → Ready b c′ × (first .0 ≡ c .locals)
+accepted-ready before c badImage b is holds = absurd (let z : _≡_ {A = ℕ} 0 1 = cc in omega arith)
+accepted-ready before c badCall b is holds = absurd (let z : _≡_ {A = ℕ} 0 1 = cc in omega arith)
+accepted-ready before c (refusedAt e p) b is holds = absurd (let z : _≡_ {A = ℕ} 0 1 = cc in omega arith)
+accepted-ready before c (accepted r) b {c′} {first = first} is holds =
     let count : c′ ≡ countsOf (r .ctx .state) = cc in
     let begins : first ≡ record { 0 = c .locals } = cc in
-    (subst (Ready b) (sym count) ready, λ i. begins i .0)
+    (subst (Ready b) (sym count) (holds .ready), λ i. begins i .0)
 
 -- a refused one
-refused-text : (c : Counts) (many : ℕ) (defined : ParamsCalled) {e : MirLowerError} {p : PatId} → ParamsCall.Refused e p ≡ answer c defined →
+refused-text : (c : Counts) (many : ℕ) (defined : Called ParamsOut) {e : MirLowerError} {p : PatId} → ParamsCall.Refused e p ≡ paramsAnswer c defined →
     refusalText (refusalAt e (p .0)) ≡ callText (c .locals) many defined
-unfolding callText walkText
+unfolding callText
 refused-text c many badImage is = absurd (let z : _≡_ {A = ℕ} 0 1 = cc in omega arith)
 refused-text c many badCall is = absurd (let z : _≡_ {A = ℕ} 0 1 = cc in omega arith)
-refused-text c many (walked (ok r)) is = absurd (let z : _≡_ {A = ℕ} 0 1 = cc in omega arith)
-refused-text c many (walked (refused f q)) {e} {p} is =
+refused-text c many (accepted r) is = absurd (let z : _≡_ {A = ℕ} 0 1 = cc in omega arith)
+refused-text c many (refusedAt f q) {e} {p} is =
     let why : e ≡ f = cc in
     let at : p ≡ record { 0 = q } = cc in
     rw (why, at)
 
-bad-call-text : (c : Counts) (many : ℕ) (defined : ParamsCalled) → ParamsCall.BadCall ≡ answer c defined → refusalText namesNothing ≡ callText (c .locals) many defined
+bad-call-text : (c : Counts) (many : ℕ) (defined : Called ParamsOut) → ParamsCall.BadCall ≡ paramsAnswer c defined → refusalText namesNothing ≡ callText (c .locals) many defined
 unfolding callText
 bad-call-text c many badImage is = absurd (let z : _≡_ {A = ℕ} 0 1 = cc in omega arith)
 bad-call-text c many badCall is = refl
-bad-call-text c many (walked (ok r)) is = absurd (let z : _≡_ {A = ℕ} 0 1 = cc in omega arith)
-bad-call-text c many (walked (refused e p)) is = absurd (let z : _≡_ {A = ℕ} 0 1 = cc in omega arith)
+bad-call-text c many (accepted r) is = absurd (let z : _≡_ {A = ℕ} 0 1 = cc in omega arith)
+bad-call-text c many (refusedAt e p) is = absurd (let z : _≡_ {A = ℕ} 0 1 = cc in omega arith)
 
-bad-image-text : (c : Counts) (many : ℕ) (defined : ParamsCalled) → ParamsCall.BadImage ≡ answer c defined → refusalText breaksARule ≡ callText (c .locals) many defined
+bad-image-text : (c : Counts) (many : ℕ) (defined : Called ParamsOut) → ParamsCall.BadImage ≡ paramsAnswer c defined → refusalText breaksARule ≡ callText (c .locals) many defined
 unfolding callText
 bad-image-text c many badImage is = refl
 bad-image-text c many badCall is = absurd (let z : _≡_ {A = ℕ} 0 1 = cc in omega arith)
-bad-image-text c many (walked (ok r)) is = absurd (let z : _≡_ {A = ℕ} 0 1 = cc in omega arith)
-bad-image-text c many (walked (refused e p)) is = absurd (let z : _≡_ {A = ℕ} 0 1 = cc in omega arith)
+bad-image-text c many (accepted r) is = absurd (let z : _≡_ {A = ℕ} 0 1 = cc in omega arith)
+bad-image-text c many (refusedAt e p) is = absurd (let z : _≡_ {A = ℕ} 0 1 = cc in omega arith)
 
 -- of a call that answered r, with the body b′ and the bindings' locals m at exit
-module _ {bindings : List ℕ} {b : Body} {v : List ℕ} {c : Counts} {defined : ParamsCalled} {m : List ℕ} {b′ : Body} {v′ : List ℕ} (many : ℕ) where
+module _ {bindings : List ℕ} {b : Body} {v : List ℕ} {c : Counts} {defined : Called ParamsOut} {m : List ℕ} {b′ : Body} {v′ : List ℕ} (many : ℕ) where
   -- the text is what the definition prints
   pub answered : (r : ParamsCall) → GivesParams bindings b v c defined r m b′ v′ → answerText b′ m many r ≡ callText (c .locals) many defined
   unfolding answerText
   answered (ParamsCall.Lowered c′ then first) G =
-      state-same b′ c′ then (first .0) many m ∙ accepted-text c many defined b′ bindings (G .reply) (G .reads) (G .locals)
-  answered (ParamsCall.Refused e p) G = refused-text c many defined (G .reply)
-  answered ParamsCall.BadCall G = bad-call-text c many defined (G .reply)
-  answered ParamsCall.BadImage G = bad-image-text c many defined (G .reply)
+      state-same b′ c′ then (first .0) many m ∙ accepted-text b c many defined b′ bindings (G .visits .gives .reply) (G .visits .gives .holds) (G .locals)
+  answered (ParamsCall.Refused e p) G = refused-text c many defined (G .visits .gives .reply)
+  answered ParamsCall.BadCall G = bad-call-text c many defined (G .visits .gives .reply)
+  answered ParamsCall.BadImage G = bad-image-text c many defined (G .visits .gives .reply)
 
   -- and the body can be listed
   pub listable : c .locals + many ≤ 65535 → (r : ParamsCall) → GivesParams bindings b v c defined r m b′ v′ → Listable many r
   listable few (ParamsCall.Lowered c′ then first) G =
-      let (R, begins) = accepted-ready c defined b′ (G .reply) (G .ready) in
+      let (R, begins) = accepted-ready b c defined b′ (G .visits .gives .reply) (G .visits .gives .holds) in
       ((R .block-count, R .statement-count, R .local-count), R .entry-count, omega (arith, few, begins))
   listable few (ParamsCall.Refused e p) G = tt
   listable few ParamsCall.BadCall G = tt

@@ -13,10 +13,9 @@ use Rattle.views.specs.Views.{mirOf}
 use Rattle.listing_text.specs.Words.{space, dash, newline}
 use Rattle.listing_text.specs.Numbers.{decimal}
 use Rattle.listing_text.specs.Listing.{listing, refusalText}
-use Rattle.pattern_matching.specs.Walking.{Walk, ok, refused}
+use Rattle.calls_spec.specs.Calls.{Called, badImage, badCall, refusedAt, accepted}
 use Rattle.params_spec.specs.declared.ParamsCall.{ParamsCall}
 use Rattle.params_spec.specs.Params.{ParamsOut}
-use Rattle.params_spec.specs.Calls.{ParamsCalled, badImage, badCall, walked}
 
 -- "params"
 unfoldable pub paramsWord : List ℕ
@@ -48,14 +47,11 @@ unfoldable pub linesText : ℕ → ℕ → List ℕ → List ℕ → List ℕ
 linesText first many bindings entries = lineText paramsWord (upFrom first many) ++ (lineText bindingsWord bindings ++ lineText entriesWord entries)
 
 -- the text of what the call gives, where the first parameter's local is `first` and there are so many
-unfoldable pub walkText : ℕ → ℕ → Walk ParamsOut → List ℕ
-walkText first many (ok r) = listing (r .then) OptBlock.None (mirOf (r .ctx .state)) ++ linesText first many (r .bindings) (r .ctx .state .entries)
-walkText first many (refused e p) = refusalText (refusalAt e p)
-
-unfoldable pub callText : ℕ → ℕ → ParamsCalled → List ℕ
+unfoldable pub callText : ℕ → ℕ → Called ParamsOut → List ℕ
 callText first many badImage = refusalText breaksARule
 callText first many badCall = refusalText namesNothing
-callText first many (walked w) = walkText first many w
+callText first many (refusedAt e p) = refusalText (refusalAt e p)
+callText first many (accepted r) = listing (r .then) OptBlock.None (mirOf (r .ctx .state)) ++ linesText first many (r .bindings) (r .ctx .state .entries)
 
 -- the text of an answer, where these are the body and the bindings' locals
 unfoldable pub answerText : Body → List ℕ → ℕ → ParamsCall → List ℕ

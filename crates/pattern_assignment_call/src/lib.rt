@@ -26,7 +26,8 @@ ghost use Rattle.lower_spec.specs.declared.merging.OptBlock.{OptBlock};
 ghost use Rattle.body_calls_spec.specs.Sizes.{Taken};
 ghost use Rattle.pattern_matching.specs.Patterns.{patternMatchAssignment};
 ghost use Rattle.handed.specs.Handed.{matchHolds};
-ghost use Rattle.pattern_calls_spec.specs.Calls.{namedIn, startCtx, walked, Visits, AssignmentGives};
+ghost use Rattle.pattern_walk_spec.specs.Calls.{byWalk, startCtx, Visits};
+ghost use Rattle.pattern_calls_spec.specs.Calls.{matchWay, matchCtx, namedIn, AssignmentGives};
 ghost use Rattle.body_tables.specs.Layout.{bodyOf};
 
 // The call's own step, on an image, a body and numbers that were looked at: zeros are written above the counts first, so that a new row lies among zeros. The pattern is
@@ -43,7 +44,7 @@ fn assignment_step(
     place: Place,
 ) -> MatchCall
     requires { ⌜ Taken (now image) tables (bodyOf (now body)) counts × (matchHolds (namedIn (now image)) (now bindings) (bodyOf (now body) .blocks) counts (p .0) current OptBlock.None place ≡ true) ⌝ }
-    ensures { λ r. ⌜ Visits (bodyOf (now (body .entry))) (now (visits .entry)) counts (walked (patternMatchAssignment (now (image .entry)) (now (bindings .entry)) (tree (now (image .entry)) (p .0)) (startCtx (bodyOf (now (body .entry))) counts) current place)) r (bodyOf (now (body .exit))) (now (visits .exit)) ⌝ }
+    ensures { λ r. ⌜ Visits matchWay matchCtx (bodyOf (now (body .entry))) (now (visits .entry)) counts (byWalk (patternMatchAssignment (now (image .entry)) (now (bindings .entry)) (tree (now (image .entry)) (p .0)) (startCtx (bodyOf (now (body .entry))) counts) current place)) r (bodyOf (now (body .exit))) (now (visits .exit)) ⌝ }
 {
     let row = block_row(body, current);
     clear_above(body, counts);

@@ -21,12 +21,13 @@ use Rattle.body_calls_spec.proofs.Prologue.{taken-sized}
 use Rattle.pattern_matching.specs.Walking.{Ctx, Out, Walk}
 use Rattle.pattern_walk_spec.specs.declared.Lowered.{Lowered}
 use Rattle.pattern_walk_spec.specs.Answers.{Walks}
+use Rattle.pattern_walk_spec.specs.Calls.{byWalk, startCtx, Visits}
 use Rattle.pattern_walk_laws.specs.Walk.{Walkable}
 use Rattle.handed.proofs.Handing.{Handed, pattern-there, bindings-sized, start-there, else-there, root-there, elems-within}
 use Rattle.pattern_calls_spec.specs.declared.MatchCall.{MatchCall}
-use Rattle.pattern_calls_spec.specs.Calls.{namedIn, walked, startCtx, Visits}
+use Rattle.pattern_calls_spec.specs.Calls.{namedIn, matchWay, matchCtx}
 use Rattle.pattern_calls_spec.proofs.Starting.{visits-cleared, cleared-now, placed-of}
-use Rattle.pattern_calls_spec.proofs.Stepping.{accepted, refused-back}
+use Rattle.pattern_calls_spec.proofs.Stepping.{walk-accepted, walk-refused}
 
 -- image, body and numbers were looked at
 module _ {image : List ℕ} {tables : Tables} {b : Body} {c : Counts} (bindings : List ℕ) (p : ℕ) (current : BasicBlockId) (els : OptBlock) (place : Place) (T : Taken image tables b c) (H : Handed (namedIn image) bindings (b .blocks) c p current els place) where
@@ -69,12 +70,12 @@ module _ {image : List ℕ} {tables : Tables} {b : Body} {c : Counts} (bindings 
       module _ (defined : Ctx → Walk Out) {b₂ : Body} {v₂ : List ℕ} where
         -- and is accepted
         pub matched : {c′ : Counts} {then : BasicBlockId} {els′ : OptBlock} → Walks defined c current els b₁ v₁ (Lowered.Done c′ then els′) b₂ v₂ →
-            Visits b visits c (walked (defined (startCtx b c))) (MatchCall.Matched c′ then els′) b₂ v₂
-        matched W = accepted defined ready-body no-visit W
+            Visits matchWay matchCtx b visits c (byWalk (defined (startCtx b c))) (MatchCall.Matched c′ then els′) b₂ v₂
+        matched W = walk-accepted defined ready-body no-visit W
 
         -- or refused: the row of the block is put back, and zeros are written again
         pub not-matched : {err : MirLowerError} {q : PatId} {row v₄ : List ℕ} {b₃ b₄ : Body} → Walks defined c current els b₁ v₁ (Lowered.Refused err q) b₂ v₂ →
             length (b₂ .blocks) ≡ blockWords → length v₂ ≡ 512 → row ≡ rowAt blockWidth (b .blocks) (current .0) →
             b₃ ≡ withBlocks b₂ (stored (b₂ .blocks) (blockWidth * current .0) row) → b₄ ≡ encode (decode b₃ c) → v₄ ≡ cleared v₂ 0 →
-            Visits b visits c (walked (defined (startCtx b c))) (MatchCall.Refused err q) b₄ v₄
-        not-matched W long seen is-row back is unseen₄ = refused-back defined ready-body no-visit W starts long is-row back is (visits-cleared v₂ seen unseen₄)
+            Visits matchWay matchCtx b visits c (byWalk (defined (startCtx b c))) (MatchCall.Refused err q) b₄ v₄
+        not-matched W long seen is-row back is unseen₄ = walk-refused defined ready-body no-visit (taken-sized image b c T) W starts long is-row back is (visits-cleared v₂ seen unseen₄)

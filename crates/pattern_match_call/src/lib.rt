@@ -24,7 +24,8 @@ ghost use Rattle.image.specs.Tree.{tree};
 ghost use Rattle.body_calls_spec.specs.Sizes.{Taken};
 ghost use Rattle.pattern_matching.specs.Patterns.{patternMatch};
 ghost use Rattle.handed.specs.Handed.{matchHolds};
-ghost use Rattle.pattern_calls_spec.specs.Calls.{namedIn, startCtx, walked, Visits, MatchGives};
+ghost use Rattle.pattern_walk_spec.specs.Calls.{byWalk, startCtx, Visits};
+ghost use Rattle.pattern_calls_spec.specs.Calls.{matchWay, matchCtx, namedIn, MatchGives};
 ghost use Rattle.body_tables.specs.Layout.{bodyOf};
 
 // The call's own step, on an image, a body and numbers that were looked at: zeros are written above the counts first, so that a new row lies among zeros.
@@ -41,7 +42,7 @@ fn match_step(
     place: Place,
 ) -> MatchCall
     requires { ⌜ Taken (now image) tables (bodyOf (now body)) counts × (matchHolds (namedIn (now image)) (now bindings) (bodyOf (now body) .blocks) counts (p .0) current els place ≡ true) ⌝ }
-    ensures { λ r. ⌜ Visits (bodyOf (now (body .entry))) (now (visits .entry)) counts (walked (patternMatch (now (image .entry)) (now (bindings .entry)) (tree (now (image .entry)) (p .0)) (startCtx (bodyOf (now (body .entry))) counts) current els place)) r (bodyOf (now (body .exit))) (now (visits .exit)) ⌝ }
+    ensures { λ r. ⌜ Visits matchWay matchCtx (bodyOf (now (body .entry))) (now (visits .entry)) counts (byWalk (patternMatch (now (image .entry)) (now (bindings .entry)) (tree (now (image .entry)) (p .0)) (startCtx (bodyOf (now (body .entry))) counts) current els place)) r (bodyOf (now (body .exit))) (now (visits .exit)) ⌝ }
 {
     let row = block_row(body, current);
     clear_above(body, counts);

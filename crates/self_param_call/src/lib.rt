@@ -26,7 +26,9 @@ ghost use Rattle.lower_spec.specs.declared.merging.OptBlock.{OptBlock};
 ghost use Rattle.body_calls_spec.specs.Sizes.{Sized};
 ghost use Rattle.pattern_matching.specs.Walking.{localPlace};
 ghost use Rattle.pattern_matching.specs.Tests.{patternMatchBinding};
-ghost use Rattle.pattern_calls_spec.specs.Calls.{startCtx, walked, Gives, SelfGives};
+ghost use Rattle.calls_spec.specs.Promises.{Gives};
+ghost use Rattle.pattern_walk_spec.specs.Calls.{byWalk, startCtx};
+ghost use Rattle.pattern_calls_spec.specs.Calls.{matchWay, SelfGives};
 ghost use Rattle.body_tables.specs.Layout.{bodyOf};
 
 // The call's own step, on a body and numbers that were looked at: zeros are written above the counts first, so that a new row lies among zeros.
@@ -39,7 +41,7 @@ fn self_step(
     l: LocalId,
 ) -> MatchCall
     requires { ⌜ Sized (bodyOf (now body)) counts × (b .0 < length (now bindings)) × (current .0 < counts .blocks) ⌝ }
-    ensures { λ r. ⌜ Gives (bodyOf (now (body .entry))) counts (walked (patternMatchBinding (now (bindings .entry)) noPattern noPattern (b .0) BindingMode.Value (startCtx (bodyOf (now (body .entry))) counts) current OptBlock.None (localPlace l))) r (bodyOf (now (body .exit))) ⌝ }
+    ensures { λ r. ⌜ Gives matchWay (bodyOf (now (body .entry))) counts (byWalk (patternMatchBinding (now (bindings .entry)) noPattern noPattern (b .0) BindingMode.Value (startCtx (bodyOf (now (body .entry))) counts) current OptBlock.None (localPlace l))) r (bodyOf (now (body .exit))) ⌝ }
 {
     clear_above(body, counts);
     let row = block_row(body, current);

@@ -41,7 +41,7 @@ returns c = self-matched (c .before .before .before .before .before .before .bef
 
 returns-2 : tie.Need-returns-2
 unfolding localPlace
-returns-2 c = self-not-matched (c .before .before .before .before .before .before .before .before .before .before .before .before .before .before .before .args .bindings .now) (c .before .before .before .before .before .before .before .before .before .before .before .before .before .before .before .args .b .0) (c .before .before .before .before .before .before .before .before .before .before .before .before .before .before .before .args .current) (c .before .before .before .before .before .before .before .before .before .before .before .before .before .before .before .args .l) (clears (c .before .before .before .before .before .before .before .before .before .before .before .before .before .before .before .pre .0) (c .before .before .before .before .before .before .before .before .before .before .before .before .clear-above .ensures)) (rw (c .before .before .before .before .before .e .given .1) at (c .before .before .before .before .before .before .before .pattern-match-binding .ensures)) (c .before .before .before .before .before .before .before .before .before .before .before .before .before .before .before .pre .2) (c .before .before .before .before .before .before .before .before .before .block-row .ensures) (c .before .before .put-back .ensures) (c .clear-above2 .ensures) (lengths-of _ (search needs) .blocks)
+returns-2 c = self-not-matched (c .before .before .before .before .before .before .before .before .before .before .before .before .before .before .before .args .bindings .now) (c .before .before .before .before .before .before .before .before .before .before .before .before .before .before .before .args .b .0) (c .before .before .before .before .before .before .before .before .before .before .before .before .before .before .before .args .current) (c .before .before .before .before .before .before .before .before .before .before .before .before .before .before .before .args .l) (clears (c .before .before .before .before .before .before .before .before .before .before .before .before .before .before .before .pre .0) (c .before .before .before .before .before .before .before .before .before .before .before .before .clear-above .ensures)) (c .before .before .before .before .before .before .before .before .before .before .before .before .before .before .before .pre .0) (rw (c .before .before .before .before .before .e .given .1) at (c .before .before .before .before .before .before .before .pattern-match-binding .ensures)) (c .before .before .before .before .before .before .before .before .before .before .before .before .before .before .before .pre .2) (c .before .before .before .before .before .before .before .before .before .block-row .ensures) (c .before .before .put-back .ensures) (c .clear-above2 .ensures) (lengths-of _ (search needs) .blocks)
 
 pub self-step-spec : {M : Type 1} → statement M
 self-step-spec =
