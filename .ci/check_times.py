@@ -38,8 +38,8 @@ def main():
         own = ", ".join(f"{label} {spent}" for name, label, spent in edits if name == crate)
         print(f"| `{crate}` | {took} | {own} |")
     whole, before, jobs, processors, memory = map(int, gate.groups())
-    print(f"\nThe whole gate: {verdict[1]}, in {whole / 60:.1f} minutes, of which {before} seconds are the checks and "
-          f"comparisons before `rt ci`.\n{len(crates)} crates took {sum(took for _, took in crates)} seconds together, "
+    print(f"\nThe whole gate: {verdict[1]}, in {whole / 60:.1f} minutes, of which {before} seconds are the checks before "
+          f"`rt ci`; the programs are compared with the Rust's text beside it.\n{len(crates)} crates took {sum(took for _, took in crates)} seconds together, "
           f"{len(edits)} edits {sum(spent for *_, spent in edits)}, with up to {jobs} at a time on\n{processors} "
           f"processors; at most {memory} MB of memory were in use beyond what was before.")
 

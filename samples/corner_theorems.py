@@ -121,7 +121,7 @@ use Rattle.views.specs.Views.{{Rvalue, ofPlace, ofConstant, binary, Statement, 
 """
 
 AUDIT = """use Rattle.audit.specs.Call.{lowering}
-use Rattle.audit.specs.Started.{startState, start, answerBy, Answer, accepted, refusal, Row}"""
+use Rattle.audit.specs.Started.{startState, start, answerBy, Answer, lowersTo, refusal, Row}"""
 
 ELEMENTS = {"deref": "Deref", "f": "Field", "i": "Index", "e": "IndexFromEnd", "s": "Subslice", "v": "Downcast"}
 RVALUES = {"copy": "Copy", "ref": "Ref", "mut": "Mut", "len": "Len", "discr": "Discr"}
@@ -198,7 +198,7 @@ def wanted(body):
     if body.refusal:
         return "refusal (record {{ number = {}; pattern = {}; reason = {} }})".format(*body.refusal)
     other = "OptBlock.None" if body.other is None else f"(OptBlock.Some {number(body.other)})"
-    return f"accepted {number(body.then)} {other} {content(body)} {row_of(body.visits)}"
+    return f"lowersTo {number(body.then)} {other} {content(body)} {row_of(body.visits)}"
 
 
 def content(body):
@@ -345,11 +345,11 @@ use Rattle.params_spec.specs.declared.SelfParam.{SelfParam}
 use Rattle.meaning.specs.Values.{Value, Int, Tuple, Adt, noMore, more}"""
     own = """use Rattle.param_runs.specs.Returned.{ownLocal}
 use Rattle.param_runs.specs.Through.{plain, patternFits, paramFits, paramsFit, allFit, paramsBound}
-use Rattle.param_runs.specs.Corner.{paramsStart, unbound, paramsAnswer, ParamsAnswer, acceptedParams, refusedParams, ParamsRow, cornerFits}"""
+use Rattle.param_runs.specs.Corner.{paramsStart, unbound, cornerAnswer, ParamsAnswer, acceptedParams, refusedParams, ParamsRow, cornerFits}"""
     print(HEAD.format(what="The corners of document 01 on parameters", has="an image, self, the parameters", first=first, uses=uses(MODULES + PARAM_MODULES + FIT_MODULES), own=own))
     param_rows()
     present = [corner[0].replace("_", "-") + "-row" for corner in PARAM_CORNERS]
-    print_end(MODULES + PARAM_MODULES, present, "paramsStart unbound paramsAnswer", "paramsAnswer (row .image) (row .self) (row .params)", "ParamsRow")
+    print_end(MODULES + PARAM_MODULES, present, "paramsStart unbound cornerAnswer", "cornerAnswer (row .image) (row .self) (row .params)", "ParamsRow")
     tables = [module for module in MODULES if module[0] == "image"]
     unfolded = " ".join(names for _, _, names in tables + FIT_MODULES)
     print("\n-- whether the parameters fit the values beside them, as the theorem on runs asks")

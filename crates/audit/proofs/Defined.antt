@@ -6,7 +6,7 @@ use lib.ListN.{length}
 use Rattle.refusals.specs.Refusals.{ok as done}
 use Rattle.pattern_matching.specs.Walking.{ok}
 use Rattle.params_spec.specs.Params.{Declared}
-use Rattle.param_runs.specs.Corner.{paramsAnswer, ParamsRow}
+use Rattle.param_runs.specs.Corner.{cornerAnswer, ParamsRow}
 use Rattle.param_runs.proofs.Corners as on-parameters
 use Rattle.param_runs.proofs.Receivers.{callWithSelf, SelfHas}
 use Rattle.called.specs.Call.{Call, HandedOut, Accepted, patternOf, startOf, resultOf}
@@ -29,7 +29,7 @@ what-the-definition-gives-is-handed-out = calls.params-give
 
 -- The corners that document 01 marks [P], of pattern_matching.rs and of lower.rs on parameters, from the bytes of their images, which are valid; of parameters, others beside them.
 pub the-proved-corners : (map (λ (row : Row). answerBy lowering (row .image) (row .ty)) proved.rows ≡ map (λ (row : Row). row .wanted) proved.rows)
-    × (map (λ (row : ParamsRow). paramsAnswer (row .image) (row .self) (row .params)) on-parameters.rows ≡ map (λ (row : ParamsRow). row .wanted) on-parameters.rows)
+    × (map (λ (row : ParamsRow). cornerAnswer (row .image) (row .self) (row .params)) on-parameters.rows ≡ map (λ (row : ParamsRow). row .wanted) on-parameters.rows)
 the-proved-corners = (proved.as-wanted, on-parameters.as-wanted)
 
 -- "`lower_params_and_bindings` gives the self binding its own parameter local": in every call whose list and own values are taken, when all locals are made, self's binding has

@@ -37,11 +37,11 @@ Lowers = List ℕ → List ℕ → Pat → Ctx → BasicBlockId → OptBlock →
 
 -- an answer with the whole content of its listing, and the visits; or the three numbers of a refusal
 pub data Answer : Type 0 where
-  accepted : BasicBlockId → OptBlock → Mir → List ℕ → Answer
+  lowersTo : BasicBlockId → OptBlock → Mir → List ℕ → Answer
   refusal : Refusal → Answer
 
 abbrev pub answerOf : Walk Out → Answer
-answerOf (ok r) = accepted (r .then) (r .else) (mirOf (r .ctx .state)) (r .ctx .visits)
+answerOf (ok r) = lowersTo (r .then) (r .else) (mirOf (r .ctx .state)) (r .ctx .visits)
 answerOf (refused e p) = refusal (refusalAt e p)
 
 -- the last pattern of a valid image, lowered against local 0 of the type t

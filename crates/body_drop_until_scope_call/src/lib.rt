@@ -2,10 +2,10 @@
 // other refusal leaves what lies below the counts as found, and zeros above.
 use body_calls_spec::DropCall;
 use body_calls_spec::Opened;
-use body_opening::clearing::clear_above;
+use body_clearing::clear_above;
 use body_opening::open;
-use body_opening::restoring::block_row;
-use body_opening::restoring::put_back;
+use body_restoring::block_row;
+use body_restoring::put_back;
 use body_tables::BODY_WORDS;
 use drop_scopes_spec::AtBlock;
 use image::Tables;

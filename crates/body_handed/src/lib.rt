@@ -20,7 +20,7 @@ pub fn start_holds(body: &[u16], counts: Counts, current: BasicBlockId) -> bool
     requires { ⌜ (length (now body) ≡ bodyWords) × (counts .blocks ≤ 512) ⌝ }
     ensures { λ r. ⌜ r ≡ startHolds (bodyOf (now (body .entry)) .blocks) counts current ⌝ }
 {
-    handed::start_holds(&body[0..STATEMENTS], counts, current)
+    handed_tests::start_holds(&body[0..STATEMENTS], counts, current)
 }
 
 // All that a call of `pattern_match` is handed.
@@ -37,7 +37,7 @@ pub fn match_holds(
     requires { ⌜ (length (now body) ≡ bodyWords) × (counts .blocks ≤ 512) ⌝ }
     ensures { λ r. ⌜ r ≡ matchHolds (namedBy tables) (now (bindings .entry)) (bodyOf (now (body .entry)) .blocks) counts (p .0) current els place ⌝ }
 {
-    handed::match_holds(
+    handed_tests::match_holds(
         tables,
         bindings,
         &body[0..STATEMENTS],
@@ -62,7 +62,7 @@ pub fn self_holds(
     requires { ⌜ (length (now body) ≡ bodyWords) × (counts .blocks ≤ 512) ⌝ }
     ensures { λ r. ⌜ r ≡ selfHolds (namedBy tables) (now (bindings .entry)) (bodyOf (now (body .entry)) .blocks) counts (b .0) current (l .0) ⌝ }
 {
-    handed::self_holds(
+    handed_tests::self_holds(
         tables,
         bindings,
         &body[0..STATEMENTS],

@@ -2,7 +2,7 @@
 // other refusal leaves what lies below the counts as found, and zeros above.
 use body_calls_spec::MergeCall;
 use body_calls_spec::Opened;
-use body_opening::clearing::clear_above;
+use body_clearing::clear_above;
 use body_opening::open;
 use body_tables::BODY_WORDS;
 use handed::merge_holds;

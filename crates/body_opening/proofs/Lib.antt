@@ -1,5 +1,3 @@
-pub mod RowWords
-pub mod Emptying
 pub mod Naming
 pub mod Replying
 pub mod Dropping

@@ -1,8 +1,4 @@
-// What comes before a call's own step, and behind a refusal, on a body in one table: image and body are looked at, zeros are written above the counts, and what was
-// there is put back.
-pub mod clearing; // clearing.rt: zeros above the counts
-pub mod restoring; // restoring.rt: the row of a block, and the same put back
-
+// What comes before a call's own step on a body in one table: image and body are looked at.
 use body_calls_spec::Opened;
 use body_rules::body_holds;
 use body_tables::BODY_WORDS;

@@ -2,7 +2,7 @@
 // other refusal leaves what lies below the counts as found, and zeros above.
 use body_calls_spec::Opened;
 use body_calls_spec::ScopeCall;
-use body_opening::clearing::clear_above;
+use body_clearing::clear_above;
 use body_opening::open;
 use body_tables::BODY_WORDS;
 use mir::Counts;

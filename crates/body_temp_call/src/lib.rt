@@ -2,7 +2,7 @@
 // refusal leaves what lies below the counts as found, and zeros above.
 use body_calls_spec::Opened;
 use body_calls_spec::TempCall;
-use body_opening::clearing::clear_above;
+use body_clearing::clear_above;
 use body_opening::open;
 use body_row_rules::rows::is_type_word;
 use body_tables::BODY_WORDS;

@@ -17,7 +17,7 @@ use Rattle.read_image.specs.declared.Read.{Read}
 use Rattle.read_image.specs.Read.{readOf}
 use Rattle.body_calls_spec.proofs.Prologue.{read-valid, read-refused, whole-of}
 use Rattle.meaning.specs.Fit.{typesFit, bindingsFit, nothingRefused, localsDiffer, fits}
-use Rattle.fit_reached.specs.Taking.{FitsSomewhere}
+use Rattle.fit_own.specs.Taking.{FitsSomewhere}
 use Rattle.fit.specs.declared.FitCall.{FitCall}
 use Rattle.fit.specs.Calls.{handed, fitCall, Gives}
 

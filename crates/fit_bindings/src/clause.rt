@@ -1,13 +1,13 @@
 // The clause on bindings, for each pattern of a row.
-use super::each::Test;
 use super::each::each_agrees;
 use super::each::own_agrees;
-use super::nodes::Node;
-use super::nodes::Row;
-use super::nodes::first;
-use super::nodes::node_at;
-use super::nodes::one;
-use super::nodes::rest;
+use fit_rows::found::Test;
+use fit_rows::nodes::Node;
+use fit_rows::nodes::Row;
+use fit_rows::nodes::first;
+use fit_rows::nodes::node_at;
+use fit_rows::nodes::one;
+use fit_rows::nodes::rest;
 use image::PatId;
 use image::Tables;
 ghost use mathlib.Core.Path.{_≡_};
@@ -17,8 +17,8 @@ ghost use Rattle.image.specs.Tables.{Whole, patternCount};
 ghost use Rattle.image.specs.Tree.{tree};
 ghost use Rattle.image.specs.Valid.{valid};
 ghost use Rattle.meaning.specs.Fit.{sameBindings, boundIn, bindOnce, allBindingsFit, alternativesFit};
-ghost use Rattle.fit_bindings.specs.Nodes.{Lies, rowTrees};
-ghost use Rattle.fit_bindings.specs.Bound.{boundInRow, joins};
+ghost use Rattle.fit_rows.specs.Nodes.{Lies, rowTrees};
+ghost use Rattle.fit_rows.specs.Bound.{boundInRow, joins};
 
 // Two patterns bind the same bindings at the same types.
 fn same(image: &[u8], tables: Tables, p: PatId, q: PatId) -> bool

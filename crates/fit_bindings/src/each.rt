@@ -1,26 +1,21 @@
 // What is asked of each binding of a row of patterns.
-use super::found::Wanted;
-use super::found::found;
-use super::nodes::Own;
-use super::nodes::Row;
-use super::nodes::first;
-use super::nodes::node_at;
-use super::nodes::rest;
-use super::nodes::telling;
+use fit_rows::found::Test;
+use fit_rows::found::Wanted;
+use fit_rows::found::found;
+use fit_rows::nodes::Own;
+use fit_rows::nodes::Row;
+use fit_rows::nodes::first;
+use fit_rows::nodes::node_at;
+use fit_rows::nodes::rest;
+use fit_rows::nodes::telling;
 use image::BindingId;
 use image::Tables;
 ghost use mathlib.Core.Path.{_≡_};
 ghost use mathlib.Core.Bool.{true};
 ghost use Rattle.image.specs.Tables.{Whole};
 ghost use Rattle.image.specs.Valid.{valid};
-ghost use Rattle.fit_bindings.specs.Nodes.{Lies};
-ghost use Rattle.fit_bindings.specs.Bound.{allOf, agrees, owned, boundInRow};
-
-// That a binding stands among others at the same type, or that it does not stand among them at any type.
-pub enum Test {
-    Same,
-    Apart,
-}
+ghost use Rattle.fit_rows.specs.Nodes.{Lies};
+ghost use Rattle.fit_rows.specs.Bound.{allOf, agrees, owned, boundInRow};
 
 // The binding b at the type t is bound in the others as the test asks.
 fn at_agrees(image: &[u8], tables: Tables, test: Test, b: BindingId, t: u16, others: Row) -> bool

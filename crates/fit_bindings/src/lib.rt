@@ -1,9 +1,8 @@
 // The part of the fit test that decides the clause on bindings: a binding stands twice only in different alternatives of one Or, and these bind the same.
-pub mod nodes; // nodes.rt: a pattern's own binding, and its row of subpatterns
-pub mod found; // found.rt: whether a binding stands in a row of patterns
 pub mod each; // each.rt: what is asked of each binding of a row of patterns
 pub mod clause; // clause.rt: the clause, for each pattern of a row
 
+use fit_rows::nodes::one;
 use image::PatId;
 use image::Tables;
 ghost use mathlib.Core.Path.{_≡_};
@@ -19,5 +18,5 @@ pub fn bindings_fit(image: &[u8], tables: Tables, p: PatId) -> bool
     requires { ⌜ (valid (now image) ≡ true) × Whole (now image) tables × (p .0 < patternCount (now image)) ⌝ }
     ensures { λ r. ⌜ r ≡ bindingsFit (now (image .entry)) (tree (now (image .entry)) (p .0)) ⌝ }
 {
-    clause::all_fit(image, tables, nodes::one(p.0 + 1, p))
+    clause::all_fit(image, tables, one(p.0 + 1, p))
 }

@@ -1,8 +1,7 @@
 // The part of the fit test that decides that nothing refused is reached.
-pub mod own; // own.rt: what a pattern's row says of the pattern itself
-pub mod parts; // parts.rt: what a type's row and the words of a pattern's row say
 pub mod walk; // walk.rt: a pattern and those below it
 
+use fit_own::Reached;
 use image::PatId;
 use image::Tables;
 use walk::reached;
@@ -14,14 +13,7 @@ ghost use Rattle.image.specs.Tables.{Whole, patternCount, bindingCount};
 ghost use Rattle.image.specs.Tree.{tree};
 ghost use Rattle.image.specs.Valid.{valid};
 ghost use Rattle.meaning.specs.Fit.{nothingRefused};
-ghost use Rattle.fit_reached.specs.Taking.{FitsSomewhere};
-
-// What is found where patterns are reached: one is refused, or none is, and they cannot fail, or can.
-pub enum Reached {
-    Refused,
-    Sure,
-    CanFail,
-}
+ghost use Rattle.fit_own.specs.Taking.{FitsSomewhere};
 
 // Nothing refused is reached from the pattern p, whose types fit.
 pub fn nothing_refused(image: &[u8], tables: Tables, bindings: &[u16], p: PatId) -> bool

@@ -1,7 +1,7 @@
 // Patterns that are reached: one is refused, or none is and they can fail or not, told down to the subpatterns, whose numbers are smaller.
-use super::Reached;
-use super::own::own_taken;
-use super::own::own_test;
+use fit_own::Reached;
+use fit_own::own::own_taken;
+use fit_own::own::own_test;
 use image::PatId;
 use image::Tables;
 use image::kinds::PatKind;
@@ -20,8 +20,8 @@ ghost use Rattle.image.specs.Subpatterns.{ifPresent};
 ghost use Rattle.image.specs.Tree.{tree, tree?};
 ghost use Rattle.image.specs.Valid.{valid};
 ghost use Rattle.fit_types.specs.Parts.{Parent, Node, Items, Pairs};
-ghost use Rattle.fit_reached.specs.Answers.{withTest, reachedBy, reachedBy?};
-ghost use Rattle.fit_reached.specs.Rows.{rowReached, altsReached, belowReached};
+ghost use Rattle.fit_own.specs.Answers.{withTest, reachedBy, reachedBy?};
+ghost use Rattle.fit_own.specs.Rows.{rowReached, altsReached, belowReached};
 
 // What is found, with one test more or none.
 fn with_test(test: bool, found: Reached) -> Reached

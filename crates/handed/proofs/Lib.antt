@@ -1,2 +1,1 @@
-mod Words
 pub mod Handing

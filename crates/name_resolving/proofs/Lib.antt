@@ -1,4 +1,2 @@
-pub mod ByKind
 pub mod Names
 pub mod Ways
-pub mod BoundRests

@@ -8,21 +8,19 @@ use native.Mathlib.Omega.{arith}
 use borrow.Author.Tests.{eqb-true, eqb-false, le-leb}
 use lib.Dec.{eqb, leb}
 use Rattle.pattern_syntax.specs.Written.{Name}
-use Rattle.pattern_syntax.specs.Reduced.{bytesFrom}
-use Rattle.name_tables.specs.Names.{nameRowAt, rowFor, asFieldOf}
-use Rattle.pattern_typing.specs.Crossing.{Crossed, crossed, variantFieldsOf}
-use Rattle.pattern_typing.specs.Contexts.{unseenParts, sameParts, fieldPart}
-use Rattle.pattern_typing.specs.Making.{BoundAt, fieldMade, orAbsent}
-use Rattle.pattern_typing.specs.Resolving.{Resolved, refusedHere, resolvedTo, whereNamed, pathMade, resolvedPath, Marked, modeOf, annotationOf, bindingMade, resolvedIdent, fieldName, resolvedField}
+use Rattle.name_tables.specs.Names.{nameRowAt}
+use Rattle.pattern_typing.specs.Crossing.{Crossed, crossed}
+use Rattle.pattern_typing.specs.Contexts.{unseenParts, sameParts}
+use Rattle.pattern_typing.specs.Making.{orAbsent}
+use Rattle.pattern_typing.specs.Resolving.{Resolved, refusedHere, resolvedTo, whereNamed, pathMade, resolvedPath, Marked, modeOf, annotationOf, bindingMade, resolvedIdent}
 use Rattle.node_rows.specs.declared.NodeRow.{NodeRow}
-use Rattle.node_rows.specs.Nodes.{numberIn, nameIn, nodeOf}
+use Rattle.node_rows.specs.Nodes.{numberIn, nameIn}
 use Rattle.node_rows.specs.Makings.{makingOf, boundAtIn}
 use Rattle.type_parts.specs.declared.CrossedType.{CrossedType}
 use Rattle.type_parts.specs.Parts.{crossedOf, partsOf}
 use Rattle.name_resolving.specs.declared.Resolution.{Resolution}
 use Rattle.name_resolving.specs.declared.lookup.Named.{Named}
-use Rattle.name_resolving.specs.Gives.{refusedOf, resolvedOf, Gives, GivesAlways, refusedRow, namedAs, markedIn, boundAtOf, bindResolution, pathResolution, restBoundTo, fieldRow}
-use Rattle.name_resolving.proofs.ByKind.{field-named}
+use Rattle.name_resolving.specs.Gives.{refusedOf, resolvedOf, Gives, GivesAlways, refusedRow, namedAs, markedIn, boundAtOf, bindResolution, pathResolution}
 
 -- a word that is no number is read as none, and none is written as that word
 pub or-absent : (w : ℕ) → orAbsent (numberIn w) ≡ w
@@ -74,11 +72,6 @@ module _ (table : List ℕ) where
   ident-found sheet none m t mode many e = absurd (let z : _≡_ {A = ℕ} 0 1 = cc in omega arith)
   ident-found sheet (some row) m t mode many e = rw (path-found (some row) (m .called) (crossed sheet t mode) e)
 
-  pub rest-found : (o : Option ℕ) {kind number : ℕ} (m : Marked) (t mode : ℕ) (at : BoundAt) → Named.As kind number ≡ namedAs table o → restBoundTo o m t mode at ≡ refusedHere (m .called .at)
-  unfolding namedAs restBoundTo
-  rest-found none m t mode at e = absurd (let z : _≡_ {A = ℕ} 0 1 = cc in omega arith)
-  rest-found (some row) m t mode at e = refl
-
 -- `ref` or `mut` stands before a name
 pub marked : (more many : ℕ) → (more ≡ 0 → ⊥) → (eqb more 1 || eqb more 3) || leb 2 more || leb 1 many ≡ true
 marked more many ne = go (eqb more 1) refl
@@ -96,12 +89,6 @@ marked more many ne = go (eqb more 1) refl
 -- a name alone that is a variant or a constant
 pub ident-path : (table sheet spelled : List ℕ) (node : NodeRow) (o : Option ℕ) {kind number : ℕ} (t mode : ℕ) → Named.As kind number ≡ namedAs table o → node .more ≡ 0 → node .parts ≡ 0 → resolvedIdent sheet table o (markedIn spelled node) t mode (node .parts) ≡ resolvedTo (pathMade (crossed sheet t mode) kind number) unseenParts
 ident-path table sheet spelled node o t mode e m p = ident-found table sheet o (markedIn spelled node) t mode (node .parts) e ∙ rw (m, p)
-
--- a field that the table has
-pub field-found : (table sheet spelled text : List ℕ) (node : NodeRow) {key : NodeRow} {kind number : ℕ} (t v mode : ℕ) → key ≡ fieldRow node → Named.As kind number ≡ namedAs table (rowFor table (asFieldOf v) (bytesFrom spelled (key .from) (key .to))) → resolvedField sheet table (fieldName (nodeOf text spelled node)) t v mode ≡ resolvedTo (fieldMade number) (fieldPart (variantFieldsOf sheet t v) mode number)
-unfolding resolvedField nameIn
-field-found table sheet spelled text node {key} {kind} {number} t v mode k e =
-    rw (field-named text spelled node, ← k) (where-found table (rowFor table (asFieldOf v) (bytesFrom spelled (key .from) (key .to))) (nameIn spelled key) (λ i. resolvedTo (fieldMade i) (fieldPart (variantFieldsOf sheet t v) mode i)) e)
 
 -- a binding's row stands for it, bound at a type or at an array
 pub bind-gives : (names : List ℕ) (node : NodeRow) (t mode element many copy : ℕ) {r : Resolution} → r ≡ bindResolution node t mode element many copy → Gives names r (node .parts) (λ text. resolvedTo (bindingMade (markedIn names node) t mode (boundAtOf t element many copy)) (sameParts t mode))

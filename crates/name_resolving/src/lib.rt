@@ -1,8 +1,6 @@
 // What becomes of a node with a name, by what it is read at: a position that is refused, or what is made of it and how its parts are read.
 pub mod bindings; // bindings.rt: names that are bound, and paths
-pub mod fields; // fields.rt: the fields of a record
 pub mod lookup; // lookup.rt: the names of nodes, and what the name table says of them
-pub mod rests; // rests.rt: the rest of a slice
 pub mod rows; // rows.rt: the rows of what is made
 
 use node_rows::MakingRow;

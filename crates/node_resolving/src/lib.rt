@@ -5,12 +5,12 @@ pub mod nodes; // nodes.rt: a node by its kind
 
 use image::Tables;
 use name_resolving::Resolution;
-use name_resolving::fields::resolve_field;
-use name_resolving::rests::resolve_rest;
 use name_resolving::rows::not_made;
 use name_resolving::rows::refused_here;
 use node_rows::NodeRow;
 use nodes::resolve_node;
+use part_resolving::fields::resolve_field;
+use part_resolving::rests::resolve_rest;
 use type_parts::PartContext;
 ghost use mathlib.Core.Path.{_≡_};
 ghost use mathlib.Core.Bool.{true};

@@ -1,31 +1,14 @@
--- Whether a parameter binds self again: a law for each way through the code, and the invariant of the loop. Assumes nothing.
+-- Whether a parameter of a list binds self again: the invariant of the loop, and a law for each way through the code. Assumes nothing.
 use Prim.Native.Nat.{ℕ, _+_, _-_}
 use mathlib.Core.Path.{_≡_, refl, sym, ap, _∙_}
 use mathlib.Core.Bool.{Bool, true, false, not, _&&_}
 use mathlib.Core.List.{List}
-use lib.Dec.{eqb}
 use lib.ListN.{getD}
-use Rattle.image.specs.declared.rows.PatRow.{PatRow}
-use Rattle.image.specs.Rows.{patAt}
 use Rattle.image.specs.Tree.{tree}
 use Rattle.params_spec.specs.declared.SelfParam.{SelfParam}
 use Rattle.params_spec.specs.Params.{plainBinding}
 use Rattle.params_spec.specs.Calls.{paramsFrom, paramCount, paramsOf, listFormed, bindsReceiver, noneBindsReceiver, receiverApart, listHolds}
-use Rattle.param_lists.specs.Plain.{isPlain}
 use Rattle.param_lists.proofs.Listing.{params-none, params-more, Listed, list-taken, listed-behind}
-use Rattle.param_lists.proofs.Plain.{row-plain}
-
--- `binds_receiver`
-module _ (image : List ℕ) (b p : ℕ) (row : PatRow) (same : row ≡ patAt image p) {r : Bool} (is : r ≡ isPlain row) where
-  -- the parameter is no plain one
-  pub not-plain : r ≡ false → false ≡ bindsReceiver b (plainBinding (tree image p))
-  unfolding bindsReceiver
-  not-plain f = rw (row-plain image p row same, sym is ∙ f) refl
-
-  -- its binding decides
-  pub plain-compared : r ≡ true → eqb (row .a) b ≡ bindsReceiver b (plainBinding (tree image p))
-  unfolding bindsReceiver
-  plain-compared t = rw (row-plain image p row same, sym is ∙ t) refl
 
 -- the parameters from the word k on are left to look at, and decide
 pub record Looked (image words : List ℕ) (b k left : ℕ) : Type 0 where

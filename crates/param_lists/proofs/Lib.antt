@@ -1,4 +1,3 @@
 pub mod Listing
 mod Looking
-pub mod Plain
 mod Apart

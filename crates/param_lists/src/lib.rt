@@ -2,18 +2,14 @@
 use image::BindingId;
 use image::PatId;
 use image::Tables;
-use image::rows::PatRow;
-use image::rows::pat_at;
+use param_plain::binds_receiver;
 use params_spec::SelfParam;
 ghost use mathlib.Core.Path.{_≡_};
 ghost use mathlib.Core.Bool.{true};
-ghost use Prim.Native.Nat.{_*_, _<_};
+ghost use Prim.Native.Nat.{_*_};
 ghost use lib.ListN.{length};
-ghost use Rattle.image.specs.Tables.{Whole, patternCount};
-ghost use Rattle.image.specs.Tree.{tree};
-ghost use Rattle.params_spec.specs.Params.{plainBinding};
-ghost use Rattle.params_spec.specs.Calls.{paramCount, paramsOf, paramsNamed, listFormed, bindsReceiver, noneBindsReceiver, receiverApart, listHolds};
-ghost use Rattle.param_lists.specs.Plain.{isPlain};
+ghost use Rattle.image.specs.Tables.{Whole};
+ghost use Rattle.params_spec.specs.Calls.{paramCount, paramsOf, paramsNamed, listFormed, noneBindsReceiver, receiverApart, listHolds};
 
 // Each parameter of a list names a pattern and a type.
 fn params_named(image: &[u8], tables: Tables, words: &[u16]) -> bool
@@ -50,32 +46,7 @@ fn list_formed(image: &[u8], tables: Tables, words: &[u16]) -> bool
     params_named(image, tables, words)
 }
 
-// The row is that of a plain parameter: a Bind by value with no subpattern.
-pub fn is_plain(row: PatRow) -> bool
-    ensures { λ r. ⌜ r ≡ isPlain row ⌝ }
-{
-    if row.kind != 11 {
-        return false;
-    }
-    if row.b != 65535 {
-        return false;
-    }
-    row.d < 2
-}
-
-// The parameter p is itself a Bind of b, with no subpattern and annotation 0 or 1.
-fn binds_receiver(image: &[u8], tables: Tables, b: BindingId, p: PatId) -> bool
-    requires { ⌜ Whole (now image) tables × (p .0 < patternCount (now image)) ⌝ }
-    ensures { λ r. ⌜ r ≡ bindsReceiver (b .0) (plainBinding (tree (now (image .entry)) (p .0))) ⌝ }
-{
-    let row = pat_at(image, tables, p);
-    if !is_plain(row) {
-        return false;
-    }
-    row.a == b.0
-}
-
-// No parameter of a list is.
+// No parameter of a list is itself a plain Bind of b.
 fn none_binds_receiver(image: &[u8], tables: Tables, b: BindingId, words: &[u16]) -> bool
     requires { ⌜ Whole (now image) tables × (listFormed (now image) (now words) ≡ true) ⌝ }
     ensures { λ r. ⌜ r ≡ noneBindsReceiver (now (image .entry)) (b .0) (paramsOf (now (words .entry))) ⌝ }

@@ -14,8 +14,8 @@ use Rattle.image.specs.Valid.{valid}
 use Rattle.image.proofs.Bools.{and-left}
 use Rattle.pattern_nodes.proofs.There.{bind-there}
 use Rattle.params_spec.specs.Params.{plainBinding, boundTo}
-use Rattle.param_lists.specs.Plain.{isPlain}
-use Rattle.param_lists.proofs.Plain.{row-plain}
+use Rattle.param_plain.specs.Plain.{isPlain}
+use Rattle.param_plain.proofs.Plain.{row-plain}
 
 -- `bind_plain`
 module _ (image : List ℕ) (p : ℕ) (row : PatRow) (same : row ≡ patAt image p) where

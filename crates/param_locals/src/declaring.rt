@@ -9,7 +9,7 @@ use image::rows::pat_at;
 use mir::Counts;
 use mir::locals::NewLocal;
 use param_entries::param_local;
-use param_lists::is_plain;
+use param_plain::is_plain;
 use params_spec::SelfParam;
 use place::LocalId;
 use refusals::MirLowerError;

@@ -3,7 +3,7 @@ use body_calls_spec::Opened;
 use body_handed::start_holds;
 use body_rules::body_holds;
 use body_tables::BODY_WORDS;
-use handed::bindings_hold;
+use handed_tests::bindings_hold;
 use image::Tables;
 use mir::BasicBlockId;
 use mir::Counts;

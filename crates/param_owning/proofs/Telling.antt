@@ -20,7 +20,7 @@ use Rattle.pattern_matching.specs.Walking.{Out, Walk, step}
 use Rattle.pattern_parts.specs.Parts.{isBind}
 use Rattle.pattern_nodes.proofs.There.{bind-there}
 use Rattle.params_spec.specs.Params.{unlessBound, unlessOwn}
-use Rattle.param_lists.proofs.Plain.{bind-number}
+use Rattle.param_plain.proofs.Plain.{bind-number}
 use Rattle.param_owning.specs.declared.Owned.{Owned}
 use Rattle.param_owning.specs.Owning.{TellsBinding, TellsParam}
 

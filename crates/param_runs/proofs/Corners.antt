@@ -52,7 +52,7 @@ use Rattle.meaning.specs.Matching.{crossed, created, matchAll, matchRow, isVari
 use Rattle.meaning.specs.Running.{scalarOf, bytesOf, sameValue}
 use Rattle.param_runs.specs.Returned.{ownLocal}
 use Rattle.param_runs.specs.Through.{plain, patternFits, paramFits, paramsFit, allFit, paramsBound}
-use Rattle.param_runs.specs.Corner.{paramsStart, unbound, paramsAnswer, ParamsAnswer, acceptedParams, refusedParams, ParamsRow, cornerFits}
+use Rattle.param_runs.specs.Corner.{paramsStart, unbound, cornerAnswer, ParamsAnswer, acceptedParams, refusedParams, ParamsRow, cornerFits}
 
 abbrev plain-row : ParamsRow
 plain-row = record { image = 0 ∷ 0 ∷ 0 ∷ 41 ∷ 1 ∷ 0 ∷ 1 ∷ 0 ∷ 0 ∷ 0 ∷ 1 ∷ 0 ∷ 1 ∷ 0 ∷ 0 ∷ 0 ∷ 0 ∷ 0 ∷ 1 ∷ 0 ∷ 1 ∷ 0 ∷ 0 ∷ 0 ∷ 0 ∷ 0 ∷ 1 ∷ 0 ∷ 11 ∷ 0 ∷ 0 ∷ 0 ∷ 0 ∷ 0 ∷ 0 ∷ 255 ∷ 255 ∷ 0 ∷ 0 ∷ 0 ∷ 0 ∷ 0 ∷ 0 ∷ 0 ∷ 1 ∷ []; self = SelfParam.None; params = (record { pattern = 0; ty = 0 } ∷ []); wanted = acceptedParams (record { 0 = 0 }) (0 ∷ []) (record { terminators = (Terminator.Open ∷ []); lines = ([]); locals = (0 ∷ []) }) (0 ∷ []); values = (Int (pos 5) ∷ []); fit = true }
@@ -106,8 +106,8 @@ abbrev pub rows : List ParamsRow
 rows = plain-row ∷ mutable-row ∷ bound-some-row ∷ by-reference-row ∷ refutable-row ∷ two-enums-row ∷ receiver-and-pair-row ∷ bound-twice-row ∷ bound-first-row ∷ bound-last-row ∷ bound-by-mode-row ∷ bound-behind-row ∷ bound-annotated-row ∷ bound-at-row ∷ bound-below-row ∷ bound-without-self-row ∷ []
 
 -- each row's image comes to the answer that is wanted
-pub as-wanted : map (λ (row : ParamsRow). paramsAnswer (row .image) (row .self) (row .params)) rows ≡ map (λ (row : ParamsRow). row .wanted) rows
-unfolding wordAt littleEndian tablesOf typeAt variantAt patAt bindingAt listAt operandAt operandBytes allBelow allIn allTrue member distinct upFrom gather isScalarValue operandValueHolds operandHolds countsWhatFollows versionIsOne tablesFillTheRest listed typesListed isIntegerSize adtMayHave typeShapeHolds typeHolds variantsBy adtsShareNoVariant variantHolds bindingHolds withinLimits ifPresent subpatternsBy pathHolds patternShapeHolds patternHolds subpatternsBelow usedOnce valid shapeBy tyOf variantOf bindingOf operandOf word? operand? trees tree? target nodeBy node treeOf tree elemOf wordOf projectionOf fieldOf derefTy adtFieldTy fieldTy elementTy subsliceTy adtDowncastTy downcastTy tyProjection variantProjection partProjection projectionTy multiProjectionTy termRow halves placeWords localTy constantWords leftWords placeRvalueKind binaryKind liveRow deadRow placeRvalueRow constantRow binaryRow newBlock setTerminator pushStatement newLocal pushScope pushEntry tryBlock tryStatement tryLocal tryScope tryEntry constantOf stringConstant integerConstant literalBy lowerLiteralToOperand lowerConstToOperand literalOrConstBy lowerLiteralOrConstToOperand isSlice isHeld markLive temp bindingLocal terminatorOf elemsAt pathOf constantAt leftOf lineOf mirOf numberOf reasonOf refusalAt visited project localPlace elseState elseBlock derefed entered compare patternMatchConst literal litBy constantPath rangeEnd rangeEnd? bindingRvalue patternMatchBinding localPath placeTy shapeOf patternMatchAdt patternMatchTupleLike ellipsisAt tupleOn tuplePattern refOn refPattern resolved recordFields variantFields discriminantTest variantOn adtOn patternMatchingVariant variantPattern lengthConstant lengthCompared lengthTest restBound sliceItems sliceOn alternatives alternativesEnd orPattern endOp rangePattern pathPattern bindPattern restBy restOf patternMatchInner lowerings lowering? patternMatch paramLocal byValue plainBind plainBinding boundTo declareSelf declareParam declareParams declareBinding declareBindings declare shutElse shut unlessBound unlessOwn lowerParam lowerParams selfCount lowerAll lowerParamsAndBindings bindsReceiver noneBindsReceiver receiverApart paramsStart unbound paramsAnswer
+pub as-wanted : map (λ (row : ParamsRow). cornerAnswer (row .image) (row .self) (row .params)) rows ≡ map (λ (row : ParamsRow). row .wanted) rows
+unfolding wordAt littleEndian tablesOf typeAt variantAt patAt bindingAt listAt operandAt operandBytes allBelow allIn allTrue member distinct upFrom gather isScalarValue operandValueHolds operandHolds countsWhatFollows versionIsOne tablesFillTheRest listed typesListed isIntegerSize adtMayHave typeShapeHolds typeHolds variantsBy adtsShareNoVariant variantHolds bindingHolds withinLimits ifPresent subpatternsBy pathHolds patternShapeHolds patternHolds subpatternsBelow usedOnce valid shapeBy tyOf variantOf bindingOf operandOf word? operand? trees tree? target nodeBy node treeOf tree elemOf wordOf projectionOf fieldOf derefTy adtFieldTy fieldTy elementTy subsliceTy adtDowncastTy downcastTy tyProjection variantProjection partProjection projectionTy multiProjectionTy termRow halves placeWords localTy constantWords leftWords placeRvalueKind binaryKind liveRow deadRow placeRvalueRow constantRow binaryRow newBlock setTerminator pushStatement newLocal pushScope pushEntry tryBlock tryStatement tryLocal tryScope tryEntry constantOf stringConstant integerConstant literalBy lowerLiteralToOperand lowerConstToOperand literalOrConstBy lowerLiteralOrConstToOperand isSlice isHeld markLive temp bindingLocal terminatorOf elemsAt pathOf constantAt leftOf lineOf mirOf numberOf reasonOf refusalAt visited project localPlace elseState elseBlock derefed entered compare patternMatchConst literal litBy constantPath rangeEnd rangeEnd? bindingRvalue patternMatchBinding localPath placeTy shapeOf patternMatchAdt patternMatchTupleLike ellipsisAt tupleOn tuplePattern refOn refPattern resolved recordFields variantFields discriminantTest variantOn adtOn patternMatchingVariant variantPattern lengthConstant lengthCompared lengthTest restBound sliceItems sliceOn alternatives alternativesEnd orPattern endOp rangePattern pathPattern bindPattern restBy restOf patternMatchInner lowerings lowering? patternMatch paramLocal byValue plainBind plainBinding boundTo declareSelf declareParam declareParams declareBinding declareBindings declare shutElse shut unlessBound unlessOwn lowerParam lowerParams selfCount lowerAll lowerParamsAndBindings bindsReceiver noneBindsReceiver receiverApart paramsStart unbound cornerAnswer
 as-wanted = refl
 
 -- whether the parameters fit the values beside them, as the theorem on runs asks

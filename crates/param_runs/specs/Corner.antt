@@ -32,15 +32,15 @@ pub data ParamsAnswer : Type 0 where
   refusedParams : Refusal → ParamsAnswer
 
 -- the answer of a walk
-abbrev pub paramsAnswerOf : Walk ParamsOut → ParamsAnswer
-paramsAnswerOf (ok r) = acceptedParams (r .then) (r .bindings) (mirOf (r .ctx .state)) (r .ctx .visits)
-paramsAnswerOf (refused e p) = refusedParams (refusalAt e p)
+abbrev pub cornerAnswerOf : Walk ParamsOut → ParamsAnswer
+cornerAnswerOf (ok r) = acceptedParams (r .then) (r .bindings) (mirOf (r .ctx .state)) (r .ctx .visits)
+cornerAnswerOf (refused e p) = refusedParams (refusalAt e p)
 
 -- a list of parameters of a valid image, lowered from there, or refused where one is self's binding again
-unfoldable pub paramsAnswer : List ℕ → SelfParam → List Param → ParamsAnswer
-paramsAnswer image self params =
+unfoldable pub cornerAnswer : List ℕ → SelfParam → List Param → ParamsAnswer
+cornerAnswer image self params =
     cond (not (valid image && receiverApart image self params)) (refusedParams breaksARule)
-    (paramsAnswerOf (lowerParamsAndBindings image self params (unbound image) (paramsStart image) (record { 0 = 0 })))
+    (cornerAnswerOf (lowerParamsAndBindings image self params (unbound image) (paramsStart image) (record { 0 = 0 })))
 
 -- a corner: an image, self, the parameters, and the answer that is wanted; values for self and the parameters, and whether these fit
 pub record ParamsRow : Type 0 where

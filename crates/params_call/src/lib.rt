@@ -3,9 +3,9 @@
 pub mod lowering; // lowering.rt: the parameters, on values that were looked at
 
 use body_calls_spec::Opened;
-use body_opening::clearing::clear_above;
-use body_opening::restoring::block_row;
-use body_opening::restoring::put_back;
+use body_clearing::clear_above;
+use body_restoring::block_row;
+use body_restoring::put_back;
 use body_tables::BODY_WORDS;
 use image::Tables;
 use lowering::walk_params;

@@ -14,6 +14,7 @@ use mir::rvalues::Constant;
 use mir::rvalues::Left;
 use pattern_matching::MatchingMode;
 use pattern_matching::is_check;
+use pattern_range_ends::end_op;
 use pattern_switching::compare;
 use pattern_switching::else_block;
 use pattern_walk_spec::Lowered;
@@ -29,7 +30,7 @@ ghost use Rattle.image.specs.Types.{isSet};
 ghost use Rattle.image.specs.Tree.{operand?};
 ghost use Rattle.image.specs.Valid.{valid};
 ghost use Rattle.pattern_matching.specs.Tests.{rangeEnd?};
-ghost use Rattle.pattern_matching.specs.Patterns.{endOp, rangePattern};
+ghost use Rattle.pattern_matching.specs.Patterns.{rangePattern};
 ghost use Rattle.pattern_walk_spec.specs.Answers.{Begins, Lowers};
 ghost use Rattle.pattern_ranges.specs.Ranges.{rangeTest};
 ghost use Rattle.body_tables.specs.Layout.{bodyOf};
@@ -110,16 +111,6 @@ fn range_end(
             place,
         ),
     }
-}
-
-// The test of a range's end, by the word that is 1 for a half-open range.
-fn end_op(half_open: u16) -> BinOp
-    ensures { λ r. ⌜ r ≡ endOp (isSet half_open) ⌝ }
-{
-    if half_open == 1 {
-        return BinOp::Gt;
-    }
-    BinOp::Ge
 }
 
 // Both ends of a range of the type ty, in Check: the start is tested whole before the end is looked at.

@@ -1,18 +1,15 @@
-// Arguments in a row, and the shapes of patterns with subpatterns, by the rows of the image; whether a type is an array or a slice.
+// Arguments in a row, and the shapes of patterns with subpatterns, by the rows of the image; what a Slice pattern's type can be.
 use image::PatId;
 use image::Tables;
 use image::kinds::PatKind;
-use image::kinds::TypeKind;
 use image::kinds::pat_kind;
 use image::rows::PatRow;
 use image::rows::list_at;
-use place::elems::ProjectionElem;
 ghost use mathlib.Core.Path.{_≡_};
 ghost use mathlib.Core.Bool.{true};
-ghost use Prim.Native.Nat.{_<_};
 ghost use Rattle.image.specs.Tables.{Whole};
 ghost use Rattle.image.specs.Valid.{valid};
-ghost use Rattle.pattern_rows.specs.Rows.{compoundKind, argumentElem, argumentPat, ArgumentAt, ArgumentLies, variantWord, variantShape, beforeEllipsis, smaller, sequenceBy};
+ghost use Rattle.pattern_rows.specs.Rows.{compoundKind, argumentPat, ArgumentLies, variantWord, variantShape, beforeEllipsis, smaller};
 
 // The kinds of patterns that have subpatterns or name a variant.
 pub enum CompoundKind {
@@ -80,27 +77,6 @@ pub fn compound_kind(kind: PatKind) -> CompoundKind
     }
 }
 
-// The element that the argument i stands for, where there are so many fields, or so many last items.
-pub fn argument_elem(
-    image: &[u8],
-    tables: Tables,
-    row: ArgumentRow,
-    from: u16,
-    fields: u16,
-    i: u16,
-) -> ProjectionElem
-    requires { ⌜ (valid (now image) ≡ true) × Whole (now image) tables × ArgumentAt row (now image) from fields i ⌝ }
-    ensures { λ r. ⌜ r ≡ argumentElem row (now (image .entry)) from fields i ⌝ }
-{
-    match row {
-        ArgumentRow::Fields => ProjectionElem::Field(i),
-        ArgumentRow::LastFields => ProjectionElem::Field(fields - 1 - i),
-        ArgumentRow::RecordFields => ProjectionElem::Field(list_at(image, tables, from + 2 * i)),
-        ArgumentRow::Items => ProjectionElem::Index(i),
-        ArgumentRow::LastItems => ProjectionElem::IndexFromEnd(fields - 1 - i),
-    }
-}
-
 // The pattern that the argument i is.
 pub fn argument_pat(image: &[u8], tables: Tables, row: ArgumentRow, from: u16, i: u16) -> PatId
     requires { ⌜ (valid (now image) ≡ true) × Whole (now image) tables × ArgumentLies row (now image) from i ⌝ }
@@ -159,21 +135,4 @@ pub fn least(m: u16, n: u16) -> u16
         return m;
     }
     n
-}
-
-pub fn sequence_of(kind: TypeKind) -> Sequence
-    ensures { λ r. ⌜ r ≡ sequenceBy kind ⌝ }
-{
-    match kind {
-        TypeKind::Integer => Sequence::Other,
-        TypeKind::Bool => Sequence::Other,
-        TypeKind::Char => Sequence::Other,
-        TypeKind::Str => Sequence::Other,
-        TypeKind::Tuple => Sequence::Other,
-        TypeKind::Adt => Sequence::Other,
-        TypeKind::Reference => Sequence::Other,
-        TypeKind::Array => Sequence::Array,
-        TypeKind::Slice => Sequence::Slice,
-        TypeKind::Unknown => Sequence::Other,
-    }
 }

@@ -4,10 +4,10 @@ use Rattle.fit_bindings.proofs.bindings_fit.Tie as tie
 use Rattle.fit_bindings.proofs.bindings_fit.Reads as reads
 use Rattle.fit_bindings.proofs.bindings_fit.Lts as lts
 use Rattle.fit_bindings.proofs.clause.all_fit.Reads as all-fit-reads
-use Rattle.fit_bindings.proofs.nodes.one.Reads as one-reads
+use Rattle.fit_rows.proofs.nodes.one.Reads as one-reads
 use native.Mathlib.Omega.{arith}
-use Rattle.fit_bindings.proofs.Known.{limits}
-use Rattle.fit_bindings.proofs.Joining.{one-there, one-joined}
+use Rattle.fit_rows.proofs.Known.{limits}
+use Rattle.fit_rows.proofs.Joining.{one-there, one-joined}
 
 add-one : tie.Need-add-one
 add-one c = omega (arith, limits _ (c .before .before .pre .0) .patterns, c .before .before .pre .2)

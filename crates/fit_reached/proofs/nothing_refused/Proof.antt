@@ -4,8 +4,8 @@ use Rattle.fit_reached.proofs.nothing_refused.Tie as tie
 use Rattle.fit_reached.proofs.nothing_refused.Reads as reads
 use Rattle.fit_reached.proofs.nothing_refused.Lts as lts
 use Rattle.fit_reached.proofs.walk.reached.Reads as reached-reads
-use Rattle.fit_reached.specs.declared.Reached.{Reached}
-use Rattle.fit_reached.proofs.Deciding.{decided}
+use Rattle.fit_own.specs.declared.Reached.{Reached}
+use Rattle.fit_own.proofs.Deciding.{decided}
 
 returns : tie.Need-returns
 returns c = decided _ _ _ (c .before .before .before .before .before .pre .0 .0) (c .before .before .before .before .before .pre .1) (c .before .before .reached .ensures) Reached.Refused (c .enum-told .given .1)

@@ -2,7 +2,7 @@ use Rattle.param_lists.proofs.none_binds_receiver.Statement.{statement}
 use Rattle.param_lists.proofs.none_binds_receiver.Tie as tie
 use Rattle.param_lists.proofs.none_binds_receiver.Reads as reads
 use Rattle.param_lists.proofs.none_binds_receiver.Lts as lts
-use Rattle.param_lists.proofs.binds_receiver.Reads as binds-receiver-reads
+use Rattle.param_plain.proofs.binds_receiver.Reads as binds-receiver-reads
 use native.Mathlib.Omega.{arith}
 use Rattle.param_lists.proofs.Listing.{first-pattern, first-words}
 use Rattle.param_lists.proofs.Apart.{Looked, looks-begin, looks-end, looks-found, looks-again}

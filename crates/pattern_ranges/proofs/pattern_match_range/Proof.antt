@@ -4,7 +4,7 @@ use Rattle.pattern_ranges.proofs.pattern_match_range.Tie as tie
 use Rattle.pattern_ranges.proofs.pattern_match_range.Reads as reads
 use Rattle.pattern_ranges.proofs.pattern_match_range.Lts as lts
 use Rattle.pattern_matching.proofs.is_check.Reads as is-check-reads
-use Rattle.pattern_ranges.proofs.end_op.Reads as end-op-reads
+use Rattle.pattern_range_ends.proofs.end_op.Reads as end-op-reads
 use Rattle.pattern_ranges.proofs.range_end.Reads as range-end-reads
 use mathlib.Core.Path.{sym, _∙_}
 use borrow.Author.Tests.{not-true, not-false}

@@ -3,9 +3,9 @@ use Rattle.self_param_call.proofs.self_step.Statement.{statement}
 use Rattle.self_param_call.proofs.self_step.Tie as tie
 use Rattle.self_param_call.proofs.self_step.Reads as reads
 use Rattle.self_param_call.proofs.self_step.Lts as lts
-use Rattle.body_opening.proofs.clearing.clear_above.Reads as clear-above-reads
-use Rattle.body_opening.proofs.restoring.block_row.Reads as block-row-reads
-use Rattle.body_opening.proofs.restoring.put_back.Reads as put-back-reads
+use Rattle.body_clearing.proofs.clear_above.Reads as clear-above-reads
+use Rattle.body_restoring.proofs.block_row.Reads as block-row-reads
+use Rattle.body_restoring.proofs.put_back.Reads as put-back-reads
 use Rattle.pattern_parts.proofs.bindings.pattern_match_binding.Reads as pattern-match-binding-reads
 use native.Mathlib.Omega.{arith}
 use Rattle.body_calls_spec.proofs.Clearing.{clears}

@@ -5,19 +5,19 @@ use Rattle.fit_bindings.proofs.clause.all_fit.Reads as all-fit
 use Rattle.fit_bindings.proofs.clause.all_fit.Kinds as all-fit-kinds
 use Rattle.fit_bindings.proofs.clause.+all_fit.Lts-all_fit as all-fit-lts
 use Rattle.fit_bindings.proofs.clause.joined.Reads as joined-reads
-use Rattle.fit_bindings.proofs.nodes.first.Reads as first-reads
-use Rattle.fit_bindings.proofs.nodes.node_at.Reads as node-at-reads
-use Rattle.fit_bindings.proofs.nodes.rest.Reads as rest-reads
+use Rattle.fit_rows.proofs.nodes.first.Reads as first-reads
+use Rattle.fit_rows.proofs.nodes.node_at.Reads as node-at-reads
+use Rattle.fit_rows.proofs.nodes.rest.Reads as rest-reads
 use Rattle.fit_bindings.proofs.clause.+all_fit.{statement}
 use Rattle.fit_bindings.proofs.clause.+all_fit.Tie.{close}
 use Prim.Native.Nat.{_-_}
 use mathlib.Core.Path.{sym, _∙_}
 use native.Mathlib.Omega.{arith}
 use borrow.Author.Tests.{not-true, not-false}
-use Rattle.fit_bindings.proofs.Rows.{rest-small}
-use Rattle.fit_bindings.proofs.Known.{limits}
-use Rattle.fit_bindings.proofs.Walks.{at-pattern, node-row-lies, node-row-below}
-use Rattle.fit_bindings.proofs.Loops.{Fits, fits-start, fits-none, fits-under, fits-joined, fits-more}
+use Rattle.fit_rows.proofs.Rows.{rest-small}
+use Rattle.fit_rows.proofs.Known.{limits}
+use Rattle.fit_rows.proofs.Walks.{at-pattern, node-row-lies, node-row-below}
+use Rattle.fit_rows.proofs.Loops.{Fits, fits-start, fits-none, fits-under, fits-joined, fits-more}
 
 abbrev μ-all-fit : Measures 1 all-fit-kinds.ps ℕ
 μ-all-fit κs a = a .1 .1 .0 .below

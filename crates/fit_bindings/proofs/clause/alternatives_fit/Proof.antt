@@ -3,16 +3,16 @@ use Rattle.fit_bindings.proofs.clause.alternatives_fit.Tie as tie
 use Rattle.fit_bindings.proofs.clause.alternatives_fit.Reads as reads
 use Rattle.fit_bindings.proofs.clause.alternatives_fit.Lts as lts
 use Rattle.fit_bindings.proofs.clause.same.Reads as same-reads
-use Rattle.fit_bindings.proofs.nodes.first.Reads as first-reads
-use Rattle.fit_bindings.proofs.nodes.rest.Reads as rest-reads
+use Rattle.fit_rows.proofs.nodes.first.Reads as first-reads
+use Rattle.fit_rows.proofs.nodes.rest.Reads as rest-reads
 use Prim.Native.Nat.{_-_, _<_}
 use mathlib.Core.Path.{_∙_}
 use native.Mathlib.Omega.{arith}
 use borrow.Author.Tests.{not-true, not-false}
 use Rattle.image.specs.Tables.{patternCount}
-use Rattle.fit_bindings.proofs.Rows.{first-there, rest-small}
-use Rattle.fit_bindings.proofs.Known.{limits}
-use Rattle.fit_bindings.proofs.Joining.{Comparing, comparing-none, comparing-start, compared, comparing-end, comparing-differs, comparing-more}
+use Rattle.fit_rows.proofs.Rows.{first-there, rest-small}
+use Rattle.fit_rows.proofs.Known.{limits}
+use Rattle.fit_rows.proofs.Joining.{Comparing, comparing-none, comparing-start, compared, comparing-end, comparing-differs, comparing-more}
 
 abbrev Inv-loop : tie.InvT-loop
 Inv-loop image tables p left₀ left = Comparing image (p .0) left₀ left × (p .0 < patternCount image)

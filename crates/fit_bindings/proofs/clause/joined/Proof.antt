@@ -5,7 +5,7 @@ use Rattle.fit_bindings.proofs.clause.joined.Lts as lts
 use Rattle.fit_bindings.proofs.each.own_agrees.Reads as own-agrees-reads
 use Rattle.fit_bindings.proofs.clause.alternatives_fit.Reads as alternatives-fit-reads
 use Rattle.fit_bindings.proofs.clause.once.Reads as once-reads
-use Rattle.fit_bindings.proofs.Joining.{joined-alternatives, joined-own, joined-once}
+use Rattle.fit_rows.proofs.Joining.{joined-alternatives, joined-own, joined-once}
 use mathlib.Core.Path.{_∙_}
 use borrow.Author.Tests.{not-true, not-false}
 

@@ -4,15 +4,15 @@ use Rattle.fit_bindings.proofs.clause.once.Tie as tie
 use Rattle.fit_bindings.proofs.clause.once.Reads as reads
 use Rattle.fit_bindings.proofs.clause.once.Lts as lts
 use Rattle.fit_bindings.proofs.each.each_agrees.Reads as each-agrees-reads
-use Rattle.fit_bindings.proofs.nodes.first.Reads as first-reads
-use Rattle.fit_bindings.proofs.nodes.one.Reads as one-reads
-use Rattle.fit_bindings.proofs.nodes.rest.Reads as rest-reads
+use Rattle.fit_rows.proofs.nodes.first.Reads as first-reads
+use Rattle.fit_rows.proofs.nodes.one.Reads as one-reads
+use Rattle.fit_rows.proofs.nodes.rest.Reads as rest-reads
 use Prim.Native.Nat.{_-_}
 use native.Mathlib.Omega.{arith}
 use borrow.Author.Tests.{not-true, not-false}
-use Rattle.fit_bindings.proofs.Rows.{first-there, rest-small}
-use Rattle.fit_bindings.proofs.Known.{limits}
-use Rattle.fit_bindings.proofs.Joining.{one-there, Apart, apart-start, apart-end, rest-there, apart-twice, apart-more}
+use Rattle.fit_rows.proofs.Rows.{first-there, rest-small}
+use Rattle.fit_rows.proofs.Known.{limits}
+use Rattle.fit_rows.proofs.Joining.{one-there, Apart, apart-start, apart-end, rest-there, apart-twice, apart-more}
 
 abbrev Inv-loop : tie.InvT-loop
 Inv-loop image tables left₀ left = Apart image left₀ left

@@ -4,11 +4,11 @@ use Rattle.fit_bindings.proofs.clause.same.Tie as tie
 use Rattle.fit_bindings.proofs.clause.same.Reads as reads
 use Rattle.fit_bindings.proofs.clause.same.Lts as lts
 use Rattle.fit_bindings.proofs.each.each_agrees.Reads as each-agrees-reads
-use Rattle.fit_bindings.proofs.nodes.one.Reads as one-reads
+use Rattle.fit_rows.proofs.nodes.one.Reads as one-reads
 use native.Mathlib.Omega.{arith}
 use borrow.Author.Tests.{not-true, not-false}
-use Rattle.fit_bindings.proofs.Known.{limits}
-use Rattle.fit_bindings.proofs.Joining.{one-there, same-differs, same-is}
+use Rattle.fit_rows.proofs.Known.{limits}
+use Rattle.fit_rows.proofs.Joining.{one-there, same-differs, same-is}
 
 add-one : tie.Need-add-one
 add-one c = omega (arith, limits _ (c .before .before .pre .0) .patterns, c .before .before .pre .2)

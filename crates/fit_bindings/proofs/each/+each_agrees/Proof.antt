@@ -5,21 +5,21 @@ use Rattle.fit_bindings.proofs.each.each_agrees.Reads as each-agrees
 use Rattle.fit_bindings.proofs.each.each_agrees.Kinds as each-agrees-kinds
 use Rattle.fit_bindings.proofs.each.+each_agrees.Lts-each_agrees as each-agrees-lts
 use Rattle.fit_bindings.proofs.each.own_agrees.Reads as own-agrees-reads
-use Rattle.fit_bindings.proofs.nodes.first.Reads as first-reads
-use Rattle.fit_bindings.proofs.nodes.node_at.Reads as node-at-reads
-use Rattle.fit_bindings.proofs.nodes.rest.Reads as rest-reads
-use Rattle.fit_bindings.proofs.nodes.telling.Reads as telling-reads
+use Rattle.fit_rows.proofs.nodes.first.Reads as first-reads
+use Rattle.fit_rows.proofs.nodes.node_at.Reads as node-at-reads
+use Rattle.fit_rows.proofs.nodes.rest.Reads as rest-reads
+use Rattle.fit_rows.proofs.nodes.telling.Reads as telling-reads
 use Rattle.fit_bindings.proofs.each.+each_agrees.{statement}
 use Rattle.fit_bindings.proofs.each.+each_agrees.Tie.{close}
 use Prim.Native.Nat.{_-_}
 use native.Mathlib.Omega.{arith}
 use borrow.Author.Needs.{needs}
 use borrow.Author.Tests.{not-true, not-false}
-use Rattle.fit_bindings.specs.Bound.{agrees, boundInRow}
-use Rattle.fit_bindings.proofs.Rows.{rest-small}
-use Rattle.fit_bindings.proofs.Known.{limits}
-use Rattle.fit_bindings.proofs.Walks.{at-pattern, node-telling-lies, node-telling-below}
-use Rattle.fit_bindings.proofs.Loops.{Asking, asking-start, asking-none, asking-own, asking-under, asking-more}
+use Rattle.fit_rows.specs.Bound.{agrees, boundInRow}
+use Rattle.fit_rows.proofs.Rows.{rest-small}
+use Rattle.fit_rows.proofs.Known.{limits}
+use Rattle.fit_rows.proofs.Walks.{at-pattern, node-telling-lies, node-telling-below}
+use Rattle.fit_rows.proofs.Loops.{Asking, asking-start, asking-none, asking-own, asking-under, asking-more}
 
 abbrev μ-each-agrees : Measures 1 each-agrees-kinds.ps ℕ
 μ-each-agrees κs a = a .1 .1 .1 .0 .below

@@ -6,7 +6,7 @@ use Rattle.fit_bindings.proofs.each.own_agrees.Lts as lts
 use Rattle.fit_bindings.proofs.each.at_agrees.Reads as at-agrees-reads
 use Rattle.fit_bindings.proofs.each.rest_agrees.Reads as rest-agrees-reads
 use mathlib.Core.Path.{refl}
-use Rattle.fit_bindings.specs.Bound.{allOf, owned}
+use Rattle.fit_rows.specs.Bound.{allOf, owned}
 
 at-agrees-requires : tie.Need-at-agrees-requires
 at-agrees-requires c κs = c .before .before .before .before .pre

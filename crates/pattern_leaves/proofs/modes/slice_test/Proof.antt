@@ -6,7 +6,7 @@ use Rattle.pattern_leaves.proofs.modes.slice_test.Lts as lts
 use Rattle.image.proofs.kinds.type_kind.Reads as type-kind-reads
 use Rattle.image.proofs.rows.type_at.Reads as type-at-reads
 use Rattle.pattern_matching.proofs.is_check.Reads as is-check-reads
-use Rattle.pattern_rows.proofs.sequence_of.Reads as sequence-of-reads
+use Rattle.pattern_items.proofs.sequence_of.Reads as sequence-of-reads
 use Rattle.pattern_tests.proofs.lengths.length_test.Reads as length-test-reads
 use mathlib.Core.Path.{sym, _∙_}
 use borrow.Author.Tests.{not-true, not-false}

@@ -2,7 +2,7 @@
 use Prim.Native.Nat.{ℕ}
 use Rattle.pattern_walk.proofs.adt.pattern_match_adt.Reads as adt·pattern-match-adt
 use Rattle.pattern_walk.proofs.+adt-pattern_match_adt+adt-pattern_match_tuple_like+adt-pattern_matching_variant+pattern_match_inner+pattern_matching_variant_fields+sub-alt+sub-alts+sub-bound+sub-slice.Lts-adt-pattern_match_adt as lts
-use Rattle.pattern_rows.proofs.argument_elem.Reads as argument-elem-reads
+use Rattle.pattern_items.proofs.argument_elem.Reads as argument-elem-reads
 use Rattle.place.proofs.project.Reads as project-reads
 use Rattle.pattern_rows.proofs.argument_pat.Reads as argument-pat-reads
 use Rattle.pattern_idle.proofs.nothing_to_do.Reads as nothing-to-do-reads

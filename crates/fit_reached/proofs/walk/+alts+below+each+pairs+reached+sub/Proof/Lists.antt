@@ -14,8 +14,8 @@ use native.Mathlib.Omega.{arith}
 use Rattle.fit_types.proofs.Stepping.{items-first, pairs-first}
 use Rattle.fit_types.proofs.Rowing.{items-along, pairs-along}
 use Rattle.fit_types.proofs.Holding.{sub-below as present-below}
-use Rattle.fit_reached.specs.Answers.{withTest}
-use Rattle.fit_reached.proofs.Stepping.{row-refused, row-sure, row-fails, row-end, alts-refused, alts-sure, alts-fail, alts-end, field-on, sub-absent, sub-there}
+use Rattle.fit_own.specs.Answers.{withTest}
+use Rattle.fit_own.proofs.Stepping.{row-refused, row-sure, row-fails, row-end, alts-refused, alts-sure, alts-fail, alts-end, field-on, sub-absent, sub-there}
 use Rattle.fit_reached.proofs.walk.+alts+below+each+pairs+reached+sub.Proof.Measures.{alts-at, each-at, pairs-at, sub-at, alts-Inv-loop, alts-μ-loop, alts-calls, each-calls, pairs-calls, sub-calls, each-Inv-loop, each-μ-loop, pairs-Inv-loop, pairs-μ-loop}
 
 pub alts-loop-holds : (t : ℕ) → alts-lts.Need-loop-holds (alts-calls t) (alts-at t) alts.Post alts-Inv-loop alts-μ-loop

@@ -20,16 +20,16 @@ use Rattle.fit_reached.proofs.walk.+alts+below+each+pairs+reached+sub.L
 use Rattle.fit_reached.proofs.walk.sub.Reads as sub
 use Rattle.fit_reached.proofs.walk.sub.Kinds as sub-kinds
 use Rattle.fit_reached.proofs.walk.+alts+below+each+pairs+reached+sub.Lts-sub as sub-lts
-use Rattle.fit_reached.proofs.own.own_taken.Reads as own-taken-reads
-use Rattle.fit_reached.proofs.own.own_test.Reads as own-test-reads
+use Rattle.fit_own.proofs.own.own_taken.Reads as own-taken-reads
+use Rattle.fit_own.proofs.own.own_test.Reads as own-test-reads
 use Rattle.fit_reached.proofs.walk.with_test.Reads as with-test-reads
 use Rattle.image.proofs.kinds.pat_kind.Reads as pat-kind-reads
 use Rattle.image.proofs.rows.list_at.Reads as list-at-reads
 use Rattle.image.proofs.rows.pat_at.Reads as pat-at-reads
 use Prim.Native.Nat.{_+_, _*_, _≤_}
 use mathlib.Core.Path.{_≡_}
-use Rattle.fit_reached.specs.Answers.{withTest}
-use Rattle.fit_reached.specs.Rows.{rowReached, altsReached}
+use Rattle.fit_own.specs.Answers.{withTest}
+use Rattle.fit_own.specs.Rows.{rowReached, altsReached}
 
 abbrev pub μ-alts : Measures 2 alts-kinds.ps ℕ
 μ-alts κs a = 3 * (a .1 .1 .1 .0 .0) + 0

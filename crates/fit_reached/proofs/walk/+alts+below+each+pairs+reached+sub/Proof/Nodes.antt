@@ -9,11 +9,11 @@ use borrow.Author.Tests.{not-true, not-false}
 use Rattle.image.specs.declared.kinds.PatKind.{PatKind}
 use Rattle.fit_types.proofs.Asking.{node-at}
 use Rattle.fit_types.proofs.Holding.{node-is, tuple-items, or-items, tuple-struct-items, record-pairs, bind-below, ref-below, slice-within}
-use Rattle.fit_reached.specs.Rows.{belowReached}
-use Rattle.fit_reached.proofs.Wording.{row-of}
-use Rattle.fit_reached.proofs.Stepping.{slice-items}
-use Rattle.fit_reached.proofs.Nodes.{refused-here, taken-here}
-use Rattle.fit_reached.proofs.Defaults.{none-below}
+use Rattle.fit_own.specs.Rows.{belowReached}
+use Rattle.fit_own.proofs.Wording.{row-of}
+use Rattle.fit_own.proofs.Stepping.{slice-items}
+use Rattle.fit_own.proofs.Nodes.{refused-here, taken-here}
+use Rattle.fit_own.proofs.Defaults.{none-below}
 use Rattle.fit_reached.proofs.walk.+alts+below+each+pairs+reached+sub.Proof.Measures.{below-at, reached-at, below-calls, reached-calls}
 
 pub below-each-requires : (t : ℕ) → below-lts.Need-each-requires (below-calls t) (below-at t) below.Post
