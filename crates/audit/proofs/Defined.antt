@@ -3,7 +3,7 @@
 use mathlib.Core.Path.{_≡_}
 use mathlib.Core.List.{map}
 use lib.ListN.{length}
-use Rattle.refusals.specs.Refusals.{ok as done}
+use Rattle.refusals.specs.Refusals.{done}
 use Rattle.pattern_matching.specs.Walking.{ok}
 use Rattle.params_spec.specs.Params.{Declared}
 use Rattle.param_runs.specs.Corner.{cornerAnswer, ParamsRow}

@@ -5,7 +5,7 @@ use mathlib.Core.Path.{_≡_}
 use mathlib.Core.Bool.{cond}
 use mathlib.Core.List.{List, [], _∷_, _++_, map}
 use Rattle.refusals.specs.declared.MirLowerError.{MirLowerError}
-use Rattle.refusals.specs.Refusals.{refused, andThen}
+use Rattle.refusals.specs.Refusals.{stopped, andThen}
 use Rattle.image.specs.Lists.{member}
 use Rattle.mir.specs.declared.BasicBlockId.{BasicBlockId}
 use Rattle.state.specs.State.{Body, State}
@@ -39,7 +39,7 @@ a-live-mark-records-its-local-unless-an-open-scope-holds-it = scopes.marks-recor
 
 -- A temporary's local is new, so no scope holds it: `temp` records it without a look, and this is as with one.
 pub a-temporary's-local-is-held-by-no-scope : (image : List ℕ) (st : State) (word : ℕ) (block : BasicBlockId) → NamedBelow st →
-    temp image st word block ≡ cond (isSlice image word) (refused MirLowerError.UnsizedTemporary) (andThen (tryLocal st word) (λ st₁. pushStorageLiveForLocal st₁ (nextLocal st) block))
+    temp image st word block ≡ cond (isSlice image word) (stopped MirLowerError.UnsizedTemporary) (andThen (tryLocal st word) (λ st₁. pushStorageLiveForLocal st₁ (nextLocal st) block))
 a-temporary's-local-is-held-by-no-scope = temp-looked-for
 
 -- "Where a local stands at most once in all the scopes handed in, it still does afterwards", for each local by itself: of a call on a pattern, its answer, and what lies in

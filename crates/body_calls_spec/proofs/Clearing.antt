@@ -6,7 +6,7 @@ use native.Mathlib.Nat.{le-refl}
 use native.Mathlib.Omega.{arith}
 use lib.ListN.{length, take}
 use lib.Seq.{length-take-le, take-at, drop-at}
-use Rattle.row_tables.specs.Rows.{zeros, rowsOf, cleared, encode as encodeRows}
+use Rattle.row_tables.specs.Rows.{zeros, rowsOf, cleared, encodeRows}
 use Rattle.row_tables.proofs.Tables.{length-cleared, rows-cleared, blank-cleared, encoded}
 use Rattle.mir.specs.declared.Counts.{Counts}
 use Rattle.state.specs.State.{Body, body, decode, encode, padded, countsOf}

@@ -10,7 +10,7 @@ use native.Mathlib.Omega.{arith}
 use lib.ListN.{getD}
 use lib.Seq.{getD-take}
 use Rattle.refusals.specs.declared.MirLowerError.{MirLowerError}
-use Rattle.refusals.specs.Refusals.{Result, ok, refused, andThen}
+use Rattle.refusals.specs.Refusals.{Result, done, stopped, andThen}
 use Rattle.row_tables.specs.Rows.{stored}
 use Rattle.place.specs.declared.LocalId.{LocalId}
 use Rattle.mir.specs.declared.BasicBlockId.{BasicBlockId}
@@ -25,7 +25,7 @@ use Rattle.state.specs.State.{Body, State, decode}
 use Rattle.state.specs.Steps.{nextBlock, tryBlock, setTerminator}
 use Rattle.state.specs.Contracts.{Ready, Own, Answers}
 use Rattle.state.proofs.RowLengths.{dead-length}
-use Rattle.state.proofs.Answering.{grown-refl, grown-trans, kept-refl, kept-trans, then, stops, done, block-full, next-block}
+use Rattle.state.proofs.Answering.{grown-refl, grown-trans, kept-refl, kept-trans, then, stops, no-step, block-full, next-block}
 use Rattle.drop_scopes_spec.specs.declared.AtBlock.{AtBlock}
 use Rattle.drop_scopes_spec.specs.Dropping.{At, isCopy, markDead, emitDropAndStorageDead, leaveAll, lastFirst}
 use Rattle.drop_scopes_spec.specs.Promises.{LeftAt}
@@ -58,7 +58,7 @@ module _ (c : Counts) (block : BasicBlockId) (l : LocalId) (b₀ : Body) {b : Bo
       record {
         answers = λ R.
             let F = statement-made b₀ c (block .0) (deadRow block l) (dead-length block l) made is R in
-            then (λ st₁. ok (record { state = st₁; block = block })) F (inl refl) (done {current = block .0} (record { state = decode b c₁; block = block }) (F .goes .0));
+            then (λ st₁. done (record { state = st₁; block = block })) F (inl refl) (no-step {current = block .0} (record { state = decode b c₁; block = block }) (F .goes .0));
         left = rw same (h, inl refl, le-refl (c .blocks), refl, refl, refl);
         beside = beside-statements is;
       }
@@ -68,7 +68,7 @@ module _ (c : Counts) (block : BasicBlockId) (l : LocalId) (b₀ : Body) {b : Bo
   unfolding markDead
   dead-refused full =
       record {
-        answers = λ R. stops (λ st₁. ok (record { state = st₁; block = block })) (statement-made b₀ c (block .0) (deadRow block l) (dead-length block l) full is R);
+        answers = λ R. stops (λ st₁. done (record { state = st₁; block = block })) (statement-made b₀ c (block .0) (deadRow block l) (dead-length block l) full is R);
         left = tt;
         beside = beside-statements is;
       }
@@ -87,8 +87,8 @@ left-trans c c₁ block next (AtBlock.Refused e) L M = tt
 
 -- three steps, the first two taken together
 and-then-twice : {A B C : Type 0} (r : Result A) (f : A → Result B) (g : B → Result C) → andThen (andThen r f) g ≡ andThen r (λ a. andThen (f a) g)
-and-then-twice (ok a) f g = refl
-and-then-twice (refused e) f g = refl
+and-then-twice (done a) f g = refl
+and-then-twice (stopped e) f g = refl
 
 -- an answer to the same, said in another way
 meant : {A : Type 0} {b b₁ : Body} {c : Counts} {current : ℕ} {c₁ : Option Counts} {given defined defined₁ : A} → defined ≡ defined₁ → Answers b c current b₁ c₁ given defined → Answers b c current b₁ c₁ given defined₁
@@ -129,7 +129,7 @@ module _ (image : List ℕ) (c : Counts) (block : BasicBlockId) (l : LocalId) (b
       let below : block .0 < c₁ .blocks = omega arith in
       let number : next .0 ≡ c .blocks = ap (λ (x : BasicBlockId). x .0) (m .2) in
       let own : c .blocks ≤ next .0 = omega arith in
-      let set-drop : State → Result State = λ st₁. ok (setTerminator st₁ block (Terminator.Drop l next)) in
+      let set-drop : State → Result State = λ st₁. done (setTerminator st₁ block (Terminator.Drop l next)) in
       let marks : State → Result At = λ st₂. markDead st₂ next l in
       record {
         answers = λ R.

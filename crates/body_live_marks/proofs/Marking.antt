@@ -7,7 +7,7 @@ use Prim.Native.Nat.{ℕ}
 use borrow.Author.Tests.{eq-eqb, ne-eqb}
 use lib.ListN.{take}
 use Rattle.refusals.specs.declared.MirLowerError.{MirLowerError}
-use Rattle.refusals.specs.Refusals.{ok, refused, andThen}
+use Rattle.refusals.specs.Refusals.{done, stopped, andThen}
 use Rattle.image.specs.Lists.{member}
 use Rattle.place.specs.declared.LocalId.{LocalId}
 use Rattle.mir.specs.declared.BasicBlockId.{BasicBlockId}
@@ -21,7 +21,7 @@ use Rattle.state.specs.Steps.{tryStatement}
 use Rattle.state.specs.Contracts.{Ready, Answers, steppedCounts, steppedResult}
 use Rattle.state.specs.declared.Stepped.{Stepped}
 use Rattle.state.proofs.RowLengths.{live-length}
-use Rattle.state.proofs.Answering.{scope-count, then, stops, done, refuses}
+use Rattle.state.proofs.Answering.{scope-count, then, stops, no-step, refuses}
 use Rattle.state.proofs.Calls.{countedCounts, countedResult}
 use Rattle.lower_spec.specs.Temps.{isHeld, recordUnless, markLive, pushStorageLiveForLocal, bindingLocal, pushStorageLive}
 use Rattle.body_tables.specs.Layout.{withStatements, withEntries}
@@ -32,7 +32,7 @@ use Rattle.body_tables.proofs.Building.{entry-made, statement-made}
 record-answers : (b₀ : Body) (c : Counts) (current : ℕ) (l : LocalId) (held : Bool) {r : Counted} {b : Body} → r ≡ cond held (Counted.Now c) (newEntry c) →
     b ≡ cond held b₀ (withEntries b₀ (entriesAfter c (b₀ .entries) (l .0))) → Ready b₀ c →
     Answers b₀ c current b (countedCounts r) (countedResult r b) (recordUnless held (decode b₀ c) l)
-record-answers b₀ c current l true is after R = rw (is, after) (done (decode b₀ c) R)
+record-answers b₀ c current l true is after R = rw (is, after) (no-step (decode b₀ c) R)
 record-answers b₀ c current l false is after R = entry-made b₀ c current l is after R
 
 -- b₀ is the body at entry
@@ -81,12 +81,12 @@ mark-looked b₀ c l block held r {b = b} is M current R =
 -- `push_storage_live`
 module _ (b₀ : Body) (c : Counts) (bindings : List ℕ) (k : ℕ) (block : BasicBlockId) where
   -- the binding has no local
-  pub binding-refused : {e : MirLowerError} → refused e ≡ bindingLocal bindings k → Adds (λ st. pushStorageLive st bindings k block) c b₀ (Stepped.Refused e) b₀
+  pub binding-refused : {e : MirLowerError} → stopped e ≡ bindingLocal bindings k → Adds (λ st. pushStorageLive st bindings k block) c b₀ (Stepped.Refused e) b₀
   unfolding pushStorageLive
   binding-refused {e = e} h current R = refuses e (ap (λ r. andThen r (λ l. pushStorageLiveForLocal (decode b₀ c) l block)) h)
 
   -- the binding's local is marked
-  pub binding-marked : {l : LocalId} {b : Body} (r : Stepped) → ok l ≡ bindingLocal bindings k → Adds (λ st. pushStorageLiveForLocal st l block) c b₀ r b →
+  pub binding-marked : {l : LocalId} {b : Body} (r : Stepped) → done l ≡ bindingLocal bindings k → Adds (λ st. pushStorageLiveForLocal st l block) c b₀ r b →
       Adds (λ st. pushStorageLive st bindings k block) c b₀ r b
   unfolding pushStorageLive
   binding-marked r h M current R = rw (← h) (M current R)

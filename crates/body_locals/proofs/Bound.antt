@@ -6,7 +6,7 @@ use native.Mathlib.Omega.{arith}
 use borrow.Author.Tests.{eq-eqb, ne-eqb}
 use lib.ListN.{length, getD}
 use Rattle.refusals.specs.declared.MirLowerError.{MirLowerError}
-use Rattle.refusals.specs.Refusals.{ok, refused}
+use Rattle.refusals.specs.Refusals.{done, stopped}
 use Rattle.lower_spec.specs.Temps.{bindingLocal}
 
 -- within a list it does not matter what there would be outside
@@ -18,11 +18,11 @@ getD-within (x ∷ xs) (suc i) d d′ h = getD-within xs i d d′ (omega arith)
 -- `binding_local`
 module _ (bindings : List ℕ) (b : ℕ) (within : b < length bindings) where
   -- the binding has no local
-  pub no-local : getD bindings b 0 ≡ 65535 → refused MirLowerError.InaccessibleLocal ≡ bindingLocal bindings b
+  pub no-local : getD bindings b 0 ≡ 65535 → stopped MirLowerError.InaccessibleLocal ≡ bindingLocal bindings b
   unfolding bindingLocal
   no-local h = rw (getD-within bindings b 65535 0 within, eq-eqb (getD bindings b 0) 65535 h) refl
 
   -- the binding has one
-  pub bound-local : (getD bindings b 0 ≡ 65535 → ⊥) → ok (record { 0 = getD bindings b 0 }) ≡ bindingLocal bindings b
+  pub bound-local : (getD bindings b 0 ≡ 65535 → ⊥) → done (record { 0 = getD bindings b 0 }) ≡ bindingLocal bindings b
   unfolding bindingLocal
   bound-local h = rw (getD-within bindings b 65535 0 within, ne-eqb (getD bindings b 0) 65535 h) refl

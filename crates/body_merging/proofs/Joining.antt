@@ -5,7 +5,7 @@ use Prim.Native.Nat.{ℕ, _*_, _<_}
 use native.Mathlib.Nat.{le-trans}
 use native.Mathlib.Omega.{arith}
 use Rattle.refusals.specs.declared.MirLowerError.{MirLowerError}
-use Rattle.refusals.specs.Refusals.{Result, ok, andThen}
+use Rattle.refusals.specs.Refusals.{Result, done, andThen}
 use Rattle.row_tables.specs.Rows.{stored}
 use Rattle.mir.specs.declared.BasicBlockId.{BasicBlockId}
 use Rattle.mir.specs.declared.Counts.{Counts}
@@ -41,7 +41,7 @@ module _ (c : Counts) (b₀ : Body) where
     pub merge-full : NewBlock.Full ≡ newBlock c → Merges c (OptBlock.Some a) (OptBlock.Some b) b₀ (Merged.Refused MirLowerError.Limit) b₀
     unfolding mergeBlocks
     merge-full full = record {
-      says = λ R. stops (λ st₁. ok (setGoto (setGoto st₁ a (nextBlock (decode b₀ c))) b (nextBlock (decode b₀ c)))) (block-made b₀ c 0 full R) .says;
+      says = λ R. stops (λ st₁. done (setGoto (setGoto st₁ a (nextBlock (decode b₀ c))) b (nextBlock (decode b₀ c)))) (block-made b₀ c 0 full R) .says;
       goes = λ R. tt;
       number = tt;
       untouched = λ h. refl;
@@ -51,25 +51,25 @@ module _ (c : Counts) (b₀ : Body) where
         (first : b₁ ≡ withBlocks b₀ (stored (b₀ .blocks) (blockWidth * a .0) (termRow (Terminator.Goto m)))) (second : b₂ ≡ withBlocks b₁ (stored (b₁ .blocks) (blockWidth * b .0) (termRow (Terminator.Goto m)))) where
       module _ (R : Ready b₀ c) where
         -- the new block
-        made : Answers b₀ c 0 b₀ (some c₁) (ok (decode b₀ c₁)) (tryBlock (decode b₀ c))
+        made : Answers b₀ c 0 b₀ (some c₁) (done (decode b₀ c₁)) (tryBlock (decode b₀ c))
         made = block-made b₀ c 0 is R
 
         -- the first goes on there
-        set-first : Answers b₀ c₁ (a .0) b₁ (some c₁) (ok (decode b₁ c₁)) (ok (setGoto (decode b₀ c₁) a m))
+        set-first : Answers b₀ c₁ (a .0) b₁ (some c₁) (done (decode b₁ c₁)) (done (setGoto (decode b₀ c₁) a m))
         set-first = terminator-set b₀ c₁ a (Terminator.Goto m) first (le-trans a-there (made .goes .1 .blocks)) (made .goes .0)
 
         -- and so does the second, which may be the same
-        set-second : Answers b₁ c₁ (b .0) b₂ (some c₁) (ok (decode b₂ c₁)) (ok (setGoto (decode b₁ c₁) b m))
+        set-second : Answers b₁ c₁ (b .0) b₂ (some c₁) (done (decode b₂ c₁)) (done (setGoto (decode b₁ c₁) b m))
         set-second = terminator-set b₁ c₁ b (Terminator.Goto m) second (le-trans b-there (made .goes .1 .blocks)) (set-first .goes .0)
 
         -- together they are what the definition gives
-        two-says : ok (decode b₂ c₁) ≡ mergeBlocks (decode b₀ c) (OptBlock.Some a) (OptBlock.Some b)
+        two-says : done (decode b₂ c₁) ≡ mergeBlocks (decode b₀ c) (OptBlock.Some a) (OptBlock.Some b)
         unfolding mergeBlocks
         two-says =
             set-second .says
-            ∙ ap (λ (r : Result State). andThen r (λ st. ok (setGoto st b m))) (set-first .says)
-            ∙ ap (λ (r : Result State). andThen r (λ st₁. ok (setGoto (setGoto st₁ a m) b m))) (made .says)
-            ∙ ap (λ (k : BasicBlockId). andThen (tryBlock (decode b₀ c)) (λ st₁. ok (setGoto (setGoto st₁ a k) b k))) (block-number c is ∙ next-block b₀ c)
+            ∙ ap (λ (r : Result State). andThen r (λ st. done (setGoto st b m))) (set-first .says)
+            ∙ ap (λ (r : Result State). andThen r (λ st₁. done (setGoto (setGoto st₁ a m) b m))) (made .says)
+            ∙ ap (λ (k : BasicBlockId). andThen (tryBlock (decode b₀ c)) (λ st₁. done (setGoto (setGoto st₁ a k) b k))) (block-number c is ∙ next-block b₀ c)
 
       -- both go on at a new block
       pub merge-new : Merges c (OptBlock.Some a) (OptBlock.Some b) b₀ (Merged.At c₁ (OptBlock.Some m)) b₂

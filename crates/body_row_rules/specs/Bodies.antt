@@ -54,8 +54,8 @@ unfoldable pub elemAtHolds : ℕ → List ℕ → ℕ → ℕ → Bool
 elemAtHolds variants table i j = elemHolds variants (elemOf (wordOf 49 table i (17 + 2 * j) + 65536 * wordOf 49 table i (18 + 2 * j)))
 
 -- the place in the statement i: its root is there, and it has at most 16 elements, each of which holds
-unfoldable pub placeHolds : ℕ → List ℕ → Counts → ℕ → Bool
-placeHolds variants table c i = isLocal c (wordOf 49 table i 15) && leb (wordOf 49 table i 16) 16 && allBelow (elemAtHolds variants table i) (wordOf 49 table i 16)
+unfoldable pub statementPlaceHolds : ℕ → List ℕ → Counts → ℕ → Bool
+statementPlaceHolds variants table c i = isLocal c (wordOf 49 table i 15) && leb (wordOf 49 table i 16) 16 && allBelow (elemAtHolds variants table i) (wordOf 49 table i 16)
 
 -- the constant in the statement i: at most 16 bytes, of a type that there is
 unfoldable pub constantHolds : ℕ → List ℕ → ℕ → Bool
@@ -71,9 +71,9 @@ unfoldable pub rvalueHolds : ℕ → ℕ → List ℕ → Counts → ℕ → ℕ
 rvalueHolds types variants table c i kind =
     cond (ltb kind 1) false
     (cond (leb kind 2) true
-    (cond (leb kind 7) (placeHolds variants table c i)
+    (cond (leb kind 7) (statementPlaceHolds variants table c i)
     (cond (eqb kind 8) (constantHolds types table i)
-    (cond (leb kind 12) (leftHolds types table c i && placeHolds variants table c i) false))))
+    (cond (leb kind 12) (leftHolds types table c i && statementPlaceHolds variants table c i) false))))
 
 -- the statement i stands in a block that there is, is about a local that there is, and names nothing else that is missing
 unfoldable pub statementHolds : ℕ → ℕ → List ℕ → Counts → ℕ → Bool

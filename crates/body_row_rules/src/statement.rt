@@ -7,7 +7,7 @@ ghost use mathlib.Core.Path.{_≡_};
 ghost use Prim.Native.Nat.{_<_, _≤_};
 ghost use lib.ListN.{length};
 ghost use Rattle.image.specs.Lists.{allBelow};
-ghost use Rattle.body_row_rules.specs.Bodies.{elemHolds, elemAtHolds, placeHolds, constantHolds, leftHolds, rvalueHolds, statementHolds};
+ghost use Rattle.body_row_rules.specs.Bodies.{elemHolds, elemAtHolds, statementPlaceHolds, constantHolds, leftHolds, rvalueHolds, statementHolds};
 
 // An element of a known kind; a Downcast names a variant that there is.
 pub fn elem_holds(variants: u16, elem: ProjectionElem) -> bool
@@ -52,7 +52,7 @@ fn elems_hold(variants: u16, statements: &[u16], i: u16, count: u16) -> bool
 // The place in the statement i.
 fn place_holds(variants: u16, statements: &[u16], counts: Counts, i: u16) -> bool
     requires { ⌜ (length (now statements) ≡ 50176) × (i < 1024) ⌝ }
-    ensures { λ r. ⌜ r ≡ placeHolds variants (now (statements .entry)) counts i ⌝ }
+    ensures { λ r. ⌜ r ≡ statementPlaceHolds variants (now (statements .entry)) counts i ⌝ }
 {
     let at = 49 * (i as usize);
     if counts.locals <= statements[at + 15] {

@@ -11,7 +11,7 @@ use lib.Dec.{ltb}
 use lib.ListN.{length, length-set, getD, take, set, List·getD-eq-default}
 use lib.Seq.{getD-take, take-take}
 use Rattle.refusals.specs.declared.MirLowerError.{MirLowerError}
-use Rattle.refusals.specs.Refusals.{Result, ok, andThen}
+use Rattle.refusals.specs.Refusals.{Result, done, andThen}
 use Rattle.row_tables.specs.Rows.{zeros, rowsOf, stored}
 use Rattle.row_tables.proofs.Zeros.{length-zeros}
 use Rattle.row_tables.proofs.Tables.{before-stored, length-stored}
@@ -107,12 +107,12 @@ module _ (image : List ℕ) (b₀ : Body) (c : Counts) (block : BasicBlockId) wh
   module _ (start : ℕ) (pos : 0 < c .scopes) (is : start ≡ getD (b₀ .scopes) (c .scopes - 1) 0) (le : start ≤ c .entries) where
     -- what the last scope's locals leave
     pop-says : {r : Result At} → Ready b₀ c → r ≡ leaveAll image (decode b₀ c) block (lastFirst (b₀ .entries) start (c .entries - start)) →
-        andThen r (λ at. ok (record { state = popScope (at .state); block = at .block })) ≡ popAndDrop image (decode b₀ c) block
+        andThen r (λ at. done (record { state = popScope (at .state); block = at .block })) ≡ popAndDrop image (decode b₀ c) block
     unfolding popAndDrop
     pop-says R says =
         let last = start-of b₀ c (c .scopes - 1) R in
         rw (scope-count b₀ c R, ne-eqb (c .scopes) 0 (λ none-left. omega arith))
-        (ap (λ (x : Result At). andThen x (λ at. ok (record { state = popScope (at .state); block = at .block })))
+        (ap (λ (x : Result At). andThen x (λ at. done (record { state = popScope (at .state); block = at .block })))
         (says ∙ ap (leaveAll image (decode b₀ c) block)
         (entries-of b₀ c (c .scopes - 1) start R (is ∙ rw (lt-ltb (c .scopes - 1) (c .scopes) (omega arith)) at last) le)))
 
@@ -134,7 +134,7 @@ module _ (image : List ℕ) (b₀ : Body) (c : Counts) (block : BasicBlockId) wh
         record {
           says = λ R.
               let A = L .answers R in
-              ap (λ (st : State). ok (record { state = st; block = at })) (C .says (A .goes .0)) ∙ pop-says R (A .says);
+              ap (λ (st : State). done (record { state = st; block = at })) (C .says (A .goes .0)) ∙ pop-says R (A .says);
           goes = λ R. C .goes (L .answers R .goes .0);
           kept = λ R none-left. absurd (let z : _≡_ {A = ℕ} 0 1 = cc in omega arith);
         }
@@ -199,7 +199,7 @@ module _ (b : Body) (c : Counts) where
   unfolding popAssumeDropped
   closes pos C =
       record {
-        says = λ R. rw (scope-count b c R, ne-eqb (c .scopes) 0 (λ none-left. omega arith)) (ap ok (C .says R));
+        says = λ R. rw (scope-count b c R, ne-eqb (c .scopes) 0 (λ none-left. omega arith)) (ap done (C .says R));
         goes = C .goes;
         untouched = λ none-left. absurd (let z : _≡_ {A = ℕ} 0 1 = cc in omega arith);
       }

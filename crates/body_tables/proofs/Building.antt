@@ -4,7 +4,7 @@ use mathlib.Core.List.{List}
 use mathlib.Core.Option.{some}
 use Prim.Native.Nat.{ℕ, _*_, _<_}
 use lib.ListN.{length}
-use Rattle.refusals.specs.Refusals.{ok}
+use Rattle.refusals.specs.Refusals.{done}
 use Rattle.row_tables.specs.Rows.{stored}
 use Rattle.place.specs.declared.LocalId.{LocalId}
 use Rattle.mir.specs.declared.BasicBlockId.{BasicBlockId}
@@ -59,7 +59,7 @@ module _ (b : Body) (c : Counts) where
 
   -- `set_terminator`, and `set_goto`
   pub terminator-set : (k : BasicBlockId) (t : Terminator) {b₁ : Body} → b₁ ≡ withBlocks b (stored (b .blocks) (blockWidth * k .0) (termRow t)) → k .0 < c .blocks → Ready b c →
-      Answers b c (k .0) b₁ (some c) (ok (decode b₁ c)) (ok (setTerminator (decode b c) k t))
+      Answers b c (k .0) b₁ (some c) (done (decode b₁ c)) (done (setTerminator (decode b c) k t))
   terminator-set k t after h R =
-      subst (λ x. Answers b c (k .0) x (some c) (ok (decode x c)) (ok (setTerminator (decode b c) k t))) (sym after)
+      subst (λ x. Answers b c (k .0) x (some c) (done (decode x c)) (done (setTerminator (decode b c) k t))) (sym after)
       (set-answers (b .blocks) (b .statements) (b .locals) (b .scopes) (b .entries) c k t refl h R)

@@ -30,7 +30,7 @@ use Rattle.views.specs.Views.{terminatorOf, lineOf, mirOf}
 use Rattle.body_calls_spec.specs.Calls.{bodyTaken}
 use Rattle.growth.specs.Opened.{terminator, lines, Below, ElseReady, Ready, Starts}
 use Rattle.growth.proofs.Working.{below-append}
-use Rattle.handed.specs.Handed.{startHolds, elseHolds, placeHolds, bindingHolds, bindingsHold, matchHolds}
+use Rattle.handed.specs.Handed.{startHolds, elseHolds, placeHolds, bindingLocalHolds, bindingsHold, matchHolds}
 use Rattle.named.specs.Named.{WordsBelow}
 use Rattle.param_runs.proofs.Words.{all-below}
 use Rattle.called.specs.Call.{Call, before, startOf}
@@ -177,7 +177,7 @@ module _ (call : Call) (T : Taken call) where
   -- the bindings' locals are there
   bound-there : WordsBelow (call .bindings) (c .locals)
   unfolding bindingsHold
-  bound-there = all-below c (call .bindings) (and-right (eqb (length (call .bindings)) (bindingCount (call .image))) (allIn (bindingHolds c) (call .bindings)) (test 1))
+  bound-there = all-below c (call .bindings) (and-right (eqb (length (call .bindings)) (bindingCount (call .image))) (allIn (bindingLocalHolds c) (call .bindings)) (test 1))
 
   -- all of it
   pub given : Given call

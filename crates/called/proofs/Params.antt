@@ -11,7 +11,7 @@ use Rattle.row_tables.proofs.Zeros.{length-zeros, zero-at}
 use Rattle.image.specs.Tables.{bindingCount}
 use Rattle.image.specs.Valid.{valid}
 use Rattle.image.proofs.Bools.{and-left, and-right, all-true-at}
-use Rattle.refusals.specs.Refusals.{ok as done}
+use Rattle.refusals.specs.Refusals.{done}
 use Rattle.place.specs.declared.LocalId.{LocalId}
 use Rattle.mir.specs.declared.Counts.{Counts}
 use Rattle.mir.specs.declared.blocks.Terminator.{Terminator}

@@ -7,7 +7,7 @@ use mathlib.Core.List.{List, [], _∷_}
 use borrow.Author.Tests.{ltb-true}
 use lib.Dec.{eqb, ltb}
 use lib.ListN.{length}
-use Rattle.refusals.specs.Refusals.{Result, ok as done}
+use Rattle.refusals.specs.Refusals.{Result, done}
 use Rattle.image.specs.Tables.{typeCount, variantCount, bindingCount}
 use Rattle.image.specs.Lists.{allIn}
 use Rattle.image.specs.Valid.{valid}
@@ -33,7 +33,7 @@ use Rattle.body_calls_spec.specs.Answers.{tempAnswer, mergeAnswer, scopeAnswer,
 use Rattle.pattern_matching.specs.declared.MatchingMode.{MatchingMode}
 use Rattle.pattern_matching.specs.Walking.{Out, Walk, ok, refused}
 use Rattle.pattern_matching.specs.Patterns.{patternMatchAssignment}
-use Rattle.handed.specs.Handed.{startHolds, bindingHolds, bindingsHold, selfHolds}
+use Rattle.handed.specs.Handed.{startHolds, bindingLocalHolds, bindingsHold, selfHolds}
 use Rattle.pattern_calls_spec.specs.declared.MatchCall.{MatchCall}
 use Rattle.pattern_walk_spec.specs.Calls.{byWalk, startCtx}
 use Rattle.pattern_calls_spec.specs.Calls.{namedIn, matchAnswer, matchWay, patternMatchCall, patternMatchAssignmentCall, matchSelfParamCall}
@@ -75,7 +75,7 @@ module _ (image : List ℕ) (b : Body) (c : Counts) (long : Lengths b) (T : body
   words-there : (bindings : List ℕ) (n : ℕ) → bindingsHold n c bindings ≡ true → WordsBelow bindings (length (decode b c .locals))
   unfolding bindingsHold
   words-there bindings n h =
-      subst (WordsBelow bindings) (sym taken-locals) (all-below c bindings (and-right (eqb (length bindings) n) (allIn (bindingHolds c) bindings) h))
+      subst (WordsBelow bindings) (sym taken-locals) (all-below c bindings (and-right (eqb (length bindings) n) (allIn (bindingLocalHolds c) bindings) h))
 
 -- the counts that the definition of a call leaves
 abbrev countsAfter : {A : Type 0} → (A → State) → Counts → Called A → Counts

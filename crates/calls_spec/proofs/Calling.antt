@@ -5,7 +5,7 @@ use mathlib.Core.Bool.{Bool, true, false}
 use mathlib.Core.Option.{none, some}
 use native.Mathlib.Omega.{arith}
 use Rattle.refusals.specs.declared.MirLowerError.{MirLowerError}
-use Rattle.refusals.specs.Refusals.{breaksARule, namesNothing, refusalAt, Result, ok, refused}
+use Rattle.refusals.specs.Refusals.{breaksARule, namesNothing, refusalAt, Result, done, stopped}
 use Rattle.mir.specs.declared.Counts.{Counts}
 use Rattle.state.specs.State.{Body, decode, encode, countsOf}
 use Rattle.calls_spec.specs.Calls.{Called, badImage, badCall, refusedAt, accepted, call, byStep}
@@ -51,6 +51,6 @@ came true false step a e = absurd (let z : _≡_ {A = ℕ} 0 1 = cc in omega ari
 came false names step a e = absurd (let z : _≡_ {A = ℕ} 0 1 = cc in omega arith)
 
 -- a step about no pattern that is accepted
-pub step-ok : {A : Type 0} (r : Result A) (a : A) → byStep r ≡ accepted a → r ≡ ok a
-step-ok {A} (ok x) a e = let same : x ≡ a = cc in ap (λ (y : A). ok y) same
-step-ok (refused e) a q = absurd (let z : _≡_ {A = ℕ} 0 1 = cc in omega arith)
+pub step-ok : {A : Type 0} (r : Result A) (a : A) → byStep r ≡ accepted a → r ≡ done a
+step-ok {A} (done x) a e = let same : x ≡ a = cc in ap (λ (y : A). done y) same
+step-ok (stopped e) a q = absurd (let z : _≡_ {A = ℕ} 0 1 = cc in omega arith)

@@ -3,7 +3,7 @@ use Prim.Native.Nat.{ℕ}
 use mathlib.Core.Bool.{Bool, cond}
 use mathlib.Core.Option.{Option, none, some}
 use Rattle.refusals.specs.declared.MirLowerError.{MirLowerError}
-use Rattle.refusals.specs.Refusals.{Refusal, noPattern, breaksARule, namesNothing, refusalAt, Result, ok, refused}
+use Rattle.refusals.specs.Refusals.{Refusal, noPattern, breaksARule, namesNothing, refusalAt, Result, done, stopped}
 use Rattle.mir.specs.declared.Counts.{Counts}
 use Rattle.state.specs.State.{Body, State, decode, encode}
 
@@ -20,8 +20,8 @@ call rules names step = cond rules (cond names step badCall) badImage
 
 -- a step that is about no pattern, as a call's
 abbrev pub byStep : {A : Type 0} → Result A → Called A
-byStep (ok a) = accepted a
-byStep (refused e) = refusedAt e noPattern
+byStep (done a) = accepted a
+byStep (stopped e) = refusedAt e noPattern
 
 -- document 01's three numbers, where there is a refusal
 abbrev pub refusalOf : {A : Type 0} → Called A → Option Refusal

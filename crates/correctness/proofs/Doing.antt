@@ -10,7 +10,7 @@ use lib.Dec.{eqb, ltb}
 use lib.ListN.{length, length-append}
 use lib.Seq.{getD-set-same}
 use Rattle.refusals.specs.declared.MirLowerError.{MirLowerError}
-use Rattle.refusals.specs.Refusals.{Result, ok, refused, andThen}
+use Rattle.refusals.specs.Refusals.{Result, done, stopped, andThen}
 use Rattle.place.specs.declared.LocalId.{LocalId}
 use Rattle.mir.specs.declared.BasicBlockId.{BasicBlockId}
 use Rattle.mir.specs.declared.blocks.Terminator.{Terminator}
@@ -94,39 +94,39 @@ module _ {scene : Scene} {c : ℕ} where
       subst (Quiet b) (sym (p .grown)) (quiet-append b (lines st) (p .more) (below-quiet (lines st) h l) (own-quiet c b (p .more) (omega arith) (p .own)))
 
 -- a refusal gives nothing
-refused-not-ok : {A : Type 0} {x : MirLowerError} {b : A} → refused x ≡ ok b → ⊥
+refused-not-ok : {A : Type 0} {x : MirLowerError} {b : A} → stopped x ≡ done b → ⊥
 refused-not-ok e = let z : _≡_ {A = ℕ} 0 1 = cc in omega arith
 
 -- what was given where there was room
-pub given : {A : Type 0} (room : Bool) (a b : A) → within room a ≡ ok b → a ≡ b
+pub given : {A : Type 0} (room : Bool) (a b : A) → within room a ≡ done b → a ≡ b
 given true a b e = cc
 given false a b e = absurd (refused-not-ok e)
 
 -- what follows where nothing was refused
-unrefused : {A : Type 0} (test : Bool) (x : MirLowerError) (w : Result A) {b : A} → cond test (refused x) w ≡ ok b → w ≡ ok b
+unrefused : {A : Type 0} (test : Bool) (x : MirLowerError) (w : Result A) {b : A} → cond test (stopped x) w ≡ done b → w ≡ done b
 unrefused true x w e = absurd (refused-not-ok e)
 unrefused false x w e = e
 
 -- what one step gave, and what followed it
-followed : {A B C : Type 0} (w : Result A) (next : A → Result B) {b : B} → andThen w next ≡ ok b → ((a : A) → w ≡ ok a → next a ≡ ok b → C) → C
-followed (ok a) next e k = k a refl e
-followed (refused x) next e k = absurd (refused-not-ok e)
+followed : {A B C : Type 0} (w : Result A) (next : A → Result B) {b : B} → andThen w next ≡ done b → ((a : A) → w ≡ done a → next a ≡ done b → C) → C
+followed (done a) next e k = k a refl e
+followed (stopped x) next e k = absurd (refused-not-ok e)
 
 module _ {scene : Scene} (c : ℕ) where
   -- a new block
-  pub does-block : (st st₁ : State) → tryBlock st ≡ ok st₁ → Does scene st c st₁ (λ env. env)
+  pub does-block : (st st₁ : State) → tryBlock st ≡ done st₁ → Does scene st c st₁ (λ env. env)
   unfolding tryBlock newBlock
   does-block st st₁ e =
       does-none st st₁ (ap (λ (s : State). s .statements) (sym (given (ltb (length (st .blocks)) blockLimit) (newBlock st) st₁ e)))
 
   -- the else that there is, or a new block
-  pub does-else : (st st₁ : State) (els : OptBlock) → elseState st els ≡ ok st₁ → Does scene st c st₁ (λ env. env)
+  pub does-else : (st st₁ : State) (els : OptBlock) → elseState st els ≡ done st₁ → Does scene st c st₁ (λ env. env)
   unfolding elseState
   does-else st st₁ (OptBlock.Some b) e = let same : st₁ ≡ st = cc in does-none st st₁ (ap (λ (s : State). s .statements) same)
   does-else st st₁ OptBlock.None e = does-block st st₁ e
 
   -- a line, read back from its row
-  pub does-line : (st st₁ : State) (row : List ℕ) (s : Statement) → lineOf row ≡ record { block = c; statement = s } → tryStatement st row ≡ ok st₁ →
+  pub does-line : (st st₁ : State) (row : List ℕ) (s : Statement) → lineOf row ≡ record { block = c; statement = s } → tryStatement st row ≡ done st₁ →
       Does scene st c st₁ (λ env. execute s scene env)
   unfolding tryStatement
   does-line st st₁ row s q e =
@@ -139,14 +139,14 @@ module _ {scene : Scene} (c : ℕ) where
       }
 
 -- a local that is held, or one entry more, adds no line
-does-recorded : {scene : Scene} {c : ℕ} (held : Bool) (st st₁ : State) (l : LocalId) → recordUnless held st l ≡ ok st₁ → Does scene st c st₁ (λ env. env)
+does-recorded : {scene : Scene} {c : ℕ} (held : Bool) (st st₁ : State) (l : LocalId) → recordUnless held st l ≡ done st₁ → Does scene st c st₁ (λ env. env)
 unfolding tryEntry pushEntry
 does-recorded true st st₁ l e = let same : st₁ ≡ st = cc in does-none st st₁ (ap (λ (s : State). s .statements) same)
 does-recorded false st st₁ l e =
     does-none st st₁ (ap (λ (s : State). s .statements) (sym (given (ltb (length (st .entries)) entryLimit) (pushEntry st l) st₁ e)))
 
 -- a local made live, held or not
-pub does-live : {scene : Scene} (held : Bool) (st st₁ : State) (l : LocalId) (block : BasicBlockId) → markLive held st l block ≡ ok st₁ →
+pub does-live : {scene : Scene} (held : Bool) (st st₁ : State) (l : LocalId) (block : BasicBlockId) → markLive held st l block ≡ done st₁ →
     Does scene st (block .0) st₁ (λ env. env)
 unfolding markLive execute
 does-live held st st₁ l block e =
@@ -154,7 +154,7 @@ does-live held st st₁ l block e =
     does-seq (does-recorded held st st₂ l e₂) (does-line (block .0) st₂ st₁ (liveRow block l) (live (l .0)) (live-back block l) e₃))
 
 -- a temporary
-pub does-temp : {scene : Scene} (image : List ℕ) (st st₁ : State) (word : ℕ) (block : BasicBlockId) → temp image st word block ≡ ok st₁ → Does scene st (block .0) st₁ (λ env. env)
+pub does-temp : {scene : Scene} (image : List ℕ) (st st₁ : State) (word : ℕ) (block : BasicBlockId) → temp image st word block ≡ done st₁ → Does scene st (block .0) st₁ (λ env. env)
 unfolding temp tryLocal newLocal
 does-temp image st st₁ word block e =
     followed (tryLocal st word) _ (unrefused (isSlice image word) MirLowerError.UnsizedTemporary _ e) (λ st₂ e₂ e₃.
@@ -174,7 +174,7 @@ pub adds-locals : {st st₁ : State} {c : ℕ} → Adds st c st₁ → length (s
 adds-locals a = opens-locals (a .opens)
 
 -- a temporary is one local more
-pub temp-locals : (image : List ℕ) (st st₁ : State) (word : ℕ) (block : BasicBlockId) → temp image st word block ≡ ok st₁ → length (st₁ .locals) ≡ suc (length (st .locals))
+pub temp-locals : (image : List ℕ) (st st₁ : State) (word : ℕ) (block : BasicBlockId) → temp image st word block ≡ done st₁ → length (st₁ .locals) ≡ suc (length (st .locals))
 unfolding temp tryLocal newLocal markLive tryEntry pushEntry tryStatement pushStatement
 temp-locals image st st₁ word block e =
     followed (tryLocal st word) _ (unrefused (isSlice image word) MirLowerError.UnsizedTemporary _ e) (λ st₂ e₂ e₃.

@@ -15,7 +15,7 @@ use Rattle.image.specs.Rules.{isIntegerSize}
 use Rattle.image.specs.Types.{Shape, integer, bool, char, str, tuple, adt, reference, array, slice, unknown, tyOf, Operand}
 use Rattle.image.proofs.Bools.{and-left, and-right}
 use Rattle.refusals.specs.declared.MirLowerError.{MirLowerError}
-use Rattle.refusals.specs.Refusals.{ok, refused}
+use Rattle.refusals.specs.Refusals.{done, stopped}
 use Rattle.mir.specs.declared.rvalues.Constant.{Constant}
 use Rattle.literals.specs.Literals.{constantOf, stringConstant, integerConstant, literalBy, lowerLiteralToOperand, lowerConstToOperand, literalOrConstBy, lowerLiteralOrConstToOperand}
 use Rattle.views.proofs.ReadBack.{Small}
@@ -48,16 +48,16 @@ bytes-small t bytes small few = (
 )
 
 -- what was given is what was given
-ok-is : {A : Type 0} {a b : A} → ok a ≡ ok b → a ≡ b
+ok-is : {A : Type 0} {a b : A} → done a ≡ done b → a ≡ b
 ok-is e = cc
 
 -- a refusal gives no constant
-not-ok : {A : Type 0} {x : MirLowerError} {b : A} → refused x ≡ ok b → ⊥
+not-ok : {A : Type 0} {x : MirLowerError} {b : A} → stopped x ≡ done b → ⊥
 not-ok e = let z : _≡_ {A = ℕ} 0 1 = cc in omega arith
 
 -- an integer literal's, which is cut to its type's size
 integer-small : (s : Shape) (t : ℕ) (bytes : List ℕ) (k : Constant) → ((size : ℕ) (signed : Bool) → s ≡ integer size signed → isIntegerSize size ≡ true) → Bytes bytes →
-    integerConstant s t bytes ≡ ok k → Small k
+    integerConstant s t bytes ≡ done k → Small k
 unfolding integerConstant
 integer-small (integer size signed) t bytes k sizes small e =
     let sized = size-some size (sizes size signed refl) in
@@ -75,7 +75,7 @@ integer-small unknown t bytes k sizes small e = absurd (not-ok e)
 module _ (image : List ℕ) (t : ℕ) (sized : Sized image t) where
   -- a literal's, by its kind
   literal-by : (kind : OperandKind) (offset : ℕ) (bytes : List ℕ) (k : Constant) → operandValueHolds kind bytes ≡ true → Bytes bytes → length bytes < 65536 →
-      literalFits kind image (tyOf image t .shape) bytes ≡ true → literalBy kind image t offset bytes ≡ ok k → Small k
+      literalFits kind image (tyOf image t .shape) bytes ≡ true → literalBy kind image t offset bytes ≡ done k → Small k
   unfolding literalBy literalFits operandValueHolds stringConstant
   literal-by OperandKind.Int offset bytes k holds small short fits e = integer-small (tyOf image t .shape) t bytes k (sized .sizes) small e
   literal-by OperandKind.Uint offset bytes k holds small short fits e = integer-small (tyOf image t .shape) t bytes k (sized .sizes) small e
@@ -93,7 +93,7 @@ module _ (image : List ℕ) (t : ℕ) (sized : Sized image t) where
 
   module _ (o : Operand) (d : Drawn image o) where
     -- a literal's
-    pub literal-small : (k : Constant) → literalFits (o .kind) image (tyOf image t .shape) (o .bytes) ≡ true → lowerLiteralToOperand image t o ≡ ok k → Small k
+    pub literal-small : (k : Constant) → literalFits (o .kind) image (tyOf image t .shape) (o .bytes) ≡ true → lowerLiteralToOperand image t o ≡ done k → Small k
     unfolding lowerLiteralToOperand
     literal-small k fits e = literal-by (o .kind) (o .offset) (o .bytes) k (d .lies .holds) (d .lies .small) (d .short) fits e
 
@@ -105,11 +105,11 @@ module _ (image : List ℕ) (t : ℕ) (sized : Sized image t) where
         bytes-small t (o .bytes) (d .lies .small) (leb-true (length (o .bytes)) 16 (and-right (leb 1 (length (o .bytes))) (leb (length (o .bytes)) 16) holds))
 
     -- that of the end of a range
-    pub end-small : (k : Constant) → endFits (o .kind) (tyOf image t .shape) (o .bytes) ≡ true → lowerLiteralOrConstToOperand image t o ≡ ok k → Small k
+    pub end-small : (k : Constant) → endFits (o .kind) (tyOf image t .shape) (o .bytes) ≡ true → lowerLiteralOrConstToOperand image t o ≡ done k → Small k
     unfolding lowerLiteralOrConstToOperand literalOrConstBy endFits literalFits
     end-small k fits e = by (o .kind) refl fits e
       where
-        by : (kind : OperandKind) → o .kind ≡ kind → endFits kind (tyOf image t .shape) (o .bytes) ≡ true → literalOrConstBy kind image t o ≡ ok k → Small k
+        by : (kind : OperandKind) → o .kind ≡ kind → endFits kind (tyOf image t .shape) (o .bytes) ≡ true → literalOrConstBy kind image t o ≡ done k → Small k
         by OperandKind.Int q fits e = literal-small k (rw q fits) e
         by OperandKind.Uint q fits e = literal-small k (rw q fits) e
         by OperandKind.Char q fits e = literal-small k (rw q fits) e

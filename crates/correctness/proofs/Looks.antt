@@ -10,7 +10,7 @@ use Rattle.image.specs.declared.kinds.OperandKind.{OperandKind}
 use Rattle.image.specs.Valid.{valid}
 use Rattle.image.specs.Types.{Shape, tyOf, variantOf, Operand}
 use Rattle.image.proofs.Bools.{and-left, and-right}
-use Rattle.refusals.specs.Refusals.{ok as done}
+use Rattle.refusals.specs.Refusals.{done}
 use Rattle.place.specs.declared.Place.{Place}
 use Rattle.place.specs.declared.elems.ProjectionElem.{ProjectionElem}
 use Rattle.place.specs.declared.place_ty.PlaceTy.{PlaceTy}

@@ -10,7 +10,7 @@ use lib.Dec.{ltb}
 use lib.ListN.{length, getD, set, length-set, length-append, List·getD-append}
 use Rattle.refusals.specs.declared.MirLowerError.{MirLowerError}
 use Rattle.refusals.specs.Refusals.{Result}
-use Rattle.refusals.specs.Refusals.{ok as done, refused as stopped}
+use Rattle.refusals.specs.Refusals.{done, stopped}
 use Rattle.image.specs.Valid.{valid}
 use Rattle.image.specs.Types.{tyOf, reference}
 use Rattle.place.specs.declared.LocalId.{LocalId}

@@ -8,7 +8,7 @@ use native.Mathlib.Omega.{arith}
 use lib.Dec.{eqb, ltb}
 use lib.ListN.{length, length-set, length-append, List·getD-append}
 use Rattle.refusals.specs.declared.MirLowerError.{MirLowerError}
-use Rattle.refusals.specs.Refusals.{Result, refused, andThen}
+use Rattle.refusals.specs.Refusals.{Result, stopped, andThen}
 use Rattle.row_tables.specs.Rows.{zeros}
 use Rattle.place.specs.declared.LocalId.{LocalId}
 use Rattle.mir.specs.declared.BasicBlockId.{BasicBlockId}
@@ -69,7 +69,7 @@ room P true a p = gives P a p
 room P false a p = stops P MirLowerError.Limit
 
 -- a test that refuses, or what follows
-guarded : {A : Type 0} {P : A → Type 0} (b : Bool) (e : MirLowerError) (x : Result A) → Gives P x → Gives P (cond b (refused e) x)
+guarded : {A : Type 0} {P : A → Type 0} (b : Bool) (e : MirLowerError) (x : Result A) → Gives P x → Gives P (cond b (stopped e) x)
 guarded {P = P} true e x h = stops P e
 guarded false e x h = h
 

@@ -6,7 +6,7 @@ use mathlib.Core.List.{List, [], _∷_}
 use lib.Dec.{eqb, ltb, leb}
 use lib.ListN.{length, getD}
 use Rattle.refusals.specs.declared.MirLowerError.{MirLowerError}
-use Rattle.refusals.specs.Refusals.{Result, ok, refused, andThen}
+use Rattle.refusals.specs.Refusals.{Result, done, stopped, andThen}
 use Rattle.image.specs.Tables.{typeCount}
 use Rattle.image.specs.Rows.{typeAt}
 use Rattle.place.specs.declared.LocalId.{LocalId}
@@ -27,7 +27,7 @@ isCopy image word = cond (ltb word (typeCount image)) (eqb (typeAt image word .c
 
 -- StorageDead of a local, at the end of a block
 unfoldable pub markDead : State → BasicBlockId → LocalId → Result At
-markDead st block l = andThen (tryStatement st (deadRow block l)) (λ st₁. ok (record { state = st₁; block = block }))
+markDead st block l = andThen (tryStatement st (deadRow block l)) (λ st₁. done (record { state = st₁; block = block }))
 
 -- a local leaves: one that is not copy is dropped by the block's terminator ("When an initialized variable or temporary goes out of scope, its destructor is run"
 -- [destructors.intro]), and a new block goes on; then it is dead there
@@ -38,7 +38,7 @@ emitDropAndStorageDead image st block l =
 
 -- locals leave, in the order of the list
 unfoldable pub leaveAll : List ℕ → State → BasicBlockId → List ℕ → Result At
-leaveAll image st block [] = ok (record { state = st; block = block })
+leaveAll image st block [] = done (record { state = st; block = block })
 leaveAll image st block (l ∷ ls) = andThen (emitDropAndStorageDead image st block (record { 0 = l })) (λ at. leaveAll image (at .state) (at .block) ls)
 
 -- n words from `start` on, the last first
@@ -55,14 +55,14 @@ entriesFrom st i = lastFirst (st .entries) (scopeStart st i) (length (st .entrie
 -- refuses 14"
 unfoldable pub dropUntilScope : List ℕ → State → ℕ → BasicBlockId → Result At
 dropUntilScope image st i block =
-    cond (leb i (length (st .scopes))) (leaveAll image st block (entriesFrom st i)) (refused MirLowerError.NoScope)
+    cond (leb i (length (st .scopes))) (leaveAll image st block (entriesFrom st i)) (stopped MirLowerError.NoScope)
 
 -- the last scope is closed, and its locals leave
 unfoldable pub popAndDrop : List ℕ → State → BasicBlockId → Result At
 popAndDrop image st block =
-    cond (eqb (length (st .scopes)) 0) (refused MirLowerError.NoScope)
-    (andThen (leaveAll image st block (entriesFrom st (length (st .scopes) - 1))) (λ at. ok (record { state = popScope (at .state); block = at .block })))
+    cond (eqb (length (st .scopes)) 0) (stopped MirLowerError.NoScope)
+    (andThen (leaveAll image st block (entriesFrom st (length (st .scopes) - 1))) (λ at. done (record { state = popScope (at .state); block = at .block })))
 
 -- the last scope is closed, its locals having left before
 unfoldable pub popAssumeDropped : State → Result State
-popAssumeDropped st = cond (eqb (length (st .scopes)) 0) (refused MirLowerError.NoScope) (ok (popScope st))
+popAssumeDropped st = cond (eqb (length (st .scopes)) 0) (stopped MirLowerError.NoScope) (done (popScope st))

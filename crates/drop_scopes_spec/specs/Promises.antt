@@ -4,7 +4,7 @@ use mathlib.Core.Path.{_≡_}
 use mathlib.Core.Option.{Option, none, some}
 use mathlib.Core.List.{List}
 use lib.ListN.{getD}
-use Rattle.refusals.specs.Refusals.{Result, ok, refused}
+use Rattle.refusals.specs.Refusals.{Result, done, stopped}
 use Rattle.mir.specs.declared.BasicBlockId.{BasicBlockId}
 use Rattle.mir.specs.declared.Counts.{Counts}
 use Rattle.state.specs.State.{Body, State, decode}
@@ -14,8 +14,8 @@ use Rattle.drop_scopes_spec.specs.Dropping.{At}
 
 -- an answer of locals that leave, as the definitions have it
 abbrev pub atResult : AtBlock → Body → Result At
-atResult (AtBlock.At c block) b = ok (record { state = decode b c; block = block })
-atResult (AtBlock.Refused e) b = refused e
+atResult (AtBlock.At c block) b = done (record { state = decode b c; block = block })
+atResult (AtBlock.Refused e) b = stopped e
 
 abbrev pub atCounts : AtBlock → Option Counts
 atCounts (AtBlock.At c block) = some c

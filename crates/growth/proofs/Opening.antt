@@ -9,7 +9,7 @@ use mathlib.Core.List.{List, [], _∷_, _++_, map, append-assoc, append-nil}
 use lib.Dec.{eqb, ltb}
 use lib.ListN.{length, getD}
 use Rattle.refusals.specs.declared.MirLowerError.{MirLowerError}
-use Rattle.refusals.specs.Refusals.{Result, ok, refused, andThen}
+use Rattle.refusals.specs.Refusals.{Result, done, stopped, andThen}
 use Rattle.place.specs.declared.LocalId.{LocalId}
 use Rattle.place.specs.declared.Place.{Place}
 use Rattle.mir.specs.declared.BasicBlockId.{BasicBlockId}
@@ -178,36 +178,36 @@ unfolding pushEntry
 adds-entry st current l = adds-words st (pushEntry st l) current [] refl refl (sym (append-nil (st .locals)))
 
 -- what is refused is not given
-refused-not-ok : {A : Type 0} {x : MirLowerError} {b : A} → refused x ≡ ok b → ⊥
+refused-not-ok : {A : Type 0} {x : MirLowerError} {b : A} → stopped x ≡ done b → ⊥
 refused-not-ok e = let z : _≡_ {A = ℕ} 0 1 = cc in omega arith
 
 -- what was given where there was room
-given : {A : Type 0} (room : Bool) (a b : A) → within room a ≡ ok b → a ≡ b
+given : {A : Type 0} (room : Bool) (a b : A) → within room a ≡ done b → a ≡ b
 given true a b e = cc
 given false a b e = absurd (refused-not-ok e)
 
 -- what follows where nothing was refused
-unrefused : {A : Type 0} (test : Bool) (x : MirLowerError) (w : Result A) {b : A} → cond test (refused x) w ≡ ok b → w ≡ ok b
+unrefused : {A : Type 0} (test : Bool) (x : MirLowerError) (w : Result A) {b : A} → cond test (stopped x) w ≡ done b → w ≡ done b
 unrefused true x w e = absurd (refused-not-ok e)
 unrefused false x w e = e
 
 -- what one step gave, and what followed it
-followed : {A B C : Type 0} (w : Result A) (next : A → Result B) {b : B} → andThen w next ≡ ok b → ((a : A) → w ≡ ok a → next a ≡ ok b → C) → C
-followed (ok a) next e k = k a refl e
-followed (refused x) next e k = absurd (refused-not-ok e)
+followed : {A B C : Type 0} (w : Result A) (next : A → Result B) {b : B} → andThen w next ≡ done b → ((a : A) → w ≡ done a → next a ≡ done b → C) → C
+followed (done a) next e k = k a refl e
+followed (stopped x) next e k = absurd (refused-not-ok e)
 
 -- one block more, where there is room
-pub opens-block : (st st₁ : State) (current : ℕ) → tryBlock st ≡ ok st₁ → Opens st current st₁
+pub opens-block : (st st₁ : State) (current : ℕ) → tryBlock st ≡ done st₁ → Opens st current st₁
 unfolding tryBlock
 opens-block st st₁ current e = subst (λ (s : State). Opens st current s) (given (ltb (count st) blockLimit) (newBlock st) st₁ e) (opens-new st current)
 
 -- it is counted
-pub count-tried : (st st₁ : State) → tryBlock st ≡ ok st₁ → count st₁ ≡ suc (count st)
+pub count-tried : (st st₁ : State) → tryBlock st ≡ done st₁ → count st₁ ≡ suc (count st)
 unfolding tryBlock
 count-tried st st₁ e = subst (λ (s : State). count s ≡ suc (count st)) (given (ltb (count st) blockLimit) (newBlock st) st₁ e) (count-block st)
 
 -- one line more, where there is room
-pub adds-statement : (st st₁ : State) (current : ℕ) (row : List ℕ) → lineOf row .block ≡ current → tryStatement st row ≡ ok st₁ → Adds st current st₁
+pub adds-statement : (st st₁ : State) (current : ℕ) (row : List ℕ) → lineOf row .block ≡ current → tryStatement st row ≡ done st₁ → Adds st current st₁
 unfolding tryStatement
 adds-statement st st₁ current row h e = subst (λ (s : State). Adds st current s) (given (ltb (length (st .statements)) statementLimit) (pushStatement st row) st₁ e) (adds-line st current row h)
 
@@ -232,21 +232,21 @@ unfolding lineOf binaryRow
 binary-block block target op left place = refl
 
 -- a local that is held, or one entry more, where there is room
-adds-recorded : (held : Bool) (st st₁ : State) (current : ℕ) (l : LocalId) → recordUnless held st l ≡ ok st₁ → Adds st current st₁
+adds-recorded : (held : Bool) (st st₁ : State) (current : ℕ) (l : LocalId) → recordUnless held st l ≡ done st₁ → Adds st current st₁
 unfolding tryEntry
 adds-recorded true st st₁ current l e = let same : st ≡ st₁ = cc in subst (λ (s : State). Adds st current s) same (adds-same st current)
 adds-recorded false st st₁ current l e =
     subst (λ (s : State). Adds st current s) (given (ltb (length (st .entries)) entryLimit) (pushEntry st l) st₁ e) (adds-entry st current l)
 
 -- a local made live, held or not
-pub adds-live : (held : Bool) (st st₁ : State) (l : LocalId) (block : BasicBlockId) → markLive held st l block ≡ ok st₁ → Adds st (block .0) st₁
+pub adds-live : (held : Bool) (st st₁ : State) (l : LocalId) (block : BasicBlockId) → markLive held st l block ≡ done st₁ → Adds st (block .0) st₁
 unfolding markLive
 adds-live held st st₁ l block e =
     followed (recordUnless held st l) _ (unrefused (eqb (length (st .scopes)) 0) MirLowerError.NoScope _ e) (λ st₂ e₂ e₃.
     adds-seq (adds-recorded held st st₂ (block .0) l e₂) (adds-statement st₂ st₁ (block .0) (liveRow block l) (live-block block l) e₃))
 
 -- a temporary
-pub adds-temp : (image : List ℕ) (st st₁ : State) (word : ℕ) (block : BasicBlockId) → temp image st word block ≡ ok st₁ → Adds st (block .0) st₁
+pub adds-temp : (image : List ℕ) (st st₁ : State) (word : ℕ) (block : BasicBlockId) → temp image st word block ≡ done st₁ → Adds st (block .0) st₁
 unfolding temp tryLocal
 adds-temp image st st₁ word block e =
     followed (tryLocal st word) _ (unrefused (isSlice image word) MirLowerError.UnsizedTemporary _ e) (λ st₂ e₂ e₃.
@@ -254,7 +254,7 @@ adds-temp image st st₁ word block e =
     (adds-live false st₂ st₁ (nextLocal st) block e₃))
 
 -- the else that there is, or a new block
-pub opens-else : (st st₁ : State) (current : ℕ) (els : OptBlock) → elseState st els ≡ ok st₁ → Opens st current st₁
+pub opens-else : (st st₁ : State) (current : ℕ) (els : OptBlock) → elseState st els ≡ done st₁ → Opens st current st₁
 unfolding elseState
 opens-else st st₁ current (OptBlock.Some b) e = let same : st ≡ st₁ = cc in subst (λ (s : State). Opens st current s) same (opens-same st current)
 opens-else st st₁ current OptBlock.None e = opens-block st st₁ current e
@@ -265,7 +265,7 @@ WithElse (OptBlock.Some b) n m = m ≡ n
 WithElse OptBlock.None n m = m ≡ suc n
 
 -- a new else is counted
-pub count-else : (st st₁ : State) (els : OptBlock) → elseState st els ≡ ok st₁ → WithElse els (count st) (count st₁)
+pub count-else : (st st₁ : State) (els : OptBlock) → elseState st els ≡ done st₁ → WithElse els (count st) (count st₁)
 unfolding elseState
 count-else st st₁ (OptBlock.Some b) e = let same : st₁ ≡ st = cc in ap (λ (s : State). count s) same
 count-else st st₁ OptBlock.None e = count-tried st st₁ e

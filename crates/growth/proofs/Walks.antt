@@ -9,7 +9,7 @@ use lib.ListN.{take, drop}
 use Rattle.image.specs.Types.{Shape}
 use Rattle.refusals.specs.declared.MirLowerError.{MirLowerError}
 use Rattle.refusals.specs.Refusals.{Result}
-use Rattle.refusals.specs.Refusals.{ok as done, refused as stopped}
+use Rattle.refusals.specs.Refusals.{done, stopped}
 use Rattle.place.specs.declared.Place.{Place}
 use Rattle.place.specs.declared.elems.ProjectionElem.{ProjectionElem}
 use Rattle.mir.specs.declared.BasicBlockId.{BasicBlockId}

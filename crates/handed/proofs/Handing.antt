@@ -17,7 +17,7 @@ use Rattle.mir.specs.Blocks.{isOpen}
 use Rattle.body_row_rules.specs.Bodies.{isBlock, isLocal, elemHolds}
 use Rattle.lower_spec.specs.declared.merging.OptBlock.{OptBlock}
 use Rattle.lower_spec.specs.Promises.{Within}
-use Rattle.handed.specs.Handed.{startHolds, elseHolds, placeHolds, bindingHolds, bindingsHold, Named, matchHolds, selfHolds}
+use Rattle.handed.specs.Handed.{startHolds, elseHolds, placeHolds, bindingLocalHolds, bindingsHold, Named, matchHolds, selfHolds}
 
 -- the start is a block that there is
 start-of : (blocks : List ℕ) (c : Counts) (current : BasicBlockId) → startHolds blocks c current ≡ true → current .0 < c .blocks
@@ -33,7 +33,7 @@ else-of c current (OptBlock.Some b) e = ltb-true _ _ (and-left (isBlock c (b .0)
 -- the bindings' table has a word for each binding
 bindings-of : (count : ℕ) (c : Counts) (bindings : List ℕ) → bindingsHold count c bindings ≡ true → length bindings ≡ count
 unfolding bindingsHold
-bindings-of count c bindings e = eqb-true _ _ (and-left (eqb (length bindings) count) (allIn (bindingHolds c) bindings) e)
+bindings-of count c bindings e = eqb-true _ _ (and-left (eqb (length bindings) count) (allIn (bindingLocalHolds c) bindings) e)
 
 -- the place's elements are all of a known kind
 abbrev elemsHold : ℕ → Place → Bool

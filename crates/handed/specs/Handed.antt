@@ -29,12 +29,12 @@ unfoldable pub placeHolds : ℕ → Counts → Place → Bool
 placeHolds variants c place = isLocal c (place .local .0) && leb (place .len) 16 && allBelow (λ i. elemHolds variants (elemOf (getD (place .elems) i 0))) (place .len)
 
 -- the word of a binding's local: a local that there is, or none
-unfoldable pub bindingHolds : Counts → ℕ → Bool
-bindingHolds c l = eqb l 65535 || isLocal c l
+unfoldable pub bindingLocalHolds : Counts → ℕ → Bool
+bindingLocalHolds c l = eqb l 65535 || isLocal c l
 
 -- the bindings' table has a word for each binding
 unfoldable pub bindingsHold : ℕ → Counts → List ℕ → Bool
-bindingsHold count c bindings = eqb (length bindings) count && allIn (bindingHolds c) bindings
+bindingsHold count c bindings = eqb (length bindings) count && allIn (bindingLocalHolds c) bindings
 
 -- how many variants, patterns and bindings the image has
 pub record Named : Type 0 where

@@ -13,7 +13,7 @@ use place::Place;
 ghost use mathlib.Core.Path.{_≡_};
 ghost use Prim.Native.Nat.{_≤_};
 ghost use lib.ListN.{length};
-ghost use Rattle.handed.specs.Handed.{startHolds, bindingHolds, bindingsHold, matchHolds, selfHolds};
+ghost use Rattle.handed.specs.Handed.{startHolds, bindingLocalHolds, bindingsHold, matchHolds, selfHolds};
 
 pub fn start_holds(blocks: &[u16], counts: Counts, current: BasicBlockId) -> bool
     requires { ⌜ (length (now blocks) ≡ 6144) × (counts .blocks ≤ 512) ⌝ }
@@ -26,7 +26,7 @@ pub fn start_holds(blocks: &[u16], counts: Counts, current: BasicBlockId) -> boo
 }
 
 fn binding_holds(counts: Counts, l: u16) -> bool
-    ensures { λ r. ⌜ r ≡ bindingHolds counts l ⌝ }
+    ensures { λ r. ⌜ r ≡ bindingLocalHolds counts l ⌝ }
 {
     if l == 65535 {
         return true;

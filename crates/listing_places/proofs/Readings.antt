@@ -12,7 +12,7 @@ use Rattle.row_tables.proofs.Tables.{length-row, length-rows, row-of}
 use Rattle.place.specs.declared.elems.ProjectionElem.{ProjectionElem}
 use Rattle.place.specs.Elems.{elemOf}
 use Rattle.mir.specs.declared.rvalues.Left.{Left}
-use Rattle.views.specs.Views.{unknown, set, word, constantAt, leftOf, statementKinds, lineOf}
+use Rattle.views.specs.Views.{unknownRvalue, set, word, constantAt, leftOf, statementKinds, lineOf}
 use Rattle.listing_places.specs.RowParts.{elemAt, rvalueKinds, rvalueOf}
 
 -- the part of a table that is the row i
@@ -62,35 +62,35 @@ module _ (row : List ℕ) where
       by-kind (suc (suc k)) n = refl
 
   -- a row of the kind k sets its local to what stands at k
-  pub rvalue-kind : (k : ℕ) → word row 1 ≡ k → rvalueOf row ≡ getD (rvalueKinds row) k unknown
+  pub rvalue-kind : (k : ℕ) → word row 1 ≡ k → rvalueOf row ≡ getD (rvalueKinds row) k unknownRvalue
   unfolding rvalueOf
-  rvalue-kind k e = ap (λ (n : ℕ). getD (rvalueKinds row) n unknown) e
+  rvalue-kind k e = ap (λ (n : ℕ). getD (rvalueKinds row) n unknownRvalue) e
 
   -- one of no kind, to nothing known
-  pub rvalue-unknown : NoneOf (word row 1) 3 10 → rvalueOf row ≡ unknown
+  pub rvalue-unknown : NoneOf (word row 1) 3 10 → rvalueOf row ≡ unknownRvalue
   unfolding rvalueOf
   rvalue-unknown w = by-kind (word row 1) w
     where
-      by-kind : (k : ℕ) → NoneOf k 3 10 → getD (rvalueKinds row) k unknown ≡ unknown
+      by-kind : (k : ℕ) → NoneOf k 3 10 → getD (rvalueKinds row) k unknownRvalue ≡ unknownRvalue
       by-kind zero n = refl
       by-kind (suc zero) n = refl
       by-kind (suc (suc zero)) n = refl
       by-kind (suc (suc (suc k))) n =
           let long = past (suc (suc (suc k))) 3 10 (omega arith) n in
-          List·getD-eq-default (rvalueKinds row) unknown {n = suc (suc (suc k))} (omega arith)
+          List·getD-eq-default (rvalueKinds row) unknownRvalue {n = suc (suc (suc k))} (omega arith)
 
   -- the statement of a row of the kind k
-  pub statement-kind : (k : ℕ) → word row 1 ≡ k → lineOf row .statement ≡ getD (statementKinds row) k (set (word row 2) unknown)
+  pub statement-kind : (k : ℕ) → word row 1 ≡ k → lineOf row .statement ≡ getD (statementKinds row) k (set (word row 2) unknownRvalue)
   unfolding lineOf
-  statement-kind k e = ap (λ (n : ℕ). getD (statementKinds row) n (set (word row 2) unknown)) e
+  statement-kind k e = ap (λ (n : ℕ). getD (statementKinds row) n (set (word row 2) unknownRvalue)) e
 
   -- one that is no live or dead mark sets its local
   pub statement-set : NoneOf (word row 1) 1 2 → lineOf row .statement ≡ set (word row 2) (rvalueOf row)
   unfolding lineOf rvalueOf
   statement-set w = by-kind (word row 1) w
     where
-      by-kind : (k : ℕ) → NoneOf k 1 2 → getD (statementKinds row) k (set (word row 2) unknown) ≡ set (word row 2) (getD (rvalueKinds row) k unknown)
+      by-kind : (k : ℕ) → NoneOf k 1 2 → getD (statementKinds row) k (set (word row 2) unknownRvalue) ≡ set (word row 2) (getD (rvalueKinds row) k unknownRvalue)
       by-kind zero n = refl
       by-kind (suc zero) n = absurd (n .0 .1 refl)
       by-kind (suc (suc zero)) n = absurd (n .1 refl)
-      by-kind (suc (suc (suc k))) n = List·getD-map (set (word row 2)) (drop 3 (rvalueKinds row)) k unknown
+      by-kind (suc (suc (suc k))) n = List·getD-map (set (word row 2)) (drop 3 (rvalueKinds row)) k unknownRvalue

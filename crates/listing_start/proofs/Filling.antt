@@ -5,7 +5,7 @@ use mathlib.Core.List.{List, [], _∷_, _++_, map, append-nil}
 use native.Mathlib.Nat.{zero-add}
 use native.Mathlib.Omega.{arith}
 use lib.ListN.{length, getD, set, take, drop, length-map, drop-of-length-le, replicate-append-replicate}
-use Rattle.row_tables.specs.Rows.{zeros, joined, encode as encodeRows, stored, cleared}
+use Rattle.row_tables.specs.Rows.{zeros, joined, encodeRows, stored, cleared}
 use Rattle.row_tables.proofs.Zeros.{drop-zeros}
 use Rattle.row_tables.proofs.Loops.{Storing, store-more, store-end}
 use Rattle.image.specs.declared.rows.BindingRow.{BindingRow}

@@ -11,7 +11,7 @@ use Rattle.mir.specs.declared.rvalues.BinOp.{BinOp}
 use Rattle.mir.specs.declared.rvalues.Left.{Left}
 use Rattle.mir.specs.declared.rvalues.PlaceRvalue.{PlaceRvalue}
 use Rattle.lower_spec.specs.declared.merging.OptBlock.{OptBlock}
-use Rattle.views.specs.Views.{Path, Rvalue, ofPlace, ofConstant, binary, unknown, Statement, live, dead, set, Line, Mir}
+use Rattle.views.specs.Views.{Path, Rvalue, ofPlace, ofConstant, binary, unknownRvalue, Statement, live, dead, set, Line, Mir}
 use Rattle.listing_text.specs.Words.{thenWord, elseWord, localWord, boolWord, usizeWord, i128Word, typeWord, blockWord, liveWord, deadWord, setWord, copyWord, refWord, mutWord, lenWord, discrWord, eqWord, leWord, geWord, gtWord, switchWord, gotoWord, unreachableWord, dropWord, openWord, derefWord, fieldWord, indexWord, fromEndWord, subsliceWord, downcastWord, refusedWord, andCopyWord, space, dash, newline}
 use Rattle.listing_text.specs.Numbers.{decimal, hexHalves, constantBytes}
 
@@ -56,7 +56,7 @@ unfoldable pub rvalueText : Rvalue → List ℕ
 rvalueText (ofPlace rvalue path) = placeRvalueWord rvalue ++ placeText path
 rvalueText (ofConstant c) = constantBytes (c .count) (c .low) (c .high)
 rvalueText (binary op left path) = operatorWord op ++ (leftText left ++ (andCopyWord ++ placeText path))
-rvalueText unknown = []
+rvalueText unknownRvalue = []
 
 -- "`live`, `dead` name a local. `set` has the target, then .."
 unfoldable pub statementText : Statement → List ℕ

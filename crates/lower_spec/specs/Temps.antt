@@ -5,7 +5,7 @@ use mathlib.Core.List.{List}
 use lib.Dec.{eqb, ltb}
 use lib.ListN.{length, getD}
 use Rattle.refusals.specs.declared.MirLowerError.{MirLowerError}
-use Rattle.refusals.specs.Refusals.{Result, ok, refused, andThen}
+use Rattle.refusals.specs.Refusals.{Result, done, stopped, andThen}
 use Rattle.image.specs.Lists.{member}
 use Rattle.image.specs.Tables.{typeCount}
 use Rattle.image.specs.Rows.{typeAt}
@@ -25,12 +25,12 @@ isHeld st l = member (l .0) (st .entries)
 
 -- a local that is held as it is, or another as the last entry of the last scope
 abbrev pub recordUnless : Bool → State → LocalId → Result State
-recordUnless held st l = cond held (ok st) (tryEntry st l)
+recordUnless held st l = cond held (done st) (tryEntry st l)
 
 -- a local, held or not, live from the end of a block on; without a scope document 01's number 14
 unfoldable pub markLive : Bool → State → LocalId → BasicBlockId → Result State
 markLive held st l block =
-    cond (eqb (length (st .scopes)) 0) (refused MirLowerError.NoScope)
+    cond (eqb (length (st .scopes)) 0) (stopped MirLowerError.NoScope)
     (andThen (recordUnless held st l) (λ st₁. tryStatement st₁ (liveRow block l)))
 
 -- request S-4: "A live mark now records its local in the last scope unless an open scope already holds it."
@@ -41,12 +41,12 @@ pushStorageLiveForLocal st l block = markLive (isHeld st l) st l block
 -- (crate `named`), so none is looked through
 unfoldable pub temp : List ℕ → State → ℕ → BasicBlockId → Result State
 temp image st word block =
-    cond (isSlice image word) (refused MirLowerError.UnsizedTemporary)
+    cond (isSlice image word) (stopped MirLowerError.UnsizedTemporary)
     (andThen (tryLocal st word) (λ st₁. markLive false st₁ (nextLocal st) block))
 
 -- the local of a binding: a word of the bindings' table, in which 65535 stands for none
 unfoldable pub bindingLocal : List ℕ → ℕ → Result LocalId
-bindingLocal locals b = cond (eqb (getD locals b 65535) 65535) (refused MirLowerError.InaccessibleLocal) (ok (record { 0 = getD locals b 65535 }))
+bindingLocal locals b = cond (eqb (getD locals b 65535) 65535) (stopped MirLowerError.InaccessibleLocal) (done (record { 0 = getD locals b 65535 }))
 
 -- a binding's local, live from the end of a block on
 unfoldable pub pushStorageLive : State → List ℕ → ℕ → BasicBlockId → Result State

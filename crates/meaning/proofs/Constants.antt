@@ -22,7 +22,7 @@ use Rattle.image.specs.Rows.{typeAt, operandAt, operandBytes}
 use Rattle.image.specs.Valid.{rules, valid}
 use Rattle.image.proofs.Bools.{and-left, and-right, all-true-at}
 use Rattle.image.proofs.Known.{shape-holds}
-use Rattle.refusals.specs.Refusals.{Result, ok}
+use Rattle.refusals.specs.Refusals.{Result, done}
 use Rattle.mir.specs.declared.rvalues.Constant.{Constant}
 use Rattle.literals.specs.Literals.{constantOf, stringConstant, integerConstant, literalBy, lowerLiteralToOperand, lowerConstToOperand, literalOrConstBy, lowerLiteralOrConstToOperand}
 use Rattle.cases_spec.specs.Cases.{kindNumber, referent}
@@ -46,7 +46,7 @@ pub record Sized (image : List ℕ) (t : ℕ) : Type 0 where
 -- a constant that is taken, and is worth a value
 pub record Worth (image : List ℕ) (r : Result Constant) (v : Value) : Type 0 where
   pub constant : Constant
-  pub taken : r ≡ ok constant
+  pub taken : r ≡ done constant
   pub worth : constantValue image constant ≡ v
 
 -- two halves of a constant are the number of its bytes
@@ -191,7 +191,7 @@ module _ (image : List ℕ) (t : ℕ) (o : Operand) (sized : Sized image t) (lie
   unfolding lowerLiteralToOperand
   literal-taken fits = literal-by image t (sized .few) (o .kind) (o .offset) (o .bytes) (sized .sizes) (lies .holds) (lies .small) (lies .there) fits
 
-  pub literal-worth : {c : Constant} → literalFits (o .kind) image (tyOf image t .shape) (o .bytes) ≡ true → lowerLiteralToOperand image t o ≡ ok c → constantValue image c ≡ operandValue image t o
+  pub literal-worth : {c : Constant} → literalFits (o .kind) image (tyOf image t .shape) (o .bytes) ≡ true → lowerLiteralToOperand image t o ≡ done c → constantValue image c ≡ operandValue image t o
   literal-worth fits e = let w = literal-taken fits in cc (w .taken, w .worth)
 
   -- an evaluated constant of its type's size
@@ -222,7 +222,7 @@ module _ (image : List ℕ) (t : ℕ) (o : Operand) (sized : Sized image t) (lie
       by OperandKind.Other k f = absurd (false≢true (unfold endFits in f))
       by OperandKind.Unknown k f = absurd (false≢true (unfold endFits in f))
 
-  pub end-worth : {c : Constant} → endFits (o .kind) (tyOf image t .shape) (o .bytes) ≡ true → lowerLiteralOrConstToOperand image t o ≡ ok c → constantValue image c ≡ operandValue image t o
+  pub end-worth : {c : Constant} → endFits (o .kind) (tyOf image t .shape) (o .bytes) ≡ true → lowerLiteralOrConstToOperand image t o ≡ done c → constantValue image c ≡ operandValue image t o
   end-worth fits e = let w = end-taken fits in cc (w .taken, w .worth)
 
 bytes-take : (n : ℕ) (xs : List ℕ) → Bytes xs → Bytes (take n xs)

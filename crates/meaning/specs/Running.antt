@@ -20,7 +20,7 @@ use Rattle.mir.specs.declared.rvalues.Constant.{Constant}
 use Rattle.mir.specs.declared.rvalues.BinOp.{BinOp}
 use Rattle.mir.specs.declared.rvalues.Left.{Left}
 use Rattle.mir.specs.declared.rvalues.PlaceRvalue.{PlaceRvalue}
-use Rattle.views.specs.Views.{Path, Rvalue, ofPlace, ofConstant, binary, unknown as unknownRvalue, Statement, live, dead, set, Line, Mir}
+use Rattle.views.specs.Views.{Path, Rvalue, ofPlace, ofConstant, binary, unknownRvalue as unknownRvalue, Statement, live, dead, set, Line, Mir}
 use Rattle.views.specs.Growing.{terminatorAt}
 use Rattle.cases_spec.specs.Cases.{ifThere, ifScalar, referent}
 use Rattle.meaning.specs.Values.{Value, Int, Bool′, Char, Str, Tuple, Adt, Reference, Array, Slice, unitValue, byParts, derefed, partsOf, ifVariant, placeIn}

@@ -9,7 +9,7 @@ use borrow.Author.Tests.{eqb-false}
 use lib.Dec.{eqb, ltb}
 use lib.ListN.{length, getD, length-append}
 use Rattle.refusals.specs.declared.MirLowerError.{MirLowerError}
-use Rattle.refusals.specs.Refusals.{Result, ok, refused, andThen}
+use Rattle.refusals.specs.Refusals.{Result, done, stopped, andThen}
 use Rattle.row_tables.specs.Rows.{zeros}
 use Rattle.place.specs.declared.LocalId.{LocalId}
 use Rattle.mir.specs.declared.BasicBlockId.{BasicBlockId}
@@ -117,7 +117,7 @@ room P true a p = gives P a p
 room P false a p = stops P MirLowerError.Limit
 
 -- a test that refuses, or what follows
-pub guarded : {A : Type 0} {P : A → Type 0} (b : Bool) (e : MirLowerError) (x : Result A) → Gives P x → Gives P (cond b (refused e) x)
+pub guarded : {A : Type 0} {P : A → Type 0} (b : Bool) (e : MirLowerError) (x : Result A) → Gives P x → Gives P (cond b (stopped e) x)
 guarded {P = P} true e x h = stops P e
 guarded false e x h = h
 
@@ -211,10 +211,10 @@ keeps-temp {s₀} image st word block k =
 
 -- "a temporary's local is new, so no scope holds it": its mark is that of a local that is looked for in the scopes
 pub temp-looked-for : (image : List ℕ) (st : State) (word : ℕ) (block : BasicBlockId) → NamedBelow st →
-    temp image st word block ≡ cond (isSlice image word) (refused MirLowerError.UnsizedTemporary) (andThen (tryLocal st word) (λ st₁. pushStorageLiveForLocal st₁ (nextLocal st) block))
+    temp image st word block ≡ cond (isSlice image word) (stopped MirLowerError.UnsizedTemporary) (andThen (tryLocal st word) (λ st₁. pushStorageLiveForLocal st₁ (nextLocal st) block))
 unfolding temp tryLocal
 temp-looked-for image st word block h =
-    ap (λ (x : Result State). cond (isSlice image word) (refused MirLowerError.UnsizedTemporary) x) (by (ltb (length (st .locals)) localLimit))
+    ap (λ (x : Result State). cond (isSlice image word) (stopped MirLowerError.UnsizedTemporary) x) (by (ltb (length (st .locals)) localLimit))
   where
     by : (b : Bool) → andThen (within b (newLocal st word)) (λ st₁. markLive false st₁ (nextLocal st) block)
         ≡ andThen (within b (newLocal st word)) (λ st₁. pushStorageLiveForLocal st₁ (nextLocal st) block)
@@ -238,6 +238,6 @@ unfolding bindingLocal
 bound-local {n = n} bindings b h = by (eqb (getD bindings b 65535) 65535) refl
   where
     by : (t : Bool) → eqb (getD bindings b 65535) 65535 ≡ t →
-        Gives (λ (l : LocalId). l .0 < n) (cond t (refused MirLowerError.InaccessibleLocal) (ok (record { 0 = getD bindings b 65535 })))
+        Gives (λ (l : LocalId). l .0 < n) (cond t (stopped MirLowerError.InaccessibleLocal) (done (record { 0 = getD bindings b 65535 })))
     by true e = stops (λ (l : LocalId). l .0 < n) MirLowerError.InaccessibleLocal
     by false e = gives (λ (l : LocalId). l .0 < n) _ (h b (eqb-false (getD bindings b 65535) 65535 e))

@@ -7,7 +7,7 @@ use mathlib.Core.List.{List, [], _∷_}
 use lib.Dec.{eqb, ltb, leb}
 use lib.ListN.{length, getD}
 use Rattle.refusals.specs.declared.MirLowerError.{MirLowerError}
-use Rattle.refusals.specs.Refusals.{ok, refused, andThen}
+use Rattle.refusals.specs.Refusals.{done, stopped, andThen}
 use Rattle.place.specs.declared.LocalId.{LocalId}
 use Rattle.mir.specs.declared.BasicBlockId.{BasicBlockId}
 use Rattle.mir.specs.declared.blocks.Terminator.{Terminator}
@@ -63,7 +63,7 @@ made-dead s₀ st block l m = by (ltb (length (st .statements)) statementLimit)
     row : List ℕ
     row = deadRow block l
 
-    by : (b : Bool) → Gives (MadeAt s₀) (andThen (within b (pushStatement st (deadRow block l))) (λ st₁. ok (record { state = st₁; block = block })))
+    by : (b : Bool) → Gives (MadeAt s₀) (andThen (within b (pushStatement st (deadRow block l))) (λ st₁. done (record { state = st₁; block = block })))
     by true = gives (MadeAt s₀) _ (made-line (pushStatement st row) row m refl refl (ap (recorded (st .entries)) (sym (dead-unmarked block l))))
     by false = stops (MadeAt s₀) MirLowerError.Limit
 
@@ -92,7 +92,7 @@ made-until : (image : List ℕ) (st : State) (i : ℕ) (block : BasicBlockId) �
 unfolding dropUntilScope
 made-until image st i block = by (leb i (length (st .scopes)))
   where
-    by : (b : Bool) → Gives (MadeAt st) (cond b (leaveAll image st block (entriesFrom st i)) (refused MirLowerError.NoScope))
+    by : (b : Bool) → Gives (MadeAt st) (cond b (leaveAll image st block (entriesFrom st i)) (stopped MirLowerError.NoScope))
     by true = made-leaving image st st block (entriesFrom st i) (made-nothing st)
     by false = stops (MadeAt st) MirLowerError.NoScope
 

@@ -15,7 +15,7 @@ use Rattle.mir.specs.declared.rvalues.Left.{Left}
 use Rattle.mir.specs.Blocks.{termRow}
 use Rattle.mir.specs.Statements.{placeWords}
 use Rattle.mir.specs.Rvalues.{constantWords, leftWords, placeRvalueKind, binaryKind, liveRow, deadRow, placeRvalueRow, constantRow, binaryRow}
-use Rattle.views.specs.Views.{Rvalue, ofPlace, ofConstant, binary, unknown, Statement, live, dead, set, terminatorOf, pathOf, leftOf, lineOf}
+use Rattle.views.specs.Views.{Rvalue, ofPlace, ofConstant, binary, unknownRvalue, Statement, live, dead, set, terminatorOf, pathOf, leftOf, lineOf}
 use Rattle.named.specs.Named.{LeftBelow, RvalueBelow, StatementBelow, TerminatorBelow, Throughout}
 use Rattle.named.specs.Marked.{markOf, markedLive}
 
@@ -49,7 +49,7 @@ rvalue-more : {m n : ℕ} → m ≤ n → (r : Rvalue) → RvalueBelow m r → R
 rvalue-more l (ofPlace how path) h = lt-of-lt-of-le h l
 rvalue-more l (ofConstant c) h = tt
 rvalue-more l (binary op left path) h = (left-more l left (h .0), lt-of-lt-of-le (h .1) l)
-rvalue-more l unknown h = tt
+rvalue-more l unknownRvalue h = tt
 
 pub statement-more : {m n : ℕ} → m ≤ n → (s : Statement) → StatementBelow m s → StatementBelow n s
 statement-more l (live x) h = lt-of-lt-of-le h l

@@ -18,9 +18,9 @@ use Rattle.mir.specs.declared.rvalues.Left.{Left}
 use Rattle.state.specs.State.{Body, decode}
 use Rattle.state.proofs.Words.{length-words}
 use Rattle.calls_spec.specs.Lengths.{Lengths}
-use Rattle.body_row_rules.specs.Bodies.{wordOf, isBlock, isLocal, countsWithin, blockHolds, elemAtHolds, placeHolds, constantHolds, leftHolds, rvalueHolds, statementHolds, localHolds, scopeHolds, entryHolds, entriesBelong, bodyHolds}
+use Rattle.body_row_rules.specs.Bodies.{wordOf, isBlock, isLocal, countsWithin, blockHolds, elemAtHolds, statementPlaceHolds, constantHolds, leftHolds, rvalueHolds, statementHolds, localHolds, scopeHolds, entryHolds, entriesBelong, bodyHolds}
 use Rattle.body_row_rules.proofs.Checked.{within, entry-local}
-use Rattle.views.specs.Views.{set, unknown, Line, word, terminatorKinds, terminatorOf, pathOf, constantAt, leftOf, statementKinds, lineOf, mirOf}
+use Rattle.views.specs.Views.{set, unknownRvalue, Line, word, terminatorKinds, terminatorOf, pathOf, constantAt, leftOf, statementKinds, lineOf, mirOf}
 use Rattle.named.specs.Named.{LeftBelow, StatementBelow, TerminatorBelow, Throughout, NamesBelow, NamedBelow}
 use Rattle.named.proofs.Rows.{each-made}
 
@@ -77,8 +77,8 @@ module _ (types variants : ℕ) (table : List ℕ) (c : Counts) (i : ℕ) where
   row = rowAt 49 table i
 
   -- the root of a place that holds
-  root-named : placeHolds variants table c i ≡ true → pathOf row .local < c .locals
-  unfolding placeHolds pathOf
+  root-named : statementPlaceHolds variants table c i ≡ true → pathOf row .local < c .locals
+  unfolding statementPlaceHolds pathOf
   root-named e =
       let a = isLocal c (wordOf 49 table i 15) in
       let b = leb (wordOf 49 table i 16) 16 in
@@ -108,10 +108,10 @@ module _ (types variants : ℕ) (table : List ℕ) (c : Counts) (i : ℕ) where
       let l = local-below c 49 table i 2 (omega arith) (and-right block about (and-left (block && about) rest e)) in
       by l (word row 1) (subst (λ (k : ℕ). rvalueHolds types variants table c i k ≡ true) (sym (row-word 49 table i 1 (omega arith))) (and-right (block && about) rest e))
     where
-      both : leftHolds types table c i && placeHolds variants table c i ≡ true → LeftBelow (c .locals) (leftOf row) × (pathOf row .local < c .locals)
-      both e = (left-named (and-left (leftHolds types table c i) (placeHolds variants table c i) e), root-named (and-right (leftHolds types table c i) (placeHolds variants table c i) e))
+      both : leftHolds types table c i && statementPlaceHolds variants table c i ≡ true → LeftBelow (c .locals) (leftOf row) × (pathOf row .local < c .locals)
+      both e = (left-named (and-left (leftHolds types table c i) (statementPlaceHolds variants table c i) e), root-named (and-right (leftHolds types table c i) (statementPlaceHolds variants table c i) e))
 
-      by : word row 2 < c .locals → (k : ℕ) → rvalueHolds types variants table c i k ≡ true → StatementBelow (c .locals) (getD (statementKinds row) k (set (word row 2) unknown))
+      by : word row 2 < c .locals → (k : ℕ) → rvalueHolds types variants table c i k ≡ true → StatementBelow (c .locals) (getD (statementKinds row) k (set (word row 2) unknownRvalue))
       by l zero e = (l, tt)
       by l (suc zero) e = l
       by l (suc (suc zero)) e = l

@@ -10,7 +10,7 @@ use lib.Dec.{ltb}
 use lib.ListN.{length}
 use Rattle.refusals.specs.declared.MirLowerError.{MirLowerError}
 use Rattle.refusals.specs.Refusals.{Result}
-use Rattle.refusals.specs.Refusals.{ok as done, refused as stopped}
+use Rattle.refusals.specs.Refusals.{done, stopped}
 use Rattle.image.specs.declared.kinds.BindingMode.{BindingMode}
 use Rattle.image.specs.declared.kinds.OperandKind.{OperandKind}
 use Rattle.image.specs.Types.{Operand}

@@ -11,7 +11,7 @@ use Rattle.mir.specs.declared.blocks.Terminator.{Terminator}
 use Rattle.mir.specs.declared.rvalues.Left.{Left}
 use Rattle.mir.specs.declared.rvalues.PlaceRvalue.{PlaceRvalue}
 use Rattle.state.specs.State.{State}
-use Rattle.views.specs.Views.{Rvalue, ofPlace, ofConstant, binary, unknown, Statement, live, dead, set, Line, mirOf}
+use Rattle.views.specs.Views.{Rvalue, ofPlace, ofConstant, binary, unknownRvalue, Statement, live, dead, set, Line, mirOf}
 
 -- a left operand: a local below n, or a constant
 abbrev pub LeftBelow : ℕ → Left → Type 0
@@ -23,7 +23,7 @@ abbrev pub RvalueBelow : ℕ → Rvalue → Type 0
 RvalueBelow n (ofPlace how path) = path .local < n
 RvalueBelow n (ofConstant c) = Unit {0}
 RvalueBelow n (binary op left path) = LeftBelow n left × (path .local < n)
-RvalueBelow n unknown = Unit {0}
+RvalueBelow n unknownRvalue = Unit {0}
 
 -- a statement: the local that it is about, and what it makes of it
 abbrev pub StatementBelow : ℕ → Statement → Type 0

@@ -8,7 +8,7 @@ use borrow.Author.Tests.{eq-eqb, ne-eqb}
 use lib.Dec.{eqb}
 use lib.ListN.{length}
 use Rattle.refusals.specs.declared.MirLowerError.{MirLowerError}
-use Rattle.refusals.specs.Refusals.{Result, refused, andThen}
+use Rattle.refusals.specs.Refusals.{Result, stopped, andThen}
 use Rattle.place.specs.declared.LocalId.{LocalId}
 use Rattle.mir.specs.declared.Counts.{Counts}
 use Rattle.mir.specs.declared.locals.NewLocal.{NewLocal}
@@ -28,7 +28,7 @@ use Rattle.body_tables.proofs.Building.{local-made, entry-made}
 
 -- the local m as an entry, where there is a scope
 abbrev entered : LocalId → State → Result State
-entered m st = cond (eqb (length (st .scopes)) 0) (refused MirLowerError.NoScope) (tryEntry st m)
+entered m st = cond (eqb (length (st .scopes)) 0) (stopped MirLowerError.NoScope) (tryEntry st m)
 
 -- b₀ is the body at entry
 module _ (b₀ : Body) (c : Counts) (ty : ℕ) where

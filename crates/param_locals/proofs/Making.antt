@@ -8,7 +8,7 @@ use lib.ListN.{length, set}
 use borrow.Author.Tests.{ltb-true}
 use lib.Dec.{ltb}
 use Rattle.refusals.specs.declared.MirLowerError.{MirLowerError}
-use Rattle.refusals.specs.Refusals.{Result, ok, andThen}
+use Rattle.refusals.specs.Refusals.{Result, done, andThen}
 use Rattle.image.specs.declared.BindingId.{BindingId}
 use Rattle.image.specs.declared.Tables.{Tables}
 use Rattle.image.specs.Tables.{typeCount, bindingCount}
@@ -17,7 +17,7 @@ use Rattle.image.proofs.Bools.{and-left}
 use Rattle.mir.specs.declared.Counts.{Counts}
 use Rattle.state.specs.declared.Stepped.{Stepped}
 use Rattle.state.specs.State.{Body, decode}
-use Rattle.state.proofs.Answering.{local-count, then, stops, done}
+use Rattle.state.proofs.Answering.{local-count, then, stops, no-step}
 use Rattle.pattern_walk_spec.proofs.Following.{answers-by}
 use Rattle.params_spec.specs.declared.SelfParam.{SelfParam}
 use Rattle.params_spec.specs.Params.{Param, Declared, paramLocal, plainBinding, boundTo, declareSelf, declareParam, declareParams, declareBindings, declare}
@@ -27,8 +27,8 @@ use Rattle.param_locals.specs.Declaring.{Declarable, SelfBound, declared
 use Rattle.param_lists.proofs.Listing.{paramAt, params-none, params-more, Listed, list-taken, listed-behind}
 
 -- nothing is done
-pub declares-nothing : {c : Counts} {m : List ℕ} {b : Body} → Declares ok c m b (Stepped.Now c) m b
-declares-nothing {c = c} {m = m} {b = b} = record { answers = λ current R. done (declaredOf b c m) R }
+pub declares-nothing : {c : Counts} {m : List ℕ} {b : Body} → Declares done c m b (Stepped.Now c) m b
+declares-nothing {c = c} {m = m} {b = b} = record { answers = λ current R. no-step (declaredOf b c m) R }
 
 module _ {f : Declared → Result Declared} {c : Counts} {m₀ : List ℕ} {b₀ : Body} where
   -- the same by another definition
@@ -47,12 +47,12 @@ module _ {f : Declared → Result Declared} {c : Counts} {m₀ : List ℕ} {b₀
 
 -- a parameter's local, after which `bound` has the bindings' locals
 abbrev makes : (List ℕ → ℕ → List ℕ) → ℕ → Declared → Result Declared
-makes bound ty d = andThen (paramLocal (d .state) ty) (λ st. ok (record { state = st; bindings = bound (d .bindings) (length (d .state .locals)) }))
+makes bound ty d = andThen (paramLocal (d .state) ty) (λ st. done (record { state = st; bindings = bound (d .bindings) (length (d .state .locals)) }))
 
 module _ (bound : List ℕ → ℕ → List ℕ) (ty : ℕ) {c : Counts} {m₀ : List ℕ} {b₀ b : Body} where
   -- it is refused
   pub local-refused : {err : MirLowerError} {m : List ℕ} → Adds (λ st. paramLocal st ty) c b₀ (Stepped.Refused err) b → Declares (makes bound ty) c m₀ b₀ (Stepped.Refused err) m b
-  local-refused A = record { answers = λ current R. stops (λ st. ok (record { state = st; bindings = bound m₀ (length (decode b₀ c .locals)) })) (A current R) }
+  local-refused A = record { answers = λ current R. stops (λ st. done (record { state = st; bindings = bound m₀ (length (decode b₀ c .locals)) })) (A current R) }
 
   -- it is made
   pub local-bound : {c₁ : Counts} {m : List ℕ} → Adds (λ st. paramLocal st ty) c b₀ (Stepped.Now c₁) b → m ≡ bound m₀ (c .locals) → Declares (makes bound ty) c m₀ b₀ (Stepped.Now c₁) m b
@@ -61,8 +61,8 @@ module _ (bound : List ℕ → ℕ → List ℕ) (ty : ℕ) {c : Counts} {m₀ :
         answers = λ current R.
             let F = A current R in
             let same : m ≡ bound m₀ (length (decode b₀ c .locals)) = is ∙ sym (ap (bound m₀) (local-count b₀ c R)) in
-            then (λ st. ok (record { state = st; bindings = bound m₀ (length (decode b₀ c .locals)) })) F (inl refl)
-            (answers-by (λ i. ok (record { state = decode b c₁; bindings = same i })) (done (declaredOf b c₁ m) (F .goes .0)));
+            then (λ st. done (record { state = st; bindings = bound m₀ (length (decode b₀ c .locals)) })) F (inl refl)
+            (answers-by (λ i. done (record { state = decode b c₁; bindings = same i })) (no-step (declaredOf b c₁ m) (F .goes .0)));
       }
 
 -- `declare_self`

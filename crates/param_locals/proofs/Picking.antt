@@ -7,7 +7,7 @@ use native.Mathlib.Omega.{arith}
 use borrow.Author.Tests.{eq-eqb, ne-eqb}
 use lib.ListN.{length, set, getD}
 use Rattle.refusals.specs.declared.MirLowerError.{MirLowerError}
-use Rattle.refusals.specs.Refusals.{Result, ok, andThen}
+use Rattle.refusals.specs.Refusals.{Result, done, andThen}
 use Rattle.image.specs.declared.rows.BindingRow.{BindingRow}
 use Rattle.image.specs.Rows.{bindingAt}
 use Rattle.image.specs.Tables.{bindingCount}
@@ -19,7 +19,7 @@ use Rattle.mir.specs.Locals.{newLocal, localsAfter}
 use Rattle.state.specs.declared.Stepped.{Stepped}
 use Rattle.state.specs.State.{Body, decode}
 use Rattle.state.specs.Steps.{tryLocal}
-use Rattle.state.proofs.Answering.{local-count, then, stops, done}
+use Rattle.state.proofs.Answering.{local-count, then, stops, no-step}
 use Rattle.state.proofs.Calls.{local-number}
 use Rattle.pattern_walk_spec.proofs.Following.{answers-by}
 use Rattle.params_spec.specs.Params.{Declared, declareBinding, declareBindings}
@@ -31,7 +31,7 @@ use Rattle.param_locals.proofs.Making.{declares-nothing, declares-by, d
 
 -- a local of the type ty for the binding k
 abbrev picks : ℕ → ℕ → Declared → Result Declared
-picks k ty d = andThen (tryLocal (d .state) ty) (λ st. ok (record { state = st; bindings = set (d .bindings) k (length (d .state .locals)) }))
+picks k ty d = andThen (tryLocal (d .state) ty) (λ st. done (record { state = st; bindings = set (d .bindings) k (length (d .state .locals)) }))
 
 -- `declare_binding`
 module _ (image : List ℕ) (k : ℕ) (row : BindingRow) (same : row ≡ bindingAt image k) where
@@ -44,7 +44,7 @@ module _ (image : List ℕ) (k : ℕ) (row : BindingRow) (same : row ≡ binding
     -- it has a local
     pub has-local : (getD m k 0 ≡ 65535 → ⊥) → Declares (declareBinding image k) c m b (Stepped.Now c) m b
     unfolding declareBinding bindingOf
-    has-local n = record { answers = λ current R. rw (← same, eq-eqb (row .picked) 1 picked, word-within m k 65535 0 within, ne-eqb (getD m k 0) 65535 n) (done (declaredOf b c m) R) }
+    has-local n = record { answers = λ current R. rw (← same, eq-eqb (row .picked) 1 picked, word-within m k 65535 0 within, ne-eqb (getD m k 0) 65535 n) (no-step (declaredOf b c m) R) }
 
     module _ (none : getD m k 0 ≡ 65535) {b₁ : Body} (after : b₁ ≡ withLocals b (localsAfter c (b .locals) (row .ty))) where
       by-local : {r : Stepped} {m₁ : List ℕ} → Declares (picks k (row .ty)) c m b r m₁ b₁ → Declares (declareBinding image k) c m b r m₁ b₁
@@ -54,7 +54,7 @@ module _ (image : List ℕ) (k : ℕ) (row : BindingRow) (same : row ≡ binding
       -- there is no room for its local
       pub no-room : {m₁ : List ℕ} → NewLocal.Full ≡ newLocal c → Declares (declareBinding image k) c m b (Stepped.Refused MirLowerError.Limit) m₁ b₁
       no-room full =
-          by-local (record { answers = λ current R. stops (λ st. ok (record { state = st; bindings = set m k (length (decode b c .locals)) })) (local-made b c current (row .ty) full after R) })
+          by-local (record { answers = λ current R. stops (λ st. done (record { state = st; bindings = set m k (length (decode b c .locals)) })) (local-made b c current (row .ty) full after R) })
 
       -- it has a local now
       pub picked-now : {m₁ : List ℕ} {c₁ : Counts} {n : LocalId} → NewLocal.Local c₁ n ≡ newLocal c → m₁ ≡ set m k (n .0) → Declares (declareBinding image k) c m b (Stepped.Now c₁) m₁ b₁
@@ -65,8 +65,8 @@ module _ (image : List ℕ) (k : ℕ) (row : BindingRow) (same : row ≡ binding
                 let F = local-made b c current (row .ty) is after R in
                 let number : n .0 ≡ length (decode b c .locals) = ap (λ (l : LocalId). l .0) (local-number c is) ∙ sym (local-count b c R) in
                 let same : m₁ ≡ set m k (length (decode b c .locals)) = put ∙ ap (set m k) number in
-                then (λ st. ok (record { state = st; bindings = set m k (length (decode b c .locals)) })) F (inl refl)
-                (answers-by (λ i. ok (record { state = decode b₁ c₁; bindings = same i })) (done (declaredOf b₁ c₁ m₁) (F .goes .0)));
+                then (λ st. done (record { state = st; bindings = set m k (length (decode b c .locals)) })) F (inl refl)
+                (answers-by (λ i. done (record { state = decode b₁ c₁; bindings = same i })) (no-step (declaredOf b₁ c₁ m₁) (F .goes .0)));
           })
 
 -- the invariant of the loop over the bindings: what those from k on come to from now is what all come to from the start

@@ -8,7 +8,7 @@ use lib.ListN.{length}
 use Rattle.image.specs.declared.Tables.{Tables}
 use Rattle.image.specs.Tables.{Whole, bindingCount}
 use Rattle.image.specs.Valid.{valid}
-use Rattle.refusals.specs.Refusals.{Result, ok, refused}
+use Rattle.refusals.specs.Refusals.{Result, done, stopped}
 use Rattle.mir.specs.declared.Counts.{Counts}
 use Rattle.state.specs.declared.Stepped.{Stepped}
 use Rattle.state.specs.State.{Body, decode}
@@ -33,8 +33,8 @@ declaredOf b c bindings = record { state = decode b c; bindings = bindings }
 
 -- the answer of a step, as the definitions have it; after a refusal the bindings' locals may be any
 abbrev pub declaredResult : Stepped → Body → List ℕ → Result Declared
-declaredResult (Stepped.Now c) b bindings = ok (declaredOf b c bindings)
-declaredResult (Stepped.Refused e) b bindings = refused e
+declaredResult (Stepped.Now c) b bindings = done (declaredOf b c bindings)
+declaredResult (Stepped.Refused e) b bindings = stopped e
 
 -- the bindings' locals m₀ and the body b₀ before, m and b after
 pub record Declares (defined : Declared → Result Declared) (c : Counts) (m₀ : List ℕ) (b₀ : Body) (r : Stepped) (m : List ℕ) (b : Body) : Type 0 where

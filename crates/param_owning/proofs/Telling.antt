@@ -6,7 +6,7 @@ use mathlib.Core.List.{List}
 use borrow.Author.Tests.{eq-eqb, ne-eqb}
 use lib.Dec.{eqb}
 use Rattle.refusals.specs.declared.MirLowerError.{MirLowerError}
-use Rattle.refusals.specs.Refusals.{ok, refused}
+use Rattle.refusals.specs.Refusals.{done, stopped}
 use Rattle.image.specs.declared.kinds.PatKind.{PatKind}
 use Rattle.image.specs.declared.rows.PatRow.{PatRow}
 use Rattle.image.specs.Kinds.{patKind}
@@ -27,11 +27,11 @@ use Rattle.param_owning.specs.Owning.{TellsBinding, TellsParam}
 -- `binding_owned`
 module _ (bindings : List ℕ) (b l : ℕ) where
   -- the binding has no local
-  pub binding-refused : {e : MirLowerError} → refused e ≡ bindingLocal bindings b → TellsBinding bindings b l (Owned.Refused e)
+  pub binding-refused : {e : MirLowerError} → stopped e ≡ bindingLocal bindings b → TellsBinding bindings b l (Owned.Refused e)
   unfolding unlessBound
   binding-refused h = record { tells = λ p bound other. ap (λ r. step p r (λ m. cond (eqb l (m .0)) bound other)) h }
 
-  module _ {m : LocalId} (h : ok m ≡ bindingLocal bindings b) where
+  module _ {m : LocalId} (h : done m ≡ bindingLocal bindings b) where
     -- its local is l
     pub binding-own : l ≡ m .0 → TellsBinding bindings b l Owned.Own
     unfolding unlessBound

@@ -13,7 +13,7 @@ use lib.Dec.{eqb, ltb}
 use lib.ListN.{length, getD, set, length-append}
 use lib.Seq.{getD-set-same}
 use Rattle.refusals.specs.declared.MirLowerError.{MirLowerError}
-use Rattle.refusals.specs.Refusals.{Result, ok, refused, andThen}
+use Rattle.refusals.specs.Refusals.{Result, done, stopped, andThen}
 use Rattle.image.specs.Tables.{bindingCount}
 use Rattle.image.specs.Types.{bindingOf}
 use Rattle.image.specs.Tree.{tree}
@@ -88,7 +88,7 @@ makes-param : (st : State) (ty : ℕ) → Gives (λ st₁. Makes st (ty ∷ []) 
 unfolding paramLocal
 makes-param st ty = gives-then (tryLocal st ty) _ (makes-local st ty) (λ st₁ m. scoped st₁ m (eqb (length (st₁ .scopes)) 0))
   where
-    scoped : (st₁ : State) → Makes st (ty ∷ []) st₁ → (b : Bool) → Gives (λ st₂. Makes st (ty ∷ []) st₂) (cond b (refused MirLowerError.NoScope) (tryEntry st₁ (nextLocal st)))
+    scoped : (st₁ : State) → Makes st (ty ∷ []) st₁ → (b : Bool) → Gives (λ st₂. Makes st (ty ∷ []) st₂) (cond b (stopped MirLowerError.NoScope) (tryEntry st₁ (nextLocal st)))
     scoped st₁ m true = stops (λ st₂. Makes st (ty ∷ []) st₂) MirLowerError.NoScope
     scoped st₁ m false = record { at = λ st₂ e. makes-seq m (makes-entry st₁ (nextLocal st) .at st₂ e) }
 
@@ -219,9 +219,9 @@ module _ (image : List ℕ) where
   declares-binding b d = by (bindingOf image b .picked && eqb (getD (d .bindings) b 65535) 65535) refl
     where
       new : Result Declared
-      new = andThen (tryLocal (d .state) (bindingOf image b .ty)) (λ st. ok (record { state = st; bindings = set (d .bindings) b (length (d .state .locals)) }))
+      new = andThen (tryLocal (d .state) (bindingOf image b .ty)) (λ st. done (record { state = st; bindings = set (d .bindings) b (length (d .state .locals)) }))
 
-      by : (t : Bool) → bindingOf image b .picked && eqb (getD (d .bindings) b 65535) 65535 ≡ t → Gives (Others d) (cond t new (ok d))
+      by : (t : Bool) → bindingOf image b .picked && eqb (getD (d .bindings) b 65535) 65535 ≡ t → Gives (Others d) (cond t new (done d))
       by true e =
           gives-then (tryLocal (d .state) (bindingOf image b .ty)) _ (makes-local (d .state) (bindingOf image b .ty)) (λ st m.
           gives (Others d) _

@@ -8,7 +8,7 @@ use borrow.Author.Tests.{eqb-true, eq-eqb, ne-eqb, ltb-true}
 use lib.Dec.{eqb, ltb}
 use lib.ListN.{length, getD}
 use Rattle.refusals.specs.Refusals.{Result, noPattern}
-use Rattle.refusals.specs.Refusals.{ok as done, refused as stopped}
+use Rattle.refusals.specs.Refusals.{done, stopped}
 use Rattle.row_tables.specs.Rows.{zeros}
 use Rattle.image.specs.Lists.{allTrue, allIn}
 use Rattle.image.specs.Tables.{typeCount, bindingCount}
@@ -26,7 +26,7 @@ use Rattle.pattern_matching.specs.Walking.{ok as gives}
 use Rattle.pattern_matching.specs.Patterns.{matchSelfParam}
 use Rattle.pattern_walk_spec.specs.Answers.{ctxOf}
 use Rattle.pattern_walk_spec.specs.Calls.{byWalk, startCtx}
-use Rattle.handed.specs.Handed.{bindingHolds, bindingsHold}
+use Rattle.handed.specs.Handed.{bindingLocalHolds, bindingsHold}
 use Rattle.params_spec.specs.declared.SelfParam.{SelfParam}
 use Rattle.params_spec.specs.Params.{Param, Declared, ParamsOut, declare, shut, unlessBound, lowerParams, selfCount, lowerAll, lowerParamsAndBindings}
 use Rattle.params_spec.specs.Calls.{paramsOf, listFormed, receiverApart, listHolds, selfNamed, paramsHold, paramsCall}
@@ -123,7 +123,7 @@ module _ (image words : List ℕ) (self : SelfParam) (bindings : List ℕ) (b : 
   unfolding paramsHold allTrue bindingsHold
   taken-long =
       let rest = and-left (bindingsHold (bindingCount image) c bindings) _ (and-right (selfNamed image self) _ held) in
-      eqb-true (length bindings) (bindingCount image) (and-left (eqb (length bindings) (bindingCount image)) (allIn (bindingHolds c) bindings) rest)
+      eqb-true (length bindings) (bindingCount image) (and-left (eqb (length bindings) (bindingCount image)) (allIn (bindingLocalHolds c) bindings) rest)
 
   -- When all locals are made, self's binding has self's own local.
   pub self-has-its-own-local : (made : Declared) → declare image self (paramsOf words) (record { state = decode b c; bindings = bindings }) ≡ done made →

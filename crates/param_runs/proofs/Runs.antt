@@ -10,7 +10,7 @@ use borrow.Author.Tests.{eqb-true, ltb-true}
 use lib.Dec.{ltb}
 use lib.ListN.{length, length-append}
 use Rattle.refusals.specs.Refusals.{Result}
-use Rattle.refusals.specs.Refusals.{ok as done}
+use Rattle.refusals.specs.Refusals.{done}
 use Rattle.image.specs.declared.BindingId.{BindingId}
 use Rattle.image.specs.Tables.{typeCount, bindingCount}
 use Rattle.image.specs.Lists.{member, distinct}

@@ -7,7 +7,7 @@ use mathlib.Core.List.{List, [], _∷_, _++_}
 use lib.Dec.{eqb, ltb}
 use lib.ListN.{length, getD, set, length-append}
 use Rattle.refusals.specs.declared.MirLowerError.{MirLowerError}
-use Rattle.refusals.specs.Refusals.{ok as done, refused, andThen}
+use Rattle.refusals.specs.Refusals.{done, stopped, andThen}
 use Rattle.image.specs.Tables.{bindingCount}
 use Rattle.image.specs.Types.{bindingOf}
 use Rattle.image.specs.Tree.{tree}
@@ -61,7 +61,7 @@ scoped-param-local : (st : State) (ty : ℕ) → NamedBelow st → Gives (Scoped
 unfolding paramLocal tryLocal tryEntry
 scoped-param-local st ty h = by (ltb (length (st .locals)) localLimit)
   where
-    by : (b : Bool) → Gives (Scoped st) (andThen (within b (newLocal st ty)) (λ st₁. cond (eqb (length (st₁ .scopes)) 0) (refused MirLowerError.NoScope) (tryEntry st₁ (nextLocal st))))
+    by : (b : Bool) → Gives (Scoped st) (andThen (within b (newLocal st ty)) (λ st₁. cond (eqb (length (st₁ .scopes)) 0) (stopped MirLowerError.NoScope) (tryEntry st₁ (nextLocal st))))
     by true =
         guarded (eqb (length (newLocal st ty .scopes)) 0) MirLowerError.NoScope (tryEntry (newLocal st ty) (nextLocal st))
         (scoped-within (ltb (length (newLocal st ty .entries)) entryLimit) st (pushEntry (newLocal st ty) (nextLocal st)) (entered-local st ty h))

@@ -4,7 +4,7 @@ use mathlib.Core.Path.{_≡_, refl, sym}
 use mathlib.Core.List.{List}
 use lib.ListN.{length}
 use Rattle.refusals.specs.Refusals.{Result, noPattern}
-use Rattle.refusals.specs.Refusals.{ok as done, refused as stopped}
+use Rattle.refusals.specs.Refusals.{done, stopped}
 use Rattle.mir.specs.declared.BasicBlockId.{BasicBlockId}
 use Rattle.pattern_matching.specs.Walking.{Ctx, Out, Walk, ok, step, withState}
 use Rattle.params_spec.specs.declared.SelfParam.{SelfParam}

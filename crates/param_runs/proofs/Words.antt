@@ -16,7 +16,7 @@ use Rattle.image.specs.Lists.{allIn}
 use Rattle.image.proofs.Bools.{and-left, and-right}
 use Rattle.mir.specs.declared.Counts.{Counts}
 use Rattle.state.specs.State.{State, countsOf}
-use Rattle.handed.specs.Handed.{bindingHolds, bindingsHold}
+use Rattle.handed.specs.Handed.{bindingLocalHolds, bindingsHold}
 use Rattle.named.specs.Named.{WordsBelow}
 use Rattle.params_spec.specs.Params.{boundTo}
 use Rattle.correctness.proofs.BindingNames.{or-elim}
@@ -53,12 +53,12 @@ bound-keeps bindings none l x h = refl
 bound-keeps bindings (some b) l x h = getD-set-other bindings b x l 65535 (λ e. h (ap some (sym e)))
 
 -- those of a list of which each is a local or none
-pub all-below : (c : Counts) (bindings : List ℕ) → allIn (bindingHolds c) bindings ≡ true → WordsBelow bindings (c .locals)
-unfolding allIn bindingHolds
+pub all-below : (c : Counts) (bindings : List ℕ) → allIn (bindingLocalHolds c) bindings ≡ true → WordsBelow bindings (c .locals)
+unfolding allIn bindingLocalHolds
 all-below c [] e x k = absurd (k refl)
 all-below c (l ∷ ls) e zero k =
-    or-elim (eqb l 65535) (ltb l (c .locals)) (and-left (eqb l 65535 || ltb l (c .locals)) (allIn (bindingHolds c) ls) e) (λ q. absurd (k (eqb-true l 65535 q))) (λ q. ltb-true l (c .locals) q)
-all-below c (l ∷ ls) e (suc x) k = all-below c ls (and-right (eqb l 65535 || ltb l (c .locals)) (allIn (bindingHolds c) ls) e) x k
+    or-elim (eqb l 65535) (ltb l (c .locals)) (and-left (eqb l 65535 || ltb l (c .locals)) (allIn (bindingLocalHolds c) ls) e) (λ q. absurd (k (eqb-true l 65535 q))) (λ q. ltb-true l (c .locals) q)
+all-below c (l ∷ ls) e (suc x) k = all-below c ls (and-right (eqb l 65535 || ltb l (c .locals)) (allIn (bindingLocalHolds c) ls) e) x k
 
 -- what a call may be handed
 pub record WordsHold (bindings : List ℕ) (n : ℕ) (st : State) : Type 0 where
@@ -70,5 +70,5 @@ pub words-hold : (bindings : List ℕ) (n : ℕ) (st : State) → bindingsHold n
 unfolding bindingsHold countsOf
 words-hold bindings n st e =
     let a = eqb (length bindings) n in
-    let b = allIn (bindingHolds (countsOf st)) bindings in
+    let b = allIn (bindingLocalHolds (countsOf st)) bindings in
     record { long = eqb-true (length bindings) n (and-left a b e); below = all-below (countsOf st) bindings (and-right a b e) }

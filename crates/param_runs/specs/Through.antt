@@ -5,7 +5,7 @@ use mathlib.Core.Bool.{Bool, true, false, cond, _&&_}
 use mathlib.Core.List.{List, [], _∷_, _++_, map}
 use lib.Dec.{eqb}
 use lib.ListN.{length, getD, drop}
-use Rattle.refusals.specs.Refusals.{Result, ok, refused}
+use Rattle.refusals.specs.Refusals.{Result, done, stopped}
 use Rattle.image.specs.declared.kinds.BindingMode.{BindingMode}
 use Rattle.image.specs.Tables.{bindingCount}
 use Rattle.image.specs.Lists.{distinct}
@@ -109,8 +109,8 @@ pub data Through (image : List ℕ) (m : Mir) : ℕ → List Value → ℕ → L
 
 -- how many locals there are when all are made
 abbrev pub madeCount : Result Declared → ℕ
-madeCount (ok d) = length (d .state .locals)
-madeCount (refused e) = 0
+madeCount (done d) = length (d .state .locals)
+madeCount (stopped e) = 0
 
 -- what a call is handed that neither number 1 nor number 2 refuses
 pub record Handed (image : List ℕ) (self : SelfParam) (params : List Param) (bindings : List ℕ) (ctx : Ctx) (current : BasicBlockId) : Type 0 where

@@ -30,7 +30,7 @@ use Rattle.body_calls_spec.proofs.Replying.{accepts, refuses}
 use Rattle.body_calls_spec.proofs.Restoring.{put-back}
 use Rattle.pattern_walk_spec.specs.declared.Lowered.{Lowered}
 use Rattle.pattern_walk_spec.specs.Calls.{byWalk, startCtx}
-use Rattle.handed.specs.Handed.{startHolds, bindingHolds, bindingsHold}
+use Rattle.handed.specs.Handed.{startHolds, bindingLocalHolds, bindingsHold}
 use Rattle.pattern_calls_spec.proofs.Starting.{no-visits, visits-cleared, row-found}
 use Rattle.body_tables.specs.Layout.{blockWidth, blockWords, withBlocks}
 use Rattle.body_opening.proofs.Replying.{few-counts}
@@ -74,7 +74,7 @@ module _ (image : List ℕ) (self : SelfParam) (bindings blocks : List ℕ) (c :
 
   bindings-held : length bindings ≡ bindingCount image
   unfolding bindingsHold
-  bindings-held = eqb-true _ _ (and-left (eqb (length bindings) (bindingCount image)) (allIn (bindingHolds c) bindings) (passed 1))
+  bindings-held = eqb-true _ _ (and-left (eqb (length bindings) (bindingCount image)) (allIn (bindingLocalHolds c) bindings) (passed 1))
 
   start-held : current .0 < c .blocks
   unfolding startHolds

@@ -9,7 +9,7 @@ use lib.Dec.{eqb, ltb}
 use lib.ListN.{length, getD, set, take, length-append, length-map, List·getD-append}
 use lib.Seq.{getD-append-add, getD-take}
 use Rattle.refusals.specs.declared.MirLowerError.{MirLowerError}
-use Rattle.refusals.specs.Refusals.{Result, ok, refused, andThen}
+use Rattle.refusals.specs.Refusals.{Result, done, stopped, andThen}
 use Rattle.image.specs.Tables.{typeCount, patternCount, bindingCount}
 use Rattle.image.specs.Tree.{tree}
 use Rattle.image.specs.Types.{bindingOf}
@@ -36,33 +36,33 @@ use Rattle.params_laws.specs.Walking.{LocalsPlaced}
 -- two steps that come to something: the first comes to `middle`
 record Through {A B : Type 0} (first : Result A) (k : A → Result B) (b : B) : Type 0 where
   middle : A
-  comes : ok middle ≡ first
-  goes : ok b ≡ k middle
+  comes : done middle ≡ first
+  goes : done b ≡ k middle
 
-through : {A B : Type 0} (first : Result A) (k : A → Result B) {b : B} → ok b ≡ andThen first k → Through first k b
-through (ok a) k e = record { middle = a; comes = refl; goes = e }
-through (refused x) k e = absurd (let z : _≡_ {A = ℕ} 0 1 = cc in omega arith)
+through : {A B : Type 0} (first : Result A) (k : A → Result B) {b : B} → done b ≡ andThen first k → Through first k b
+through (done a) k e = record { middle = a; comes = refl; goes = e }
+through (stopped x) k e = absurd (let z : _≡_ {A = ℕ} 0 1 = cc in omega arith)
 
 -- where there is room
-room-ok : {A : Type 0} (room : Bool) {a b : A} (x : MirLowerError) → ok b ≡ cond room (ok a) (refused x) → b ≡ a
+room-ok : {A : Type 0} (room : Bool) {a b : A} (x : MirLowerError) → done b ≡ cond room (done a) (stopped x) → b ≡ a
 room-ok true x e = cc
 room-ok false x e = absurd (let z : _≡_ {A = ℕ} 0 1 = cc in omega arith)
 
 -- what is not refused
-unless-ok : {A : Type 0} (t : Bool) (r : Result A) {b : A} (x : MirLowerError) → ok b ≡ cond t (refused x) r → ok b ≡ r
+unless-ok : {A : Type 0} (t : Bool) (r : Result A) {b : A} (x : MirLowerError) → done b ≡ cond t (stopped x) r → done b ≡ r
 unless-ok true r x e = absurd (let z : _≡_ {A = ℕ} 0 1 = cc in omega arith)
 unless-ok false r x e = e
 
 -- a new local stands behind the others
-new-behind : (st : State) (ty : ℕ) {st₁ : State} → ok st₁ ≡ tryLocal st ty → st₁ .locals ≡ st .locals ++ (ty ∷ [])
+new-behind : (st : State) (ty : ℕ) {st₁ : State} → done st₁ ≡ tryLocal st ty → st₁ .locals ≡ st .locals ++ (ty ∷ [])
 unfolding tryLocal newLocal
 new-behind st ty e = ap (λ (x : State). x .locals) (room-ok (ltb (length (st .locals)) localLimit) MirLowerError.Limit e)
 
 -- and so does a parameter's, which an entry follows
-local-behind : (st : State) (ty : ℕ) {st₁ : State} → ok st₁ ≡ paramLocal st ty → st₁ .locals ≡ st .locals ++ (ty ∷ [])
+local-behind : (st : State) (ty : ℕ) {st₁ : State} → done st₁ ≡ paramLocal st ty → st₁ .locals ≡ st .locals ++ (ty ∷ [])
 unfolding paramLocal tryEntry pushEntry
 local-behind st ty {st₁ = st₁} e =
-    let T = through (tryLocal st ty) (λ st₂. cond (eqb (length (st₂ .scopes)) 0) (refused MirLowerError.NoScope) (tryEntry st₂ (nextLocal st))) e in
+    let T = through (tryLocal st ty) (λ st₂. cond (eqb (length (st₂ .scopes)) 0) (stopped MirLowerError.NoScope) (tryEntry st₂ (nextLocal st))) e in
     let made = T .middle in
     let entered : st₁ ≡ pushEntry made (nextLocal st) = room-ok (ltb (length (made .entries)) entryLimit) MirLowerError.Limit (unless-ok (eqb (length (made .scopes)) 0) (tryEntry made (nextLocal st)) MirLowerError.NoScope (T .goes)) in
     ap (λ (x : State). x .locals) entered ∙ new-behind st ty (T .comes)
@@ -73,21 +73,21 @@ selfTypes SelfParam.None = []
 selfTypes (SelfParam.Some b ty) = ty ∷ []
 
 -- the locals after self's, the parameters' and the others' are made
-self-behind : (self : SelfParam) (d : Declared) {d₁ : Declared} → ok d₁ ≡ declareSelf self d → d₁ .state .locals ≡ d .state .locals ++ selfTypes self
+self-behind : (self : SelfParam) (d : Declared) {d₁ : Declared} → done d₁ ≡ declareSelf self d → d₁ .state .locals ≡ d .state .locals ++ selfTypes self
 unfolding declareSelf
 self-behind SelfParam.None d {d₁ = d₁} e =
     let same : d₁ ≡ d = cc in
     ap (λ (x : Declared). x .state .locals) same ∙ sym (append-nil (d .state .locals))
 self-behind (SelfParam.Some b ty) d {d₁ = d₁} e =
-    let T = through (paramLocal (d .state) ty) (λ st. ok (record { state = st; bindings = set (d .bindings) (b .0) (length (d .state .locals)) })) e in
+    let T = through (paramLocal (d .state) ty) (λ st. done (record { state = st; bindings = set (d .bindings) (b .0) (length (d .state .locals)) })) e in
     let same : d₁ ≡ record { state = T .middle; bindings = set (d .bindings) (b .0) (length (d .state .locals)) } = cc (T .goes) in
     ap (λ (x : Declared). x .state .locals) same ∙ local-behind (d .state) ty (T .comes)
 
-param-behind : (image : List ℕ) (q : Param) (d : Declared) {d₁ : Declared} → ok d₁ ≡ declareParam image q d → d₁ .state .locals ≡ d .state .locals ++ (q .ty ∷ [])
+param-behind : (image : List ℕ) (q : Param) (d : Declared) {d₁ : Declared} → done d₁ ≡ declareParam image q d → d₁ .state .locals ≡ d .state .locals ++ (q .ty ∷ [])
 unfolding declareParam
 param-behind image q d {d₁ = d₁} e =
     let bound = boundTo (d .bindings) (plainBinding (tree image (q .pattern))) (length (d .state .locals)) in
-    let T = through (paramLocal (d .state) (q .ty)) (λ st. ok (record { state = st; bindings = bound })) e in
+    let T = through (paramLocal (d .state) (q .ty)) (λ st. done (record { state = st; bindings = bound })) e in
     let same : d₁ ≡ record { state = T .middle; bindings = bound } = cc (T .goes) in
     ap (λ (x : Declared). x .state .locals) same ∙ local-behind (d .state) (q .ty) (T .comes)
 
@@ -95,7 +95,7 @@ param-behind image q d {d₁ = d₁} e =
 abbrev types : List Param → List ℕ
 types qs = map (λ q. q .ty) qs
 
-params-behind : (image : List ℕ) (qs : List Param) (d : Declared) {d₁ : Declared} → ok d₁ ≡ declareParams image qs d → d₁ .state .locals ≡ d .state .locals ++ types qs
+params-behind : (image : List ℕ) (qs : List Param) (d : Declared) {d₁ : Declared} → done d₁ ≡ declareParams image qs d → d₁ .state .locals ≡ d .state .locals ++ types qs
 unfolding declareParams
 params-behind image [] d {d₁ = d₁} e =
     let same : d₁ ≡ d = cc in
@@ -111,23 +111,23 @@ record Longer (xs ys : List ℕ) : Type 0 where
   rest : List ℕ
   is : ys ≡ xs ++ rest
 
-binding-behind : (image : List ℕ) (b : ℕ) (d : Declared) {d₁ : Declared} → ok d₁ ≡ declareBinding image b d → Longer (d .state .locals) (d₁ .state .locals)
+binding-behind : (image : List ℕ) (b : ℕ) (d : Declared) {d₁ : Declared} → done d₁ ≡ declareBinding image b d → Longer (d .state .locals) (d₁ .state .locals)
 unfolding declareBinding
 binding-behind image b d {d₁ = d₁} e = go (bindingOf image b .picked && eqb (getD (d .bindings) b 65535) 65535) e
   where
     put : List ℕ
     put = set (d .bindings) b (length (d .state .locals))
 
-    go : (t : Bool) → ok d₁ ≡ cond t (andThen (tryLocal (d .state) (bindingOf image b .ty)) (λ st. ok (record { state = st; bindings = put }))) (ok d) → Longer (d .state .locals) (d₁ .state .locals)
+    go : (t : Bool) → done d₁ ≡ cond t (andThen (tryLocal (d .state) (bindingOf image b .ty)) (λ st. done (record { state = st; bindings = put }))) (done d) → Longer (d .state .locals) (d₁ .state .locals)
     go true f =
-        let T = through (tryLocal (d .state) (bindingOf image b .ty)) (λ st. ok (record { state = st; bindings = put })) f in
+        let T = through (tryLocal (d .state) (bindingOf image b .ty)) (λ st. done (record { state = st; bindings = put })) f in
         let same : d₁ ≡ record { state = T .middle; bindings = put } = cc (T .goes) in
         record { rest = bindingOf image b .ty ∷ []; is = ap (λ (x : Declared). x .state .locals) same ∙ new-behind (d .state) (bindingOf image b .ty) (T .comes) }
     go false f =
         let same : d₁ ≡ d = cc in
         record { rest = []; is = ap (λ (x : Declared). x .state .locals) same ∙ sym (append-nil (d .state .locals)) }
 
-bindings-behind : (image : List ℕ) (b n : ℕ) (d : Declared) {d₁ : Declared} → ok d₁ ≡ declareBindings image b n d → Longer (d .state .locals) (d₁ .state .locals)
+bindings-behind : (image : List ℕ) (b n : ℕ) (d : Declared) {d₁ : Declared} → done d₁ ≡ declareBindings image b n d → Longer (d .state .locals) (d₁ .state .locals)
 unfolding declareBindings
 bindings-behind image b zero d {d₁ = d₁} e =
     let same : d₁ ≡ d = cc in
@@ -141,7 +141,7 @@ bindings-behind image b (suc n) d e =
       is = others .is ∙ ap (λ (l : List ℕ). l ++ others .rest) (first .is) ∙ append-assoc (d .state .locals) (first .rest) (others .rest);
     }
 
-declare-behind : (image : List ℕ) (self : SelfParam) (qs : List Param) (d : Declared) {d₁ : Declared} → ok d₁ ≡ declare image self qs d →
+declare-behind : (image : List ℕ) (self : SelfParam) (qs : List Param) (d : Declared) {d₁ : Declared} → done d₁ ≡ declare image self qs d →
     Longer ((d .state .locals ++ selfTypes self) ++ types qs) (d₁ .state .locals)
 unfolding declare
 declare-behind image self qs d e =

@@ -6,7 +6,7 @@ use mathlib.Core.List.{List, [], _∷_}
 use lib.Dec.{eqb}
 use lib.ListN.{length, getD, set}
 use Rattle.refusals.specs.declared.MirLowerError.{MirLowerError}
-use Rattle.refusals.specs.Refusals.{Result, ok, refused, andThen, noPattern}
+use Rattle.refusals.specs.Refusals.{Result, done, stopped, andThen, noPattern}
 use Rattle.image.specs.declared.kinds.BindingAnnotation.{BindingAnnotation}
 use Rattle.image.specs.Tables.{bindingCount}
 use Rattle.image.specs.Types.{bindingOf}
@@ -35,7 +35,7 @@ pub record Declared : Type 0 where
 -- a parameter's local: the next one, of the parameter's type, entered into the last scope
 unfoldable pub paramLocal : State → ℕ → Result State
 paramLocal st ty =
-    andThen (tryLocal st ty) (λ st₁. cond (eqb (length (st₁ .scopes)) 0) (refused MirLowerError.NoScope) (tryEntry st₁ (nextLocal st)))
+    andThen (tryLocal st ty) (λ st₁. cond (eqb (length (st₁ .scopes)) 0) (stopped MirLowerError.NoScope) (tryEntry st₁ (nextLocal st)))
 
 -- the annotations of a binding by value: "annotation 0 or 1"
 unfoldable pub byValue : BindingAnnotation → Bool
@@ -76,31 +76,31 @@ boundTo bindings (some b) l = set bindings b l
 
 -- a local for self; its binding is that local
 unfoldable pub declareSelf : SelfParam → Declared → Result Declared
-declareSelf SelfParam.None d = ok d
+declareSelf SelfParam.None d = done d
 declareSelf (SelfParam.Some b ty) d =
-    andThen (paramLocal (d .state) ty) (λ st. ok (record { state = st; bindings = set (d .bindings) (b .0) (length (d .state .locals)) }))
+    andThen (paramLocal (d .state) ty) (λ st. done (record { state = st; bindings = set (d .bindings) (b .0) (length (d .state .locals)) }))
 
 -- a local for a parameter; the binding of a plain one is that local
 unfoldable pub declareParam : List ℕ → Param → Declared → Result Declared
 declareParam image q d =
     andThen (paramLocal (d .state) (q .ty)) (λ st.
-    ok (record { state = st; bindings = boundTo (d .bindings) (plainBinding (tree image (q .pattern))) (length (d .state .locals)) }))
+    done (record { state = st; bindings = boundTo (d .bindings) (plainBinding (tree image (q .pattern))) (length (d .state .locals)) }))
 
 -- for each parameter, in order
 unfoldable pub declareParams : List ℕ → List Param → Declared → Result Declared
-declareParams image [] d = ok d
+declareParams image [] d = done d
 declareParams image (q ∷ qs) d = andThen (declareParam image q d) (λ d₁. declareParams image qs d₁)
 
 -- a local for a binding that is picked and has none, of the binding's type; it enters no scope
 unfoldable pub declareBinding : List ℕ → ℕ → Declared → Result Declared
 declareBinding image b d =
     cond (bindingOf image b .picked && eqb (getD (d .bindings) b 65535) 65535)
-    (andThen (tryLocal (d .state) (bindingOf image b .ty)) (λ st. ok (record { state = st; bindings = set (d .bindings) b (length (d .state .locals)) })))
-    (ok d)
+    (andThen (tryLocal (d .state) (bindingOf image b .ty)) (λ st. done (record { state = st; bindings = set (d .bindings) b (length (d .state .locals)) })))
+    (done d)
 
 -- for the bindings from b on, so many
 unfoldable pub declareBindings : List ℕ → ℕ → ℕ → Declared → Result Declared
-declareBindings image b zero d = ok d
+declareBindings image b zero d = done d
 declareBindings image b (suc n) d = andThen (declareBinding image b d) (λ d₁. declareBindings image (b + 1) n d₁)
 
 -- all locals: self's, the parameters', and those of the other bindings

@@ -8,7 +8,7 @@ use native.Mathlib.Omega.{arith}
 use borrow.Author.Tests.{eq-eqb, ne-eqb, le-leb, lt-leb, leb-true}
 use lib.Dec.{eqb, leb}
 use lib.ListN.{length, getD, set, take, replicate, length-replicate, getD-replicate, drop-of-length-le}
-use Rattle.row_tables.specs.Rows.{zeros, joined, encode as encodeRows, stored, cleared}
+use Rattle.row_tables.specs.Rows.{zeros, joined, encodeRows, stored, cleared}
 use Rattle.row_tables.proofs.Loops.{Storing, store-more, store-end}
 use Rattle.image.specs.declared.BindingId.{BindingId}
 use Rattle.image.specs.declared.Tables.{Tables}

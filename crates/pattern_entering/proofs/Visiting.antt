@@ -10,7 +10,7 @@ use lib.ListN.{getD, set}
 use lib.Seq.{set-getD}
 use Rattle.image.specs.declared.PatId.{PatId}
 use Rattle.refusals.specs.declared.MirLowerError.{MirLowerError}
-use Rattle.refusals.specs.Refusals.{Result, ok, refused, andThen}
+use Rattle.refusals.specs.Refusals.{Result, done, stopped, andThen}
 use Rattle.row_tables.specs.Rows.{zeros}
 use Rattle.place.specs.declared.Place.{Place}
 use Rattle.place.specs.declared.Projected.{Projected}
@@ -63,28 +63,28 @@ visit-holds v visits p h = ap (λ (l : List ℕ). set l p (oneMore (getD l p 0))
 -- one element more, as the definitions have it
 pub project-by : (place : Place) (elem : ProjectionElem) {r : Projected} → Projects place elem r → projectedResult r ≡ project place elem
 unfolding project
-project-by place elem P = ap₂ (λ (t : Bool) (q : Place). cond t (ok q) (refused MirLowerError.Limit)) (P .room) (P .is) ∙ go (ltb (place .len) 16)
+project-by place elem P = ap₂ (λ (t : Bool) (q : Place). cond t (done q) (stopped MirLowerError.Limit)) (P .room) (P .is) ∙ go (ltb (place .len) 16)
   where
-    go : (t : Bool) → cond t (ok (cond t (onward place elem) place)) (refused MirLowerError.Limit) ≡ cond t (ok (onward place elem)) (refused MirLowerError.Limit)
+    go : (t : Bool) → cond t (done (cond t (onward place elem) place)) (stopped MirLowerError.Limit) ≡ cond t (done (onward place elem)) (stopped MirLowerError.Limit)
     go true = refl
     go false = refl
 
 -- there is no room for it
-pub project-stops : (place : Place) (elem : ProjectionElem) {r : Projected} → Projects place elem r → r .ok ≡ false → refused MirLowerError.Limit ≡ project place elem
-project-stops place elem {r = r} P e = ap (λ (t : Bool). cond t (ok (r .place)) (refused MirLowerError.Limit)) (sym e) ∙ project-by place elem P
+pub project-stops : (place : Place) (elem : ProjectionElem) {r : Projected} → Projects place elem r → r .ok ≡ false → stopped MirLowerError.Limit ≡ project place elem
+project-stops place elem {r = r} P e = ap (λ (t : Bool). cond t (done (r .place)) (stopped MirLowerError.Limit)) (sym e) ∙ project-by place elem P
 
 -- there is
-pub project-goes : (place : Place) (elem : ProjectionElem) {r : Projected} → Projects place elem r → r .ok ≡ true → ok (r .place) ≡ project place elem
-project-goes place elem {r = r} P e = ap (λ (t : Bool). cond t (ok (r .place)) (refused MirLowerError.Limit)) (sym e) ∙ project-by place elem P
+pub project-goes : (place : Place) (elem : ProjectionElem) {r : Projected} → Projects place elem r → r .ok ≡ true → done (r .place) ≡ project place elem
+project-goes place elem {r = r} P e = ap (λ (t : Bool). cond t (done (r .place)) (stopped MirLowerError.Limit)) (sym e) ∙ project-by place elem P
 
 -- `deref_place`, so many derefs being left
 module _ (here : Place) (left : ℕ) (more : 0 < left) {r : Projected} (P : Projects here ProjectionElem.Deref r) where
   -- there is no room for one of them
-  pub deref-stops : r .ok ≡ false → refused MirLowerError.Limit ≡ derefsOf here left
+  pub deref-stops : r .ok ≡ false → stopped MirLowerError.Limit ≡ derefsOf here left
   unfolding derefsOf
   deref-stops e = go left more
     where
-      go : (n : ℕ) → 0 < n → refused MirLowerError.Limit ≡ derefsOf here n
+      go : (n : ℕ) → 0 < n → stopped MirLowerError.Limit ≡ derefsOf here n
       go zero h = absurd (omega arith)
       go (suc n) h = ap (λ (q : Result Place). andThen q (λ on. derefsOf on n)) (project-stops here ProjectionElem.Deref P e)
 
@@ -100,7 +100,7 @@ module _ (here : Place) (left : ℕ) (more : 0 < left) {r : Projected} (P : Proj
           ap (derefsOf (r .place)) one ∙ ap (λ (q : Result Place). andThen q (λ on. derefsOf on n)) (project-goes here ProjectionElem.Deref P e)
 
 -- none is left
-pub deref-end : (here : Place) (left : ℕ) → left ≤ 0 → ok here ≡ derefsOf here left
+pub deref-end : (here : Place) (left : ℕ) → left ≤ 0 → done here ≡ derefsOf here left
 unfolding derefsOf
 deref-end here left h = let none : 0 ≡ left = omega arith in ap (derefsOf here) none
 
@@ -112,8 +112,8 @@ derefed-by p place k (suc n) = go (project place ProjectionElem.Deref) (λ onwar
   where
     go : (r : Result Place) → ((onward : Place) → derefed p onward k n ≡ step p (derefsOf onward n) k) →
         step p r (λ onward. derefed p onward k n) ≡ step p (andThen r (λ onward. derefsOf onward n)) k
-    go (ok onward) later = later onward
-    go (refused e) later = refl
+    go (done onward) later = later onward
+    go (stopped e) later = refl
 
 -- a place that was reached from another: it has the same local, and at most 16 elements if that had
 pub record Reached (from to : Place) : Type 0 where
@@ -127,24 +127,24 @@ pub reached-trans : {a b c : Place} → Reached a b → Reached b c → Reached 
 reached-trans F S = record { local = S .local ∙ F .local; within = λ h. S .within (F .within h) }
 
 -- one element on
-pub project-reaches : (place : Place) (elem : ProjectionElem) {to : Place} → ok to ≡ project place elem → Reached place to
+pub project-reaches : (place : Place) (elem : ProjectionElem) {to : Place} → done to ≡ project place elem → Reached place to
 unfolding project
 project-reaches place elem {to = to} e = go (ltb (place .len) 16) refl e
   where
-    go : (t : Bool) → ltb (place .len) 16 ≡ t → ok to ≡ cond t (ok (onward place elem)) (refused MirLowerError.Limit) → Reached place to
+    go : (t : Bool) → ltb (place .len) 16 ≡ t → done to ≡ cond t (done (onward place elem)) (stopped MirLowerError.Limit) → Reached place to
     go true q d = let same : to ≡ onward place elem = cc in rw same (record { local = refl; within = λ h. omega (arith, ltb-true (place .len) 16 q) })
     go false q d = let z : _≡_ {A = ℕ} 0 1 = cc in absurd (omega arith)
 
 -- so many derefs on
-pub derefs-reach : (place : Place) (n : ℕ) {to : Place} → ok to ≡ derefsOf place n → Reached place to
+pub derefs-reach : (place : Place) (n : ℕ) {to : Place} → done to ≡ derefsOf place n → Reached place to
 unfolding derefsOf
 derefs-reach place zero {to = to} e = let same : to ≡ place = cc in rw same (reached-refl place)
 derefs-reach place (suc n) {to = to} e = go (project place ProjectionElem.Deref) refl e (λ onward d. derefs-reach onward n d)
   where
-    go : (r : Result Place) → r ≡ project place ProjectionElem.Deref → ok to ≡ andThen r (λ onward. derefsOf onward n) →
-        ((onward : Place) → ok to ≡ derefsOf onward n → Reached onward to) → Reached place to
-    go (ok onward) q d later = reached-trans (project-reaches place ProjectionElem.Deref q) (later onward d)
-    go (refused x) q d later = let z : _≡_ {A = ℕ} 0 1 = cc in absurd (omega arith)
+    go : (r : Result Place) → r ≡ project place ProjectionElem.Deref → done to ≡ andThen r (λ onward. derefsOf onward n) →
+        ((onward : Place) → done to ≡ derefsOf onward n → Reached onward to) → Reached place to
+    go (done onward) q d later = reached-trans (project-reaches place ProjectionElem.Deref q) (later onward d)
+    go (stopped x) q d later = let z : _≡_ {A = ℕ} 0 1 = cc in absurd (omega arith)
 
 -- what is known of a place's root, of a place that was reached from it
 pub reached-placed : {image : List ℕ} {t : Body} {c : Counts} {place to : Place} → Reached place to → Placed image t c place → Placed image t c to
@@ -161,7 +161,7 @@ module _ (p : PatId) (derefs : ℕ) (lowering : Lowering) (mode : MatchingMode) 
   Enters = Walks (λ ctx. entered (p .0) derefs lowering mode ctx current els place) c current els t v
 
   -- there is no room for its derefs
-  pub enter-stops : refused MirLowerError.Limit ≡ derefsOf place derefs → Enters (Lowered.Refused MirLowerError.Limit p) t (visitedIn v p)
+  pub enter-stops : stopped MirLowerError.Limit ≡ derefsOf place derefs → Enters (Lowered.Refused MirLowerError.Limit p) t (visitedIn v p)
   unfolding entered
   enter-stops full = record {
     answers = λ visits R H. record {
@@ -176,7 +176,7 @@ module _ (p : PatId) (derefs : ℕ) (lowering : Lowering) (mode : MatchingMode) 
   }
 
   -- it is lowered at the place behind them
-  pub enter-goes : {to : Place} {r : Lowered} {t₁ : Body} {v₁ : List ℕ} → ok to ≡ derefsOf place derefs → Walks (λ ctx. lowering mode ctx current els to) c current els t (visitedIn v p) r t₁ v₁ → Enters r t₁ v₁
+  pub enter-goes : {to : Place} {r : Lowered} {t₁ : Body} {v₁ : List ℕ} → done to ≡ derefsOf place derefs → Walks (λ ctx. lowering mode ctx current els to) c current els t (visitedIn v p) r t₁ v₁ → Enters r t₁ v₁
   unfolding entered visited
   enter-goes there W = record {
     answers = λ visits R H.

@@ -6,7 +6,7 @@ use lib.Dec.{ltb}
 use lib.ListN.{getD, set}
 use Rattle.refusals.specs.declared.MirLowerError.{MirLowerError}
 use Rattle.refusals.specs.Refusals.{Result}
-use Rattle.refusals.specs.Refusals.{ok as done, refused as stopped}
+use Rattle.refusals.specs.Refusals.{done, stopped}
 use Rattle.place.specs.declared.LocalId.{LocalId}
 use Rattle.place.specs.declared.Place.{Place}
 use Rattle.place.specs.declared.elems.ProjectionElem.{ProjectionElem}

@@ -7,7 +7,7 @@ use mathlib.Core.List.{List, [], _∷_}
 use types.Run.{OneOf, miss}
 use denote.Enum.Declared as Declared
 use Rattle.refusals.specs.declared.MirLowerError.{MirLowerError}
-use Rattle.refusals.specs.Refusals.{refused}
+use Rattle.refusals.specs.Refusals.{stopped}
 use Rattle.image.specs.declared.kinds.AdtKind.{AdtKind}
 use Rattle.image.specs.declared.kinds.BindingMode.{BindingMode}
 use Rattle.image.specs.declared.kinds.PatKind.{PatKind}
@@ -38,7 +38,7 @@ not-needed PlaceTy.Inapplicable h = absurd (miss (2 ∷ 3 ∷ 4 ∷ 5 ∷ []) 6 
 
 -- `tuple_at`, `reference_at` and `adt_at`, by the kind of the type
 module _ (image : List ℕ) (row : TypeRow) where
-  pub no-tuple : (kind : TypeKind) → OneOf (0 ∷ 1 ∷ 2 ∷ 3 ∷ 5 ∷ 6 ∷ 7 ∷ 8 ∷ 9 ∷ []) (Declared.tagOf type-kind.the-type kind) → refused (MirLowerError.TypeError 1) ≡ tupleAt (some (shapeBy kind image row))
+  pub no-tuple : (kind : TypeKind) → OneOf (0 ∷ 1 ∷ 2 ∷ 3 ∷ 5 ∷ 6 ∷ 7 ∷ 8 ∷ 9 ∷ []) (Declared.tagOf type-kind.the-type kind) → stopped (MirLowerError.TypeError 1) ≡ tupleAt (some (shapeBy kind image row))
   unfolding tupleAt shapeBy
   no-tuple TypeKind.Integer h = refl
   no-tuple TypeKind.Bool h = refl
@@ -51,7 +51,7 @@ module _ (image : List ℕ) (row : TypeRow) where
   no-tuple TypeKind.Slice h = refl
   no-tuple TypeKind.Unknown h = refl
 
-  pub no-reference : (kind : TypeKind) → OneOf (0 ∷ 1 ∷ 2 ∷ 3 ∷ 4 ∷ 5 ∷ 7 ∷ 8 ∷ 9 ∷ []) (Declared.tagOf type-kind.the-type kind) → refused (MirLowerError.TypeError 3) ≡ referenceAt (some (shapeBy kind image row))
+  pub no-reference : (kind : TypeKind) → OneOf (0 ∷ 1 ∷ 2 ∷ 3 ∷ 4 ∷ 5 ∷ 7 ∷ 8 ∷ 9 ∷ []) (Declared.tagOf type-kind.the-type kind) → stopped (MirLowerError.TypeError 3) ≡ referenceAt (some (shapeBy kind image row))
   unfolding referenceAt shapeBy
   no-reference TypeKind.Integer h = refl
   no-reference TypeKind.Bool h = refl
@@ -64,7 +64,7 @@ module _ (image : List ℕ) (row : TypeRow) where
   no-reference TypeKind.Slice h = refl
   no-reference TypeKind.Unknown h = refl
 
-  pub no-adt : (kind : TypeKind) (v : ℕ) → OneOf (0 ∷ 1 ∷ 2 ∷ 3 ∷ 4 ∷ 6 ∷ 7 ∷ 8 ∷ 9 ∷ []) (Declared.tagOf type-kind.the-type kind) → refused (MirLowerError.TypeError 4) ≡ adtAt (some (shapeBy kind image row)) v
+  pub no-adt : (kind : TypeKind) (v : ℕ) → OneOf (0 ∷ 1 ∷ 2 ∷ 3 ∷ 4 ∷ 6 ∷ 7 ∷ 8 ∷ 9 ∷ []) (Declared.tagOf type-kind.the-type kind) → stopped (MirLowerError.TypeError 4) ≡ adtAt (some (shapeBy kind image row)) v
   unfolding adtAt shapeBy
   no-adt TypeKind.Integer v h = refl
   no-adt TypeKind.Bool v h = refl
@@ -78,7 +78,7 @@ module _ (image : List ℕ) (row : TypeRow) where
   no-adt TypeKind.Unknown v h = refl
 
 -- `variant_of`
-pub not-taken : (kind : AdtKind) → OneOf (2 ∷ 3 ∷ []) (Declared.tagOf adt-kind.the-type kind) → refused (MirLowerError.TypeError 6) ≡ adtTaken kind
+pub not-taken : (kind : AdtKind) → OneOf (2 ∷ 3 ∷ []) (Declared.tagOf adt-kind.the-type kind) → stopped (MirLowerError.TypeError 6) ≡ adtTaken kind
 unfolding adtTaken
 not-taken AdtKind.Struct h = absurd (miss (2 ∷ 3 ∷ []) 0 tt h)
 not-taken AdtKind.Enum h = absurd (miss (2 ∷ 3 ∷ []) 1 tt h)

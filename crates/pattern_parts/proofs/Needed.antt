@@ -75,7 +75,7 @@ module _ (p : ℕ) (mode : MatchingMode) (ctx : Ctx) (current : BasicBlockId) (e
       where
         go : (t : Bool) →
             cond t (variantOn kind image p v args mode ctx current els place) (refused (MirLowerError.TypeError 5) p)
-            ≡ step p (cond t (adtTaken kind) (Result.refused (MirLowerError.TypeError 5))) (λ k. variantOn k image p v args mode ctx current els place)
+            ≡ step p (cond t (adtTaken kind) (Result.stopped (MirLowerError.TypeError 5))) (λ k. variantOn k image p v args mode ctx current els place)
         go true = adt-taken kind
         go false = refl
 

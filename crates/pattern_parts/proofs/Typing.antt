@@ -17,7 +17,7 @@ use Rattle.image.specs.Rules.{listed}
 use Rattle.image.specs.Types.{Shape, shapeBy, tyOf}
 use Rattle.image.specs.Valid.{valid}
 use Rattle.refusals.specs.declared.MirLowerError.{MirLowerError}
-use Rattle.refusals.specs.Refusals.{refused}
+use Rattle.refusals.specs.Refusals.{stopped}
 use Rattle.place.specs.declared.Place.{Place}
 use Rattle.place.specs.declared.elems.ProjectionElem.{ProjectionElem}
 use Rattle.place.specs.declared.place_ty.PlaceTy.{PlaceTy}
@@ -81,9 +81,9 @@ shape-none image PlaceTy.Inapplicable e = refl
 
 -- the type of a part of an array, or of a local that a test made, is no tuple, no reference and no ADT
 pub record Other (s : Option Shape) : Type 0 where
-  pub no-tuple : tupleAt s ≡ refused (MirLowerError.TypeError 1)
-  pub no-reference : referenceAt s ≡ refused (MirLowerError.TypeError 3)
-  pub no-adt : (v : ℕ) → adtAt s v ≡ refused (MirLowerError.TypeError 4)
+  pub no-tuple : tupleAt s ≡ stopped (MirLowerError.TypeError 1)
+  pub no-reference : referenceAt s ≡ stopped (MirLowerError.TypeError 3)
+  pub no-adt : (v : ℕ) → adtAt s v ≡ stopped (MirLowerError.TypeError 4)
 
 pub shape-other : (image : List ℕ) (ty : PlaceTy) → NeededTy.Other ≡ neededTy ty → Other (shapeOf image ty)
 unfolding neededTy shapeOf tupleAt referenceAt adtAt

@@ -13,7 +13,7 @@ use Rattle.image.specs.Rules.{listed}
 use Rattle.image.specs.Types.{Shape}
 use Rattle.cases_spec.specs.Cases.{ifTuple, ifAdt, ifReference}
 use Rattle.refusals.specs.declared.MirLowerError.{MirLowerError}
-use Rattle.refusals.specs.Refusals.{Result, ok, refused}
+use Rattle.refusals.specs.Refusals.{Result, done, stopped}
 use Rattle.place.specs.declared.Place.{Place}
 use Rattle.place.specs.declared.elems.ProjectionElem.{ProjectionElem}
 use Rattle.place.specs.declared.place_ty.PlaceTy.{PlaceTy}
@@ -38,42 +38,42 @@ neededTy PlaceTy.Inapplicable = NeededTy.Inapplicable
 
 -- how many fields the tuple at a place has
 unfoldable pub tupleAt : Option Shape → Result ℕ
-tupleAt none = refused MirLowerError.PlaceType
-tupleAt (some shape) = ifTuple shape (λ fields. ok (length fields)) (refused (MirLowerError.TypeError 1))
+tupleAt none = stopped MirLowerError.PlaceType
+tupleAt (some shape) = ifTuple shape (λ fields. done (length fields)) (stopped (MirLowerError.TypeError 1))
 
 abbrev pub tupleResult : TupleAt → Result ℕ
-tupleResult (TupleAt.Fields n) = ok n
-tupleResult (TupleAt.Refused e) = refused e
+tupleResult (TupleAt.Fields n) = done n
+tupleResult (TupleAt.Refused e) = stopped e
 
 -- whether a reference is at a place
 unfoldable pub referenceAt : Option Shape → Result Bool
-referenceAt none = refused MirLowerError.PlaceType
-referenceAt (some shape) = ifReference shape (λ t. ok true) (refused (MirLowerError.TypeError 3))
+referenceAt none = stopped MirLowerError.PlaceType
+referenceAt (some shape) = ifReference shape (λ t. done true) (stopped (MirLowerError.TypeError 3))
 
 abbrev pub referenceResult : ReferenceAt → Result Bool
-referenceResult ReferenceAt.Reference = ok true
-referenceResult (ReferenceAt.Refused e) = refused e
+referenceResult ReferenceAt.Reference = done true
+referenceResult (ReferenceAt.Refused e) = stopped e
 
 -- a struct or an enum; a union is refused
 unfoldable pub adtTaken : AdtKind → Result AdtKind
-adtTaken AdtKind.Struct = ok AdtKind.Struct
-adtTaken AdtKind.Enum = ok AdtKind.Enum
-adtTaken AdtKind.Union = refused (MirLowerError.TypeError 6)
-adtTaken AdtKind.Unknown = refused (MirLowerError.TypeError 6)
+adtTaken AdtKind.Struct = done AdtKind.Struct
+adtTaken AdtKind.Enum = done AdtKind.Enum
+adtTaken AdtKind.Union = stopped (MirLowerError.TypeError 6)
+adtTaken AdtKind.Unknown = stopped (MirLowerError.TypeError 6)
 
 -- one that has the variant v
 unfoldable pub adtHas : AdtKind → List ℕ → ℕ → Result AdtKind
-adtHas kind variants v = cond (member v variants) (adtTaken kind) (refused (MirLowerError.TypeError 5))
+adtHas kind variants v = cond (member v variants) (adtTaken kind) (stopped (MirLowerError.TypeError 5))
 
 -- the ADT at a place
 unfoldable pub adtAt : Option Shape → ℕ → Result AdtKind
-adtAt none v = refused MirLowerError.PlaceType
-adtAt (some shape) v = ifAdt shape (λ kind variants. adtHas kind variants v) (refused (MirLowerError.TypeError 4))
+adtAt none v = stopped MirLowerError.PlaceType
+adtAt (some shape) v = ifAdt shape (λ kind variants. adtHas kind variants v) (stopped (MirLowerError.TypeError 4))
 
 abbrev pub adtResult : AdtAt → Result AdtKind
-adtResult AdtAt.Struct = ok AdtKind.Struct
-adtResult AdtAt.Enum = ok AdtKind.Enum
-adtResult (AdtAt.Refused e) = refused e
+adtResult AdtAt.Struct = done AdtKind.Struct
+adtResult AdtAt.Enum = done AdtKind.Enum
+adtResult (AdtAt.Refused e) = stopped e
 
 -- each field of a Record is below the count of fields
 unfoldable pub fieldsThere : List ℕ → ℕ → ℕ → ℕ → Bool

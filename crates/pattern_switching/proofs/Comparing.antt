@@ -6,7 +6,7 @@ use Prim.Native.Nat.{ℕ, _*_, _<_}
 use native.Mathlib.Nat.{le-trans}
 use lib.ListN.{length}
 use Rattle.refusals.specs.declared.MirLowerError.{MirLowerError}
-use Rattle.refusals.specs.Refusals.{Result, ok, andThen}
+use Rattle.refusals.specs.Refusals.{Result, done, andThen}
 use Rattle.row_tables.specs.Rows.{stored}
 use Rattle.place.specs.declared.LocalId.{LocalId}
 use Rattle.place.specs.declared.Place.{Place}
@@ -41,7 +41,7 @@ module _ (image : List ℕ) (b₀ : Body) (c : Counts) (op : BinOp) (left : Left
   Compares = Steps (λ st. compareStep image op left place st current on other) c current b₀
 
   abbrev ends : LocalId → State → Result State
-  ends n st = ok (ifTrue st current n on other)
+  ends n st = done (ifTrue st current n on other)
 
   abbrev assigns : LocalId → State → Result State
   assigns n st = andThen (tryStatement st (binaryRow current n op left place)) (ends n)

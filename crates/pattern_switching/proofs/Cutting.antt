@@ -3,7 +3,7 @@ use mathlib.Core.Path.{_≡_, refl, _∙_}
 use mathlib.Core.Bool.{true, false, true≢false, false≢true}
 use mathlib.Core.List.{List}
 use Prim.Native.Nat.{ℕ}
-use Rattle.refusals.specs.Refusals.{ok, andThen}
+use Rattle.refusals.specs.Refusals.{done, andThen}
 use Rattle.place.specs.declared.Place.{Place}
 use Rattle.mir.specs.declared.BasicBlockId.{BasicBlockId}
 use Rattle.mir.specs.declared.rvalues.BinOp.{BinOp}
@@ -38,5 +38,5 @@ pub compare-cut : (image : List ℕ) (p : ℕ) (op : BinOp) (left : Left) (place
     step p (compareStep image op left place st current on other) (λ st′. out (withState ctx st′) on (OptBlock.Some other)) ≡ compare image p op left place ctx st current on other
 unfolding compare compareStep
 compare-cut image p op left place ctx st current on other =
-    step-two p (temp image st boolWord current) (λ st₁. andThen (tryStatement st₁ (binaryRow current (nextLocal st) op left place)) (λ st₂. ok (ifTrue st₂ current (nextLocal st) on other))) (λ st′. out (withState ctx st′) on (OptBlock.Some other))
-    ∙ (λ i. step p (temp image st boolWord current) (λ st₁. step-two p (tryStatement st₁ (binaryRow current (nextLocal st) op left place)) (λ st₂. ok (ifTrue st₂ current (nextLocal st) on other)) (λ st′. out (withState ctx st′) on (OptBlock.Some other)) i))
+    step-two p (temp image st boolWord current) (λ st₁. andThen (tryStatement st₁ (binaryRow current (nextLocal st) op left place)) (λ st₂. done (ifTrue st₂ current (nextLocal st) on other))) (λ st′. out (withState ctx st′) on (OptBlock.Some other))
+    ∙ (λ i. step p (temp image st boolWord current) (λ st₁. step-two p (tryStatement st₁ (binaryRow current (nextLocal st) op left place)) (λ st₂. done (ifTrue st₂ current (nextLocal st) on other)) (λ st′. out (withState ctx st′) on (OptBlock.Some other)) i))

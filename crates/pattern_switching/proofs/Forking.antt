@@ -3,7 +3,7 @@ use mathlib.Core.Path.{_≡_}
 use Prim.Native.Nat.{ℕ, _*_}
 use native.Mathlib.Nat.{le-trans}
 use Rattle.refusals.specs.declared.MirLowerError.{MirLowerError}
-use Rattle.refusals.specs.Refusals.{Result, ok}
+use Rattle.refusals.specs.Refusals.{Result, done}
 use Rattle.image.specs.declared.PatId.{PatId}
 use Rattle.row_tables.specs.Rows.{stored}
 use Rattle.place.specs.declared.LocalId.{LocalId}
@@ -31,7 +31,7 @@ module _ (b₀ : Body) (c : Counts) (p : PatId) (l : LocalId) (low high : ℕ) (
   Switched = Lowers (λ ctx. thenSwitch (p .0) l low high ctx current els) c current els b₀
 
   abbrev ends : State → BasicBlockId → BasicBlockId → Result State
-  ends st on other = ok (setTerminator st current (Terminator.Switch l low high on other))
+  ends st on other = done (setTerminator st current (Terminator.Switch l low high on other))
 
   -- there is no room for the block that goes on
   pub switch-full : NewBlock.Full ≡ newBlock c → Switched (Lowered.Refused MirLowerError.Limit p) b₀

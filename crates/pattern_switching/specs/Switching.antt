@@ -1,7 +1,7 @@
 -- The blocks of a test and its end, cut where the code is cut, and what the functions promise. Assumes nothing: these are definitions.
 use Prim.Native.Nat.{ℕ}
 use mathlib.Core.List.{List}
-use Rattle.refusals.specs.Refusals.{Result, ok, andThen}
+use Rattle.refusals.specs.Refusals.{Result, done, andThen}
 use Rattle.place.specs.declared.LocalId.{LocalId}
 use Rattle.place.specs.declared.Place.{Place}
 use Rattle.mir.specs.declared.BasicBlockId.{BasicBlockId}
@@ -31,7 +31,7 @@ unfoldable pub compareStep : List ℕ → BinOp → Left → Place → State →
 compareStep image op left place st current then other =
     andThen (temp image st boolWord current) (λ st₁.
     andThen (tryStatement st₁ (binaryRow current (nextLocal st) op left place)) (λ st₂.
-    ok (ifTrue st₂ current (nextLocal st) then other)))
+    done (ifTrue st₂ current (nextLocal st) then other)))
 
 -- a block goes on by a local's value: `then` is made before an else
 unfoldable pub thenSwitch : ℕ → LocalId → ℕ → ℕ → Ctx → BasicBlockId → OptBlock → Walk Out

@@ -8,7 +8,7 @@ use types.Run.{OneOf, miss}
 use denote.Enum.Declared as Declared
 use Rattle.refusals.specs.declared.MirLowerError.{MirLowerError}
 use Rattle.refusals.specs.Refusals.{Result}
-use Rattle.refusals.specs.Refusals.{ok as done, refused as stopped}
+use Rattle.refusals.specs.Refusals.{done, stopped}
 use Rattle.image.specs.declared.PatId.{PatId}
 use Rattle.image.specs.declared.kinds.OperandKind.{OperandKind}
 use Rattle.image.proofs.kinds.OperandKind as the-kind

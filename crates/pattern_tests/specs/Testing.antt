@@ -3,7 +3,7 @@ use Prim.Native.Nat.{ℕ}
 use mathlib.Core.Bool.{Bool, true, false}
 use mathlib.Core.List.{List}
 use Rattle.image.specs.declared.kinds.OperandKind.{OperandKind}
-use Rattle.refusals.specs.Refusals.{Result, ok}
+use Rattle.refusals.specs.Refusals.{Result, done}
 use Rattle.place.specs.declared.LocalId.{LocalId}
 use Rattle.place.specs.declared.Place.{Place}
 use Rattle.mir.specs.declared.BasicBlockId.{BasicBlockId}
@@ -45,7 +45,7 @@ constantCompared image p l ctx current els place =
 
 -- the end of the length's test, where the local l holds it: exactly n without a rest, and at least n with one
 unfoldable pub lengthEnd : List ℕ → LocalId → ℕ → Bool → State → BasicBlockId → BasicBlockId → BasicBlockId → Result State
-lengthEnd image l n false st current then other = ok (setTerminator st current (Terminator.Switch l n 0 then other))
+lengthEnd image l n false st current then other = done (setTerminator st current (Terminator.Switch l n 0 then other))
 lengthEnd image l n true st current then other = compareStep image BinOp.Le (Left.Constant (lengthConstant n)) (localPlace l) st current then other
 
 -- the blocks of the length's test: an else is made before the block that goes on

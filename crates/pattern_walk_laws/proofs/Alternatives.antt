@@ -8,7 +8,7 @@ use native.Mathlib.Nat.{le-refl, le-trans}
 use native.Mathlib.Omega.{arith}
 use Rattle.refusals.specs.declared.MirLowerError.{MirLowerError}
 use Rattle.refusals.specs.Refusals.{Result}
-use Rattle.refusals.specs.Refusals.{ok as done}
+use Rattle.refusals.specs.Refusals.{done}
 use Rattle.image.specs.declared.PatId.{PatId}
 use Rattle.image.specs.declared.Tables.{Tables}
 use Rattle.image.specs.Rows.{listAt}

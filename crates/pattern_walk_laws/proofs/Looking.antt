@@ -7,7 +7,7 @@ use lib.ListN.{getD}
 use lib.Seq.{getD-take}
 use Rattle.refusals.specs.declared.MirLowerError.{MirLowerError}
 use Rattle.refusals.specs.Refusals.{Result}
-use Rattle.refusals.specs.Refusals.{ok as done, refused as stopped}
+use Rattle.refusals.specs.Refusals.{done, stopped}
 use Rattle.image.specs.declared.PatId.{PatId}
 use Rattle.row_tables.specs.Rows.{zeros}
 use Rattle.place.specs.declared.Place.{Place}

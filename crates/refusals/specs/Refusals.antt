@@ -56,10 +56,10 @@ refusalAt e p = record { number = numberOf e; pattern = p; reason = reasonOf e }
 
 -- what a step of the lowering gives, or the error that stops it
 pub data Result (A : Type 0) : Type 0 where
-  ok : A → Result A
-  refused : MirLowerError → Result A
+  done : A → Result A
+  stopped : MirLowerError → Result A
 
 -- a step, and then what follows it
 abbrev pub andThen : {A B : Type 0} → Result A → (A → Result B) → Result B
-andThen (ok a) next = next a
-andThen (refused e) next = refused e
+andThen (done a) next = next a
+andThen (stopped e) next = stopped e

@@ -10,7 +10,7 @@ use lib.ListN.{length, length-append, length-set, List·getD-append}
 use Rattle.image.specs.Lists.{member}
 use Rattle.refusals.specs.declared.MirLowerError.{MirLowerError}
 use Rattle.refusals.specs.Refusals.{andThen}
-use Rattle.refusals.specs.Refusals.{refused as stopped}
+use Rattle.refusals.specs.Refusals.{stopped}
 use Rattle.row_tables.specs.Rows.{zeros}
 use Rattle.place.specs.declared.LocalId.{LocalId}
 use Rattle.mir.specs.declared.BasicBlockId.{BasicBlockId}

@@ -6,7 +6,7 @@ use native.Mathlib.Omega.{arith}
 use lib.ListN.{length}
 use Rattle.refusals.specs.declared.MirLowerError.{MirLowerError}
 use Rattle.refusals.specs.Refusals.{Result, andThen}
-use Rattle.refusals.specs.Refusals.{ok as done, refused as stopped}
+use Rattle.refusals.specs.Refusals.{done, stopped}
 use Rattle.pattern_matching.specs.Walking.{Ctx, Walk, ok, refused, next, step}
 use Rattle.counting.proofs.Holding.{Holds, Gives}
 

@@ -9,7 +9,7 @@ use native.Mathlib.Numerals.{add-one}
 use native.Mathlib.Omega.{arith}
 use lib.ListN.{length, getD, set, take, drop, length-append, length-take, length-drop, take-append-drop, List·getD-append}
 use lib.Seq.{length-take-le, take-all, take-nil, take-append-le, take-take, take-add, take-at, drop-at, drop-drop, getD-at, set-at, set-append-left}
-use Rattle.row_tables.specs.Rows.{zeros, rowAt, rowsOf, joined, encode, stored, cleared, Blank}
+use Rattle.row_tables.specs.Rows.{zeros, rowAt, rowsOf, joined, encodeRows, stored, cleared, Blank}
 use Rattle.row_tables.proofs.Zeros.{length-zeros, drop-zeros}
 
 -- numbers past the first n are the last of the first n + m
@@ -232,8 +232,8 @@ pub rows-then : (w : ℕ) (t : List ℕ) (n : ℕ) → t ≡ joined (rowsOf w t 
 rows-then w t n = rw joined-rows (sym (take-append-drop (w * n) t))
 
 -- a table with zeros past its rows is their encoding
-pub encoded : (w : ℕ) (t : List ℕ) (n : ℕ) → Blank w t n → t ≡ encode (length t) (rowsOf w t n)
-unfolding encode
+pub encoded : (w : ℕ) (t : List ℕ) (n : ℕ) → Blank w t n → t ≡ encodeRows (length t) (rowsOf w t n)
+unfolding encodeRows
 encoded w t n blank =
     let left : length t - w * n ≡ length t - length (joined (rowsOf w t n)) = omega (arith, ap length (joined-rows w t n), length-take (w * n) t) in
     rows-then w t n ∙ ap (λ (l : List ℕ). joined (rowsOf w t n) ++ l) (blank ∙ ap (λ (k : ℕ). zeros k) left)

@@ -8,7 +8,7 @@ use native.Mathlib.Omega.{arith}
 use borrow.Author.Tests.{lt-ltb, le-ltb}
 use lib.ListN.{length, take}
 use Rattle.refusals.specs.declared.MirLowerError.{MirLowerError}
-use Rattle.refusals.specs.Refusals.{Result, ok, refused, andThen}
+use Rattle.refusals.specs.Refusals.{Result, done, stopped, andThen}
 use Rattle.row_tables.specs.Rows.{rowsOf}
 use Rattle.row_tables.proofs.Tables.{length-rows, blank-more, take-less}
 use Rattle.place.specs.declared.LocalId.{LocalId}
@@ -82,30 +82,30 @@ goes-trans b₂ (some c₂) G h = (h .0, grown-trans G (h .1))
 
 -- a step, and then what follows it
 pub then : {A B : Type 0} {b b₁ b₂ : Body} {c c₁ : Counts} {current next : ℕ} {c₂ : Option Counts} {a : A} {defined : Result A} {given : Result B} (k : A → Result B) →
-    Answers b c current b₁ (some c₁) (ok a) defined → Own c current next → Answers b₁ c₁ next b₂ c₂ given (k a) → Answers b c current b₂ c₂ given (andThen defined k)
+    Answers b c current b₁ (some c₁) (done a) defined → Own c current next → Answers b₁ c₁ next b₂ c₂ given (k a) → Answers b c current b₂ c₂ given (andThen defined k)
 then {b₂ = b₂} {c₂ = c₂} k F own S =
     record { says = S .says ∙ ap (λ r. andThen r k) (F .says); goes = goes-trans b₂ c₂ (F .goes .1) (S .goes); kept = kept-trans (F .kept) (F .goes .1) own (S .kept) }
 
 -- a step that refuses
 pub stops : {A B : Type 0} {b b₁ : Body} {c : Counts} {current : ℕ} {e : MirLowerError} {defined : Result A} (k : A → Result B) →
-    Answers b c current b₁ none (refused e) defined → Answers b c current b₁ none (refused e) (andThen defined k)
+    Answers b c current b₁ none (stopped e) defined → Answers b c current b₁ none (stopped e) (andThen defined k)
 stops k F = record { says = ap (λ r. andThen r k) (F .says); goes = tt; kept = F .kept }
 
 -- an answer that does nothing
-pub done : {A : Type 0} {b : Body} {c : Counts} {current : ℕ} (a : A) → Ready b c → Answers b c current b (some c) (ok a) (ok a)
-done {b = b} {c = c} {current = current} a R = record { says = refl; goes = (R, grown-refl c); kept = kept-refl c current b }
+pub no-step : {A : Type 0} {b : Body} {c : Counts} {current : ℕ} (a : A) → Ready b c → Answers b c current b (some c) (done a) (done a)
+no-step {b = b} {c = c} {current = current} a R = record { says = refl; goes = (R, grown-refl c); kept = kept-refl c current b }
 
 -- a refusal before anything is done
-pub refuses : {A : Type 0} {b : Body} {c : Counts} {current : ℕ} {defined : Result A} (e : MirLowerError) → refused e ≡ defined → Answers b c current b none (refused e) defined
+pub refuses : {A : Type 0} {b : Body} {c : Counts} {current : ℕ} {defined : Result A} (e : MirLowerError) → stopped e ≡ defined → Answers b c current b none (stopped e) defined
 refuses {b = b} {c = c} {current = current} e h = record { says = h; goes = tt; kept = kept-refl c current b }
 
 -- one block more
 pub block-answers : (b : Body) (c : Counts) (current : ℕ) → Ready b c → c .blocks < 512 →
-    Answers b c current b (some (oneBlockMore c)) (ok (decode b (oneBlockMore c))) (tryBlock (decode b c))
+    Answers b c current b (some (oneBlockMore c)) (done (decode b (oneBlockMore c))) (tryBlock (decode b c))
 unfolding tryBlock newBlock decode termRow
 block-answers b c current R h =
     record {
-      says = rw (block-count b c, lt-ltb (c .blocks) 512 h) (λ i. ok (record {
+      says = rw (block-count b c, lt-ltb (c .blocks) 512 h) (λ i. done (record {
         blocks = new-block-open (b .blocks) (c .blocks) (omega (arith, R .blocks)) (R .blank-blocks) i;
         statements = rowsOf 49 (b .statements) (c .statements);
         locals = take (c .locals) (b .locals);
@@ -135,7 +135,7 @@ block-answers b c current R h =
       kept = kept-refl c current b;
     }
 
-pub block-full : (b : Body) (c : Counts) (current : ℕ) → 512 ≤ c .blocks → Answers b c current b none (refused MirLowerError.Limit) (tryBlock (decode b c))
+pub block-full : (b : Body) (c : Counts) (current : ℕ) → 512 ≤ c .blocks → Answers b c current b none (stopped MirLowerError.Limit) (tryBlock (decode b c))
 unfolding tryBlock
 block-full b c current h = refuses MirLowerError.Limit (rw (block-count b c, le-ltb (c .blocks) 512 h) refl)
 

@@ -9,7 +9,7 @@ use native.Mathlib.Omega.{arith}
 use borrow.Author.Tests.{lt-ltb, le-ltb}
 use lib.ListN.{length}
 use Rattle.refusals.specs.declared.MirLowerError.{MirLowerError}
-use Rattle.refusals.specs.Refusals.{Result, ok, refused}
+use Rattle.refusals.specs.Refusals.{Result, done, stopped}
 use Rattle.row_tables.specs.Rows.{stored}
 use Rattle.place.specs.declared.LocalId.{LocalId}
 use Rattle.mir.specs.declared.BasicBlockId.{BasicBlockId}
@@ -30,24 +30,24 @@ use Rattle.state.proofs.Stepping.{term-answers, statement-answers, stat
 
 -- the answers of the builder's calls, as the definitions have them
 abbrev pub countedResult : Counted → Body → Result State
-countedResult (Counted.Now c) b = ok (decode b c)
-countedResult Counted.Full b = refused MirLowerError.Limit
+countedResult (Counted.Now c) b = done (decode b c)
+countedResult Counted.Full b = stopped MirLowerError.Limit
 
 abbrev pub countedCounts : Counted → Option Counts
 countedCounts (Counted.Now c) = some c
 countedCounts Counted.Full = none
 
 abbrev pub blockResult : NewBlock → Body → Result State
-blockResult (NewBlock.Block c m) b = ok (decode b c)
-blockResult NewBlock.Full b = refused MirLowerError.Limit
+blockResult (NewBlock.Block c m) b = done (decode b c)
+blockResult NewBlock.Full b = stopped MirLowerError.Limit
 
 abbrev pub blockCounts : NewBlock → Option Counts
 blockCounts (NewBlock.Block c m) = some c
 blockCounts NewBlock.Full = none
 
 abbrev pub localResult : NewLocal → Body → Result State
-localResult (NewLocal.Local c n) b = ok (decode b c)
-localResult NewLocal.Full b = refused MirLowerError.Limit
+localResult (NewLocal.Local c n) b = done (decode b c)
+localResult NewLocal.Full b = stopped MirLowerError.Limit
 
 abbrev pub localCounts : NewLocal → Option Counts
 localCounts (NewLocal.Local c n) = some c
@@ -138,5 +138,5 @@ module _ (bl s l sc e : List ℕ) (c : Counts) (current : ℕ) where
 
 -- `set_terminator`, and `set_goto`
 pub set-answers : (bl s l sc e : List ℕ) (c : Counts) (k : BasicBlockId) (t : Terminator) {bl₁ : List ℕ} → bl₁ ≡ stored bl (12 * k .0) (termRow t) → k .0 < c .blocks → Ready (body bl s l sc e) c →
-    Answers (body bl s l sc e) c (k .0) (body bl₁ s l sc e) (some c) (ok (decode (body bl₁ s l sc e) c)) (ok (setTerminator (decode (body bl s l sc e) c) k t))
+    Answers (body bl s l sc e) c (k .0) (body bl₁ s l sc e) (some c) (done (decode (body bl₁ s l sc e) c)) (done (setTerminator (decode (body bl s l sc e) c) k t))
 set-answers bl s l sc e c k t after h R = rw after (term-answers bl s l sc e c k t h R)

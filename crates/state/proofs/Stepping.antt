@@ -9,7 +9,7 @@ use native.Mathlib.Omega.{arith}
 use borrow.Author.Tests.{lt-ltb, le-ltb}
 use lib.ListN.{length, length-set, take, set, getD}
 use Rattle.refusals.specs.declared.MirLowerError.{MirLowerError}
-use Rattle.refusals.specs.Refusals.{ok, refused}
+use Rattle.refusals.specs.Refusals.{done, stopped}
 use Rattle.row_tables.specs.Rows.{rowAt, rowsOf, stored, Blank}
 use Rattle.row_tables.proofs.Tables.{length-stored, before-stored, row-of, row-kept, rows-before, rows-push, rows-set, blank-set, blank-push}
 use Rattle.place.specs.declared.LocalId.{LocalId}
@@ -153,12 +153,12 @@ module _ (bl s l sc e : List ℕ) (c : Counts) where
   -- the terminator of a block that there is
   pub term-answers : (k : BasicBlockId) (t : Terminator) → k .0 < c .blocks → Ready (body bl s l sc e) c →
       Answers (body bl s l sc e) c (k .0) (body (stored bl (12 * k .0) (termRow t)) s l sc e) (some c)
-      (ok (decode (body (stored bl (12 * k .0) (termRow t)) s l sc e) c))
-      (ok (setTerminator (decode (body bl s l sc e) c) k t))
+      (done (decode (body (stored bl (12 * k .0) (termRow t)) s l sc e) c))
+      (done (setTerminator (decode (body bl s l sc e) c) k t))
   unfolding setTerminator decode
   term-answers k t h R =
       record {
-        says = λ i. ok (record {
+        says = λ i. done (record {
           blocks = rows-set 12 bl (k .0) (termRow t) (c .blocks) (term-length t) h (omega (arith, R .blocks, R .block-count)) i;
           statements = rowsOf 49 s (c .statements);
           locals = take (c .locals) l;
@@ -177,11 +177,11 @@ module _ (bl s l sc e : List ℕ) (c : Counts) where
 
   -- one statement more
   pub statement-answers : (current : ℕ) (row : List ℕ) → length row ≡ 49 → c .statements < 1024 → Ready (body bl s l sc e) c →
-      Answers (body bl s l sc e) c current (body bl (stored s (49 * c .statements) row) l sc e) (some (oneStatementMore c)) (ok (decode (body bl (stored s (49 * c .statements) row) l sc e) (oneStatementMore c))) (tryStatement (decode (body bl s l sc e) c) row)
+      Answers (body bl s l sc e) c current (body bl (stored s (49 * c .statements) row) l sc e) (some (oneStatementMore c)) (done (decode (body bl (stored s (49 * c .statements) row) l sc e) (oneStatementMore c))) (tryStatement (decode (body bl s l sc e) c) row)
   unfolding tryStatement pushStatement decode
   statement-answers current row long h R =
       record {
-        says = rw (statement-count (body bl s l sc e) c, lt-ltb (c .statements) 1024 h) (λ i. ok (record {
+        says = rw (statement-count (body bl s l sc e) c, lt-ltb (c .statements) 1024 h) (λ i. done (record {
           blocks = rowsOf 12 bl (c .blocks);
           statements = rows-push 49 s (c .statements) row long (omega (arith, R .statements)) i;
           locals = take (c .locals) l;
@@ -196,17 +196,17 @@ module _ (bl s l sc e : List ℕ) (c : Counts) where
       }
 
   pub statement-full : (current : ℕ) (row : List ℕ) → 1024 ≤ c .statements →
-      Answers (body bl s l sc e) c current (body bl s l sc e) none (refused MirLowerError.Limit) (tryStatement (decode (body bl s l sc e) c) row)
+      Answers (body bl s l sc e) c current (body bl s l sc e) none (stopped MirLowerError.Limit) (tryStatement (decode (body bl s l sc e) c) row)
   unfolding tryStatement
   statement-full current row h = refuses MirLowerError.Limit (rw (statement-count (body bl s l sc e) c, le-ltb (c .statements) 1024 h) refl)
 
   -- one local more
   pub local-answers : (current : ℕ) (word : ℕ) → c .locals < 512 → Ready (body bl s l sc e) c →
-      Answers (body bl s l sc e) c current (body bl s (set l (c .locals) word) sc e) (some (oneLocalMore c)) (ok (decode (body bl s (set l (c .locals) word) sc e) (oneLocalMore c))) (tryLocal (decode (body bl s l sc e) c) word)
+      Answers (body bl s l sc e) c current (body bl s (set l (c .locals) word) sc e) (some (oneLocalMore c)) (done (decode (body bl s (set l (c .locals) word) sc e) (oneLocalMore c))) (tryLocal (decode (body bl s l sc e) c) word)
   unfolding tryLocal newLocal decode
   local-answers current word h R =
       record {
-        says = rw (local-count (body bl s l sc e) c R, lt-ltb (c .locals) 512 h) (λ i. ok (record {
+        says = rw (local-count (body bl s l sc e) c R, lt-ltb (c .locals) 512 h) (λ i. done (record {
           blocks = rowsOf 12 bl (c .blocks);
           statements = rowsOf 49 s (c .statements);
           locals = words-push l (c .locals) word (omega (arith, R .locals)) i;
@@ -221,17 +221,17 @@ module _ (bl s l sc e : List ℕ) (c : Counts) where
       }
 
   pub local-full : (current : ℕ) (word : ℕ) → 512 ≤ c .locals → Ready (body bl s l sc e) c →
-      Answers (body bl s l sc e) c current (body bl s l sc e) none (refused MirLowerError.Limit) (tryLocal (decode (body bl s l sc e) c) word)
+      Answers (body bl s l sc e) c current (body bl s l sc e) none (stopped MirLowerError.Limit) (tryLocal (decode (body bl s l sc e) c) word)
   unfolding tryLocal
   local-full current word h R = refuses MirLowerError.Limit (rw (local-count (body bl s l sc e) c R, le-ltb (c .locals) 512 h) refl)
 
   -- one entry more
   pub entry-answers : (current : ℕ) (local : LocalId) → c .entries < 1024 → Ready (body bl s l sc e) c →
-      Answers (body bl s l sc e) c current (body bl s l sc (set e (c .entries) (local .0))) (some (oneEntryMore c)) (ok (decode (body bl s l sc (set e (c .entries) (local .0))) (oneEntryMore c))) (tryEntry (decode (body bl s l sc e) c) local)
+      Answers (body bl s l sc e) c current (body bl s l sc (set e (c .entries) (local .0))) (some (oneEntryMore c)) (done (decode (body bl s l sc (set e (c .entries) (local .0))) (oneEntryMore c))) (tryEntry (decode (body bl s l sc e) c) local)
   unfolding tryEntry pushEntry decode
   entry-answers current local h R =
       record {
-        says = rw (entry-count (body bl s l sc e) c R, lt-ltb (c .entries) 1024 h) (λ i. ok (record {
+        says = rw (entry-count (body bl s l sc e) c R, lt-ltb (c .entries) 1024 h) (λ i. done (record {
           blocks = rowsOf 12 bl (c .blocks);
           statements = rowsOf 49 s (c .statements);
           locals = take (c .locals) l;
@@ -246,17 +246,17 @@ module _ (bl s l sc e : List ℕ) (c : Counts) where
       }
 
   pub entry-full : (current : ℕ) (local : LocalId) → 1024 ≤ c .entries → Ready (body bl s l sc e) c →
-      Answers (body bl s l sc e) c current (body bl s l sc e) none (refused MirLowerError.Limit) (tryEntry (decode (body bl s l sc e) c) local)
+      Answers (body bl s l sc e) c current (body bl s l sc e) none (stopped MirLowerError.Limit) (tryEntry (decode (body bl s l sc e) c) local)
   unfolding tryEntry
   entry-full current local h R = refuses MirLowerError.Limit (rw (entry-count (body bl s l sc e) c R, le-ltb (c .entries) 1024 h) refl)
 
   -- one scope more
   pub scope-answers : (current : ℕ) → c .scopes < 32 → Ready (body bl s l sc e) c →
-      Answers (body bl s l sc e) c current (body bl s l (set sc (c .scopes) (c .entries)) e) (some (oneScopeMore c)) (ok (decode (body bl s l (set sc (c .scopes) (c .entries)) e) (oneScopeMore c))) (tryScope (decode (body bl s l sc e) c))
+      Answers (body bl s l sc e) c current (body bl s l (set sc (c .scopes) (c .entries)) e) (some (oneScopeMore c)) (done (decode (body bl s l (set sc (c .scopes) (c .entries)) e) (oneScopeMore c))) (tryScope (decode (body bl s l sc e) c))
   unfolding tryScope pushScope decode
   scope-answers current h R =
       record {
-        says = rw (scope-count (body bl s l sc e) c R, entry-count (body bl s l sc e) c R, lt-ltb (c .scopes) 32 h) (λ i. ok (record {
+        says = rw (scope-count (body bl s l sc e) c R, entry-count (body bl s l sc e) c R, lt-ltb (c .scopes) 32 h) (λ i. done (record {
           blocks = rowsOf 12 bl (c .blocks);
           statements = rowsOf 49 s (c .statements);
           locals = take (c .locals) l;
@@ -271,6 +271,6 @@ module _ (bl s l sc e : List ℕ) (c : Counts) where
       }
 
   pub scope-full : (current : ℕ) → 32 ≤ c .scopes → Ready (body bl s l sc e) c →
-      Answers (body bl s l sc e) c current (body bl s l sc e) none (refused MirLowerError.Limit) (tryScope (decode (body bl s l sc e) c))
+      Answers (body bl s l sc e) c current (body bl s l sc e) none (stopped MirLowerError.Limit) (tryScope (decode (body bl s l sc e) c))
   unfolding tryScope
   scope-full current h R = refuses MirLowerError.Limit (rw (scope-count (body bl s l sc e) c R, le-ltb (c .scopes) 32 h) refl)

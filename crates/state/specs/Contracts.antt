@@ -7,7 +7,7 @@ use mathlib.Core.List.{List}
 use lib.ListN.{length, take, drop}
 use Rattle.row_tables.specs.Rows.{zeros, rowAt, Blank}
 use Rattle.mir.specs.declared.Counts.{Counts}
-use Rattle.refusals.specs.Refusals.{Result, ok, refused}
+use Rattle.refusals.specs.Refusals.{Result, done, stopped}
 use Rattle.state.specs.declared.Stepped.{Stepped}
 use Rattle.state.specs.State.{Body, State, decode}
 
@@ -67,8 +67,8 @@ pub record Answers {A : Type 0} (b : Body) (c : Counts) (current : ℕ) (b′ : 
 
 -- the answer of a step, as the definitions have it
 abbrev pub steppedResult : Stepped → Body → Result State
-steppedResult (Stepped.Now c) b = ok (decode b c)
-steppedResult (Stepped.Refused e) b = refused e
+steppedResult (Stepped.Now c) b = done (decode b c)
+steppedResult (Stepped.Refused e) b = stopped e
 
 abbrev pub steppedCounts : Stepped → Option Counts
 steppedCounts (Stepped.Now c) = some c

@@ -2,7 +2,7 @@
 use Prim.Native.Nat.{ℕ, _-_}
 use mathlib.Core.List.{List, _++_}
 use lib.ListN.{length, take}
-use Rattle.row_tables.specs.Rows.{zeros, rowsOf, encode as encodeRows}
+use Rattle.row_tables.specs.Rows.{zeros, rowsOf, encodeRows}
 use Rattle.mir.specs.declared.Counts.{Counts}
 
 -- the words of the five tables that the caller lends

@@ -5,7 +5,7 @@ use mathlib.Core.List.{List, [], _∷_, _++_}
 use lib.Dec.{ltb}
 use lib.ListN.{length, take, getD, set}
 use Rattle.refusals.specs.declared.MirLowerError.{MirLowerError}
-use Rattle.refusals.specs.Refusals.{Result, ok, refused}
+use Rattle.refusals.specs.Refusals.{Result, done, stopped}
 use Rattle.row_tables.specs.Rows.{zeros}
 use Rattle.place.specs.declared.LocalId.{LocalId}
 use Rattle.mir.specs.declared.BasicBlockId.{BasicBlockId}
@@ -67,7 +67,7 @@ popScope st =
 
 -- where there is room, and otherwise document 01's number 11
 abbrev pub within : {A : Type 0} → Bool → A → Result A
-within room a = cond room (ok a) (refused MirLowerError.Limit)
+within room a = cond room (done a) (stopped MirLowerError.Limit)
 
 unfoldable pub tryBlock : State → Result State
 tryBlock st = within (ltb (length (st .blocks)) blockLimit) (newBlock st)

@@ -21,7 +21,7 @@ pub data Rvalue : Type 0 where
   ofPlace : PlaceRvalue → Path → Rvalue
   ofConstant : Constant → Rvalue
   binary : BinOp → Left → Path → Rvalue
-  unknown : Rvalue
+  unknownRvalue : Rvalue
 
 pub data Statement : Type 0 where
   live : ℕ → Statement
@@ -78,7 +78,7 @@ leftOf row = getD (Left.Constant (constantAt row) ∷ Left.Local (record { 0 = w
 -- the statements of each kind with a row's numbers, the kinds numbered from 0, which is none
 abbrev pub statementKinds : List ℕ → List Statement
 statementKinds row =
-    set (word row 2) unknown
+    set (word row 2) unknownRvalue
     ∷ live (word row 2)
     ∷ dead (word row 2)
     ∷ set (word row 2) (ofPlace PlaceRvalue.Copy (pathOf row))
@@ -94,7 +94,7 @@ statementKinds row =
     ∷ []
 
 unfoldable pub lineOf : List ℕ → Line
-lineOf row = record { block = word row 0; statement = getD (statementKinds row) (word row 1) (set (word row 2) unknown) }
+lineOf row = record { block = word row 0; statement = getD (statementKinds row) (word row 1) (set (word row 2) unknownRvalue) }
 
 -- the body of a state
 unfoldable pub mirOf : State → Mir

@@ -11,7 +11,7 @@ use native.Mathlib.Omega.{arith}
 use Rattle.image.specs.declared.kinds.TypeKind.{TypeKind}
 use Rattle.image.specs.Types.{shapeBy}
 use Rattle.image.proofs.Known.{shape-holds}
-use Rattle.refusals.specs.Refusals.{ok}
+use Rattle.refusals.specs.Refusals.{done}
 use Rattle.literals.specs.Literals.{integerConstant}
 use Rattle.literals.proofs.Operands.{integer-size}
 use Rattle.literals.proofs.Answers.{integer-by}
@@ -27,7 +27,7 @@ constant-of-requires c κs =
 
 returns : tie.Need-returns
 unfolding integerConstant shapeBy
-returns c = ap ok (c .constant-of .ensures) ∙ integer-by _ _ _ TypeKind.Integer (c .before .before .before .before .type-at .ensures) (c .before .before .before .type-kind .ensures) (c .before .enum-told .given .1)
+returns c = ap done (c .constant-of .ensures) ∙ integer-by _ _ _ TypeKind.Integer (c .before .before .before .before .type-at .ensures) (c .before .before .before .type-kind .ensures) (c .before .enum-told .given .1)
 
 returns-2 : tie.Need-returns-2
 unfolding integerConstant shapeBy

@@ -10,7 +10,7 @@ use Rattle.literals.proofs.lower_literal_to_operand.Reads as lower-lite
 use mathlib.Core.Path.{_∙_, ap}
 use native.Mathlib.Omega.{arith}
 use Rattle.image.specs.declared.kinds.OperandKind.{OperandKind}
-use Rattle.refusals.specs.Refusals.{ok}
+use Rattle.refusals.specs.Refusals.{done}
 use Rattle.literals.specs.Literals.{literalOrConstBy}
 use Rattle.literals.proofs.Operands.{operand-listed}
 use Rattle.literals.proofs.Answers.{kind-of, literal-or-const-by}
@@ -53,7 +53,7 @@ lower-literal-to-operand-requires-10 c κs = c .before .before .before .before .
 
 returns : tie.Need-returns
 unfolding literalOrConstBy
-returns c = ap ok (c .lower-const-to-operand .ensures) ∙ literal-or-const-by _ _ (c .before .before .before .before .operand-at .ensures) OperandKind.Constant (c .before .before .before .operand-kind .ensures) (c .before .enum-told .given .1) _
+returns c = ap done (c .lower-const-to-operand .ensures) ∙ literal-or-const-by _ _ (c .before .before .before .before .operand-at .ensures) OperandKind.Constant (c .before .before .before .operand-kind .ensures) (c .before .enum-told .given .1) _
 
 returns-2 : tie.Need-returns-2
 unfolding literalOrConstBy

@@ -13,7 +13,7 @@ use Prim.Native.Nat.{ℕ, _+_}
 use mathlib.Core.Path.{_∙_, ap}
 use native.Mathlib.Omega.{arith}
 use Rattle.image.specs.declared.kinds.OperandKind.{OperandKind}
-use Rattle.refusals.specs.Refusals.{ok}
+use Rattle.refusals.specs.Refusals.{done}
 use Rattle.literals.specs.Literals.{literalBy}
 use Rattle.literals.proofs.Operands.{operand-listed, operand-lies, bytes-counted, int-bytes, uint-bytes, char-bytes, bool-bytes}
 use Rattle.literals.proofs.Answers.{all-bytes, same-string, literal-by}
@@ -50,23 +50,23 @@ returns-2 c = c .integer-constant2 .ensures ∙ literal-by _ _ (c .before .befor
 
 returns-3 : tie.Need-returns-3
 unfolding literalBy
-returns-3 c = ap ok (all-bytes _ _ _ (char-bytes _ _ (c .before .before .before .before .before .before .before .pre .3) (c .before .before .before .before .before .operand-at .ensures) (c .before .before .before .before .operand-bytes .ensures) (c .before .before .before .operand-kind .ensures) (c .before .enum-told3 .given .1)) (c .constant-of .ensures)) ∙ literal-by _ _ (c .before .before .before .before .before .operand-at .ensures) OperandKind.Char (c .before .before .before .operand-kind .ensures) (c .before .enum-told3 .given .1) _ (c .before .before .before .before .operand-bytes .ensures)
+returns-3 c = ap done (all-bytes _ _ _ (char-bytes _ _ (c .before .before .before .before .before .before .before .pre .3) (c .before .before .before .before .before .operand-at .ensures) (c .before .before .before .before .operand-bytes .ensures) (c .before .before .before .operand-kind .ensures) (c .before .enum-told3 .given .1)) (c .constant-of .ensures)) ∙ literal-by _ _ (c .before .before .before .before .before .operand-at .ensures) OperandKind.Char (c .before .before .before .operand-kind .ensures) (c .before .enum-told3 .given .1) _ (c .before .before .before .before .operand-bytes .ensures)
 
 returns-4 : tie.Need-returns-4
 unfolding literalBy
-returns-4 c = ap ok (all-bytes _ _ _ (bool-bytes _ _ (c .before .before .before .before .before .before .before .pre .3) (c .before .before .before .before .before .operand-at .ensures) (c .before .before .before .before .operand-bytes .ensures) (c .before .before .before .operand-kind .ensures) (c .before .enum-told4 .given .1)) (c .constant-of2 .ensures)) ∙ literal-by _ _ (c .before .before .before .before .before .operand-at .ensures) OperandKind.Bool (c .before .before .before .operand-kind .ensures) (c .before .enum-told4 .given .1) _ (c .before .before .before .before .operand-bytes .ensures)
+returns-4 c = ap done (all-bytes _ _ _ (bool-bytes _ _ (c .before .before .before .before .before .before .before .pre .3) (c .before .before .before .before .before .operand-at .ensures) (c .before .before .before .before .operand-bytes .ensures) (c .before .before .before .operand-kind .ensures) (c .before .enum-told4 .given .1)) (c .constant-of2 .ensures)) ∙ literal-by _ _ (c .before .before .before .before .before .operand-at .ensures) OperandKind.Bool (c .before .before .before .operand-kind .ensures) (c .before .enum-told4 .given .1) _ (c .before .before .before .before .operand-bytes .ensures)
 
 returns-5 : tie.Need-returns-5
 unfolding literalBy
-returns-5 c = ap ok (same-string _ _ (bytes-counted _ _ (c .before .before .before .before .before .before .before .before .pre .3) (c .before .before .before .before .before .before .operand-at .ensures) (c .before .before .before .before .before .operand-bytes .ensures) (c .before .before .before .before .before .before .before .before .pre .1)) (c .string-constant .ensures)) ∙ literal-by _ _ (c .before .before .before .before .before .before .operand-at .ensures) OperandKind.Str (c .before .before .before .before .operand-kind .ensures) (c .before .before .enum-told5 .given .1) _ (c .before .before .before .before .before .operand-bytes .ensures)
+returns-5 c = ap done (same-string _ _ (bytes-counted _ _ (c .before .before .before .before .before .before .before .before .pre .3) (c .before .before .before .before .before .before .operand-at .ensures) (c .before .before .before .before .before .operand-bytes .ensures) (c .before .before .before .before .before .before .before .before .pre .1)) (c .string-constant .ensures)) ∙ literal-by _ _ (c .before .before .before .before .before .before .operand-at .ensures) OperandKind.Str (c .before .before .before .before .operand-kind .ensures) (c .before .before .enum-told5 .given .1) _ (c .before .before .before .before .before .operand-bytes .ensures)
 
 returns-6 : tie.Need-returns-6
 unfolding literalBy
-returns-6 c = ap ok (same-string _ _ (ap (λ (n : ℕ). n + 1) (bytes-counted _ _ (c .before .before .before .before .before .before .before .before .pre .3) (c .before .before .before .before .before .before .operand-at .ensures) (c .before .before .before .before .before .operand-bytes .ensures) (c .before .before .before .before .before .before .before .before .pre .1))) (c .string-constant2 .ensures)) ∙ literal-by _ _ (c .before .before .before .before .before .before .operand-at .ensures) OperandKind.CStr (c .before .before .before .before .operand-kind .ensures) (c .before .before .enum-told6 .given .1) _ (c .before .before .before .before .before .operand-bytes .ensures)
+returns-6 c = ap done (same-string _ _ (ap (λ (n : ℕ). n + 1) (bytes-counted _ _ (c .before .before .before .before .before .before .before .before .pre .3) (c .before .before .before .before .before .before .operand-at .ensures) (c .before .before .before .before .before .operand-bytes .ensures) (c .before .before .before .before .before .before .before .before .pre .1))) (c .string-constant2 .ensures)) ∙ literal-by _ _ (c .before .before .before .before .before .before .operand-at .ensures) OperandKind.CStr (c .before .before .before .before .operand-kind .ensures) (c .before .before .enum-told6 .given .1) _ (c .before .before .before .before .before .operand-bytes .ensures)
 
 returns-7 : tie.Need-returns-7
 unfolding literalBy
-returns-7 c = ap ok (same-string _ _ (bytes-counted _ _ (c .before .before .before .before .before .before .before .before .pre .3) (c .before .before .before .before .before .before .operand-at .ensures) (c .before .before .before .before .before .operand-bytes .ensures) (c .before .before .before .before .before .before .before .before .pre .1)) (c .string-constant3 .ensures)) ∙ literal-by _ _ (c .before .before .before .before .before .before .operand-at .ensures) OperandKind.ByteStr (c .before .before .before .before .operand-kind .ensures) (c .before .before .enum-told7 .given .1) _ (c .before .before .before .before .before .operand-bytes .ensures)
+returns-7 c = ap done (same-string _ _ (bytes-counted _ _ (c .before .before .before .before .before .before .before .before .pre .3) (c .before .before .before .before .before .before .operand-at .ensures) (c .before .before .before .before .before .operand-bytes .ensures) (c .before .before .before .before .before .before .before .before .pre .1)) (c .string-constant3 .ensures)) ∙ literal-by _ _ (c .before .before .before .before .before .before .operand-at .ensures) OperandKind.ByteStr (c .before .before .before .before .operand-kind .ensures) (c .before .before .enum-told7 .given .1) _ (c .before .before .before .before .before .operand-bytes .ensures)
 
 returns-8 : tie.Need-returns-8
 unfolding literalBy

@@ -8,18 +8,18 @@ use Prim.Native.Nat.{_+_, _*_}
 use lib.ListN.{getD}
 use native.Mathlib.Omega.{arith}
 use borrow.Author.Tests.{lt-ltb, le-ltb, lt-leb, le-leb}
-use Rattle.body_row_rules.specs.Bodies.{placeHolds}
+use Rattle.body_row_rules.specs.Bodies.{statementPlaceHolds}
 
 returns : tie.Need-returns
-unfolding placeHolds
+unfolding statementPlaceHolds
 returns c = rw (le-ltb _ _ (c .if1 .taken))
 
 returns-2 : tie.Need-returns-2
-unfolding placeHolds
+unfolding statementPlaceHolds
 returns-2 c = rw (lt-ltb _ _ (c .before .before .if1 .left), lt-leb (getD (c .before .before .before .before .before .before .args .statements .now) (49 * c .before .before .before .before .before .before .args .i + 16) 0) 16 (omega (arith, c .if2 .taken)))
 
 returns-3 : tie.Need-returns-3
-unfolding placeHolds
+unfolding statementPlaceHolds
 returns-3 c = rw (lt-ltb _ _ (c .before .before .before .if1 .left), le-leb (getD (c .before .before .before .before .before .before .before .args .statements .now) (49 * c .before .before .before .before .before .before .before .args .i + 16) 0) 16 (omega (arith, c .before .if2 .left))) (c .elems-hold .ensures)
 
 pub place-holds-spec : {M : Type 1} → statement M
