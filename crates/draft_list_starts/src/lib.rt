@@ -1,4 +1,5 @@
 // Where the list of a pattern starts.
+#![tactic(auto)]
 ghost use Rattle.std.specs.Prelude.{◌≡◌, cond, eqb};
 
 // Where a list of so many words starts: "empty lists' starts 0".

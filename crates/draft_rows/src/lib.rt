@@ -1,4 +1,5 @@
 // Patterns of the draft: a row and its number on the stack.
+#![tactic(auto)]
 ghost use Rattle.std.specs.Prelude.{◌≡◌, ◌<◌, length};
 ghost use Rattle.draft_tables.specs.Room.{DraftRoom};
 ghost use Rattle.draft_tables.specs.Steps.{SheetsStepped};

@@ -1,1 +1,2 @@
 // Texts whose trees are computed by the definitions: see proofs/.
+#![tactic(auto)]

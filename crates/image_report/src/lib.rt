@@ -1,4 +1,5 @@
 // Prints what reading an image answers, as one line on standard output.
+#![tactic(auto)]
 use image::Tables;
 use libc::STDOUT_FILENO;
 use program_io::{tell_write, write_output};

@@ -1,4 +1,5 @@
 // The rules of a name table, beside a sheet.
+#![tactic(auto)]
 ghost use Rattle.std.specs.Prelude.{◌≡◌, true, ◌+◌, ◌≤◌, length};
 ghost use Rattle.image.specs.Lists.{all_below};
 ghost use Rattle.image.specs.Tables.{Whole};

@@ -1,4 +1,5 @@
 // The nodes of a pattern's text, and what is made of them, as rows of words in lent tables.
+#![tactic(auto)]
 
 // A text has at most this many bytes, and a node for each of them at most.
 pub const TEXT_BYTES: usize = 16384;

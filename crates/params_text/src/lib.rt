@@ -1,4 +1,5 @@
 // The text of what a call of `lower_params_and_bindings` answers.
+#![tactic(auto)]
 ghost use Rattle.std.specs.Prelude.{◌≡◌, length};
 ghost use Rattle.body_tables.specs.Layout.{body_words, body_of};
 ghost use Rattle.listing_text.specs.Writing.{Wrote};

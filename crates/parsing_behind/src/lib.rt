@@ -1,4 +1,5 @@
 // A mark behind a pattern: in the item or the field that waits for it, and behind an alternative.
+#![tactic(auto)]
 ghost use Rattle.std.specs.Prelude.{◌≡◌, ◌+◌, ◌<◌, ◌≤◌};
 ghost use Rattle.parsing_bounds.specs.Weights.{or_one};
 ghost use Rattle.parsing_steps.specs.Settling.{PartsMost};

@@ -1,2 +1,3 @@
 // What the parser does at a mark behind what is held.
+#![tactic(auto)]
 pub mod behind;

@@ -1,4 +1,5 @@
 // What the parser does at a name or a char, by the state.
+#![tactic(auto)]
 ghost use Rattle.std.specs.Prelude.{◌≡◌};
 ghost use Rattle.parsing_moves.specs.Rows.{holds_name};
 ghost use Rattle.parsing_moves.specs.Roles.{role, DecidesScalar};

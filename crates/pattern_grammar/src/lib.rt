@@ -1,1 +1,2 @@
 // The grammar of patterns and the machine that reads it: see specs/ and proofs/.
+#![tactic(auto)]

@@ -1,1 +1,2 @@
 // The image of a pattern's nodes: see specs/ and proofs/.
+#![tactic(auto)]

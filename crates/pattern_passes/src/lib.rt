@@ -1,4 +1,5 @@
 // The passes of `pattern_match`: Check, and then Bind.
+#![tactic(auto)]
 ghost use Rattle.std.specs.Prelude.{◌<◌};
 ghost use Rattle.image.specs.Tables.{pattern_count};
 ghost use Rattle.image.specs.Tree.{tree};

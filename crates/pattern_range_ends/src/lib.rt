@@ -1,4 +1,5 @@
 // By which test a range's end is tested.
+#![tactic(auto)]
 ghost use Rattle.std.specs.Prelude.{◌≡◌};
 ghost use Rattle.image.specs.Types.{is_set};
 ghost use Rattle.pattern_matching.specs.Patterns.{end_op};

@@ -1,1 +1,2 @@
 // A pattern's text read into an image.
+#![tactic(auto)]

@@ -1,1 +1,2 @@
 // Patterns as they are written, brought down to nodes: see specs/ and proofs/.
+#![tactic(auto)]

@@ -1,1 +1,2 @@
 // The types, binding modes and names of a pattern's nodes.
+#![tactic(auto)]

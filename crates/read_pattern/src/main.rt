@@ -1,6 +1,7 @@
 // Reads a pattern's text on standard input, and writes its image, or `refused` with the number, the position and 0. The input has the type sheet and the name table, each
 // of which begins with its own length in four bytes, the expected type in two, and the text behind its length in four; numbers are big-endian. What is missing at the end
 // counts as empty, and what follows is not looked at. Whatever does not fit the buffer is refused by what fits.
+#![tactic(auto)]
 ghost use Rattle.std.specs.Prelude.{◌≤◌, length};
 ghost use Rattle.reading_call.specs.Calls.{PatternReads};
 

@@ -1,1 +1,2 @@
 // The auditor's page on patterns as text: see specs/ and proofs/.
+#![tactic(auto)]

@@ -1,4 +1,5 @@
 // Prints what reading a text answers, as a line on standard output: an image in hexadecimal, or a refusal.
+#![tactic(auto)]
 ghost use Rattle.std.specs.Prelude.{◌≡◌, ◌*◌, ◌≤◌, length};
 
 use libc::STDOUT_FILENO;

@@ -1,1 +1,2 @@
 // Reading a text in passes over rows, and that it is reading its tree: see specs/ and proofs/.
+#![tactic(auto)]

@@ -1,1 +1,2 @@
 // Texts whose images are computed by the definitions: see proofs/.
+#![tactic(auto)]

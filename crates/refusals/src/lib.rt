@@ -1,4 +1,5 @@
 // Why a lowering is refused, once image and call have been found good.
+#![tactic(auto)]
 
 #[derive(Drop)]
 pub enum MirLowerError {

@@ -1,5 +1,6 @@
 // A stored question whether a pattern fits, whose words stand behind the image: the pattern, the type of its place, the place's root, and the bindings' locals. The answer is
 // printed.
+#![tactic(auto)]
 use fit::{FitCall, fit};
 use image::PatId;
 use place::LocalId;

@@ -1,5 +1,6 @@
 // A stored list of records, read from standard input. A record is a byte, its sort, and an image; what a sort has besides stands behind it. An image is two numbers of four
 // bytes, big-endian, and then as many bytes as the first says: it is these bytes, and behind them as many zeros as the second says.
+#![tactic(auto)]
 ghost use Rattle.std.specs.Prelude.{◌+◌, ◌*◌, ◌≤◌, ◌<◌, length};
 ghost use Rattle.stored_records.specs.Entries.{Fits, ReadWithin};
 

@@ -1,4 +1,5 @@
 // The characters of a pattern's text and what stands between its tokens.
+#![tactic(auto)]
 mod comments;
 pub mod scalars;
 

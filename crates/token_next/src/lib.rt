@@ -1,4 +1,5 @@
 // The next token of a text, as words.
+#![tactic(auto)]
 ghost use Rattle.std.specs.Prelude.{◌≡◌, ◌≤◌, length};
 ghost use Rattle.pattern_tokens.specs.Tokens.{token_at};
 ghost use Rattle.pattern_grammar.specs.Lexemes.{lexeme};

@@ -1,1 +1,2 @@
 // Texts whose tokens are computed by the definitions: see proofs/.
+#![tactic(auto)]

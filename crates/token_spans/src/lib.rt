@@ -1,1 +1,2 @@
 // Where tokens stand in a text: see proofs/.
+#![tactic(auto)]

@@ -1,1 +1,2 @@
 // Every tree that a text has is formed: see proofs/.
+#![tactic(auto)]
