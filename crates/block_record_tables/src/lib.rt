@@ -10,7 +10,7 @@ use block_records::{Block, block_of, terminator_of};
 use mir::BasicBlockId;
 use mir::blocks::Terminator;
 
-#[derive(Drop)]
+#[derive(Clone, Copy)]
 pub enum Look {
     At(Terminator),
     // There is no such block.

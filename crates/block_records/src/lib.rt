@@ -10,7 +10,7 @@ use mir::{BLOCK_WIDTH, BasicBlockId};
 use place::LocalId;
 
 // A block's terminator: its kind and numbers, as the table of blocks has them, and the low and the high half of the value that a switch tests.
-#[derive(Drop)]
+#[derive(Clone, Copy)]
 pub struct Block {
     pub kind: u16,
     pub local: LocalId,

@@ -7,14 +7,14 @@ use place::LocalId;
 use refusals::MirLowerError;
 
 // Image and body, with its scopes, are looked at before a call's own step.
-#[derive(Drop)]
+#[derive(Clone, Copy)]
 pub enum Opened {
     Image(Tables),
     BadCall,
     BadImage,
 }
 
-#[derive(Drop)]
+#[derive(Clone, Copy)]
 pub enum TempCall {
     Local(Counts, LocalId),
     Refused(MirLowerError),
@@ -22,7 +22,7 @@ pub enum TempCall {
     BadImage,
 }
 
-#[derive(Drop)]
+#[derive(Clone, Copy)]
 pub enum MergeCall {
     At(Counts, OptBlock),
     Refused(MirLowerError),
@@ -30,7 +30,7 @@ pub enum MergeCall {
     BadImage,
 }
 
-#[derive(Drop)]
+#[derive(Clone, Copy)]
 pub enum ScopeCall {
     Now(Counts),
     Refused(MirLowerError),
@@ -38,7 +38,7 @@ pub enum ScopeCall {
     BadImage,
 }
 
-#[derive(Drop)]
+#[derive(Clone, Copy)]
 pub enum DropCall {
     At(Counts, BasicBlockId),
     Refused(MirLowerError),

@@ -6,14 +6,14 @@ ghost use Rattle.decimal_values.specs.Values.{integer_value};
 use pattern_words::words::is_digit;
 
 // A value in two halves of eight bytes, the low one first.
-#[derive(Drop)]
+#[derive(Clone, Copy)]
 pub enum Value {
     Halves(u64, u64),
     Over,
 }
 
 // Eight bytes and what is carried over.
-#[derive(Drop)]
+#[derive(Clone, Copy)]
 struct Carried {
     half: u64,
     carry: u64,

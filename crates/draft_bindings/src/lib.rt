@@ -15,7 +15,7 @@ use image::Tables;
 use image::rows::TypeRow;
 
 // What a name is bound at: a type where `element` is 65535, or an array.
-#[derive(Drop)]
+#[derive(Clone, Copy)]
 pub struct BoundWords {
     pub ty: u16,
     pub element: u16,

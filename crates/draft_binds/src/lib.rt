@@ -14,7 +14,7 @@ use image::Tables;
 use node_rows::MakingRow;
 
 // The number of a name's binding and the counts with it, or that it passes a limit.
-#[derive(Drop)]
+#[derive(Clone, Copy)]
 pub enum BindingStep {
     Number(u16, DraftCounts),
     PastBindings,

@@ -12,7 +12,7 @@ use draft_tables::added_name;
 use name_equality::is_same_word;
 
 // The binding's place among those that were added, or that there is none yet.
-#[derive(Drop)]
+#[derive(Clone, Copy)]
 pub enum FoundBinding {
     At(u16),
     NotYet,

@@ -11,7 +11,7 @@ use draft_tables::{DraftCounts, DraftStep, push_bytes, push_words};
 use image::Tables;
 
 // The kind of a literal's operand, sixteen bytes, and how many of them the literal has.
-#[derive(Drop)]
+#[derive(Clone, Copy)]
 pub struct LiteralBytes {
     pub kind: u16,
     pub bytes: [u16; 16],
@@ -19,7 +19,7 @@ pub struct LiteralBytes {
 }
 
 // Two halves of eight bytes.
-#[derive(Drop)]
+#[derive(Clone, Copy)]
 struct Halves {
     low: u64,
     high: u64,

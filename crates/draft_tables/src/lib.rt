@@ -23,7 +23,7 @@ pub const STACK: usize = 24320;
 pub const DRAFT_WORDS: usize = 40704;
 
 // How much of each part is in use: rows of types, patterns and bindings, list words, bytes of data, and words on the stack.
-#[derive(Drop)]
+#[derive(Clone, Copy)]
 pub struct DraftCounts {
     pub types: u16,
     pub patterns: u16,
@@ -34,7 +34,7 @@ pub struct DraftCounts {
 }
 
 // The counts behind a step, or that it passes a limit.
-#[derive(Drop)]
+#[derive(Clone, Copy)]
 pub enum DraftStep {
     On(DraftCounts),
     PastALimit,
@@ -191,7 +191,7 @@ pub fn added_type(draft: &[u16], i: u16) -> TypeRow
 }
 
 // The range of a name.
-#[derive(Drop)]
+#[derive(Clone, Copy)]
 pub struct NameRange {
     pub from: u16,
     pub to: u16,

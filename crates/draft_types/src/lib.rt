@@ -12,14 +12,14 @@ use image::Tables;
 use image::rows::{TypeRow, type_at};
 
 // The type that is like another, or none.
-#[derive(Drop)]
+#[derive(Clone, Copy)]
 pub enum LikeType {
     At(u16),
     Nothing,
 }
 
 // A type's number and the counts of the draft that holds it, or that there are too many.
-#[derive(Drop)]
+#[derive(Clone, Copy)]
 pub enum TypeStep {
     Number(u16, DraftCounts),
     PastTypes,

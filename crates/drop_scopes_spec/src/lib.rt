@@ -3,7 +3,7 @@
 use mir::{BasicBlockId, Counts};
 use refusals::MirLowerError;
 
-#[derive(Drop)]
+#[derive(Clone, Copy)]
 pub enum AtBlock {
     At(Counts, BasicBlockId),
     Refused(MirLowerError),

@@ -9,7 +9,7 @@ use place::LocalId;
 use read_image::{Read, read_image};
 
 // The pattern fits the place, or does not; or a number of the call names nothing, or the image breaks a rule.
-#[derive(Drop)]
+#[derive(Clone, Copy)]
 pub enum FitCall {
     Fits,
     DoesNot,

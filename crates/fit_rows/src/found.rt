@@ -9,7 +9,7 @@ use super::nodes::{Own, Row, first, node_at, rest, telling};
 use image::{BindingId, Tables};
 
 // What is looked for: a binding at a type, a binding of an array's rest at the elements' type and how many are left, or a binding at any type.
-#[derive(Drop)]
+#[derive(Clone, Copy)]
 pub enum Wanted {
     At(BindingId, u16),
     Rest(BindingId, u16, u16),
@@ -17,7 +17,7 @@ pub enum Wanted {
 }
 
 // That a binding stands among others at the same type, or that it does not stand among them at any type.
-#[derive(Drop)]
+#[derive(Clone, Copy)]
 pub enum Test {
     Same,
     Apart,

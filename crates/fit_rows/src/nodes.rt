@@ -13,7 +13,7 @@ use image::{BindingId, PatId, Tables};
 
 // Patterns in a row: where the first stands, how far apart they stand, and how many they are. With step 0, the first is the pattern `from`; else its
 // number is the word `from` of the list. All numbers are below `below`.
-#[derive(Drop)]
+#[derive(Clone, Copy)]
 pub struct Row {
     pub below: u16,
     pub step: u16,
@@ -22,7 +22,7 @@ pub struct Row {
 }
 
 // The binding that stands in a pattern itself: its number and its type, and of an array's rest how many elements are left.
-#[derive(Drop)]
+#[derive(Clone, Copy)]
 pub enum Own {
     None,
     At(BindingId, u16),
@@ -30,7 +30,7 @@ pub enum Own {
 }
 
 // A pattern's own binding, its subpatterns, and whether these are alternatives.
-#[derive(Drop)]
+#[derive(Clone, Copy)]
 pub struct Node {
     pub own: Own,
     pub row: Row,

@@ -17,7 +17,7 @@ use image::Tables;
 use image::rows::{list_at, type_at, variant_at};
 
 // Where the types of fields stand in the list.
-#[derive(Drop)]
+#[derive(Clone, Copy)]
 pub struct Fields {
     pub from: u16,
     pub count: u16,

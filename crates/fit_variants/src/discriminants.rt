@@ -13,7 +13,7 @@ use image::rows::{type_at, variant_at};
 use literals::half;
 
 // A discriminant, as two halves.
-#[derive(Drop)]
+#[derive(Clone, Copy)]
 struct Discriminant {
     low: u64,
     high: u64,

@@ -2,7 +2,7 @@
 ghost use Rattle.std.specs.Prelude.{◌≡◌};
 ghost use Rattle.image.specs.Kinds.{type_kind, adt_kind, pat_kind, path_kind, operand_kind, binding_mode};
 
-#[derive(Drop)]
+#[derive(Clone, Copy)]
 pub enum TypeKind {
     Integer,
     Bool,
@@ -16,7 +16,7 @@ pub enum TypeKind {
     Unknown,
 }
 
-#[derive(Drop)]
+#[derive(Clone, Copy)]
 pub enum AdtKind {
     Struct,
     Enum,
@@ -24,7 +24,7 @@ pub enum AdtKind {
     Unknown,
 }
 
-#[derive(Drop)]
+#[derive(Clone, Copy)]
 pub enum PatKind {
     Missing,
     Rest,
@@ -46,7 +46,7 @@ pub enum PatKind {
     Unknown,
 }
 
-#[derive(Drop)]
+#[derive(Clone, Copy)]
 pub enum PathKind {
     Unresolved,
     Variant,
@@ -56,7 +56,7 @@ pub enum PathKind {
     Unknown,
 }
 
-#[derive(Drop)]
+#[derive(Clone, Copy)]
 pub enum OperandKind {
     Int,
     Uint,
@@ -72,7 +72,7 @@ pub enum OperandKind {
 }
 
 // How a Bind binds: the value, or a reference to its place.
-#[derive(Drop)]
+#[derive(Clone, Copy)]
 pub enum BindingMode {
     Value,
     Ref,
@@ -80,7 +80,7 @@ pub enum BindingMode {
     Unknown,
 }
 
-#[derive(Drop)]
+#[derive(Clone, Copy)]
 pub enum BindingAnnotation {
     Unannotated,
     Mutable,

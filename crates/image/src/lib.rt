@@ -8,22 +8,22 @@ ghost use Rattle.image.specs.Bytes.{word_at};
 ghost use Rattle.image.specs.Tables.{tables_by, tables_of};
 
 // A pattern's number.
-#[derive(Drop)]
+#[derive(Clone, Copy)]
 pub struct PatId(pub u16);
 
 // A binding's number.
-#[derive(Drop)]
+#[derive(Clone, Copy)]
 pub struct BindingId(pub u16);
 
 // A table's place: the byte at which it begins, and its count of rows.
-#[derive(Drop)]
+#[derive(Clone, Copy)]
 pub struct Table {
     pub at: u32,
     pub count: u16,
 }
 
 // The places of the six tables.
-#[derive(Drop)]
+#[derive(Clone, Copy)]
 pub struct Tables {
     pub types: Table,
     pub variants: Table,

@@ -5,7 +5,7 @@ ghost use Rattle.image.specs.Rows.{type_row, type_at, variant_row, variant_at, p
 
 use super::{BindingId, PatId, Tables, word_at};
 
-#[derive(Drop)]
+#[derive(Clone, Copy)]
 pub struct TypeRow {
     pub kind: u16,
     pub a: u16,
@@ -15,14 +15,14 @@ pub struct TypeRow {
 }
 
 // The first field's place in the list, the count of fields, and the discriminant's place in the data.
-#[derive(Drop)]
+#[derive(Clone, Copy)]
 pub struct VariantRow {
     pub fields: u16,
     pub count: u16,
     pub discriminant: u16,
 }
 
-#[derive(Drop)]
+#[derive(Clone, Copy)]
 pub struct PatRow {
     pub kind: u16,
     pub ty: u16,
@@ -33,14 +33,14 @@ pub struct PatRow {
     pub d: u16,
 }
 
-#[derive(Drop)]
+#[derive(Clone, Copy)]
 pub struct BindingRow {
     pub ty: u16,
     pub picked: u16,
 }
 
 // An operand: its kind, and where its bytes lie in the data.
-#[derive(Drop)]
+#[derive(Clone, Copy)]
 pub struct OperandRow {
     pub kind: u16,
     pub offset: u16,

@@ -10,7 +10,7 @@ use image::Tables;
 use image_writing::{IMAGE_BYTES, write_image};
 
 // How many bytes the image has, or that what is added passes a limit.
-#[derive(Drop)]
+#[derive(Clone, Copy)]
 pub enum ImageMade {
     Image(usize),
     PastALimit,

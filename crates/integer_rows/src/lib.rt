@@ -66,7 +66,7 @@ const GREATEST_HIGH: [u64; 10] = [
 ];
 
 // A row of the table.
-#[derive(Drop)]
+#[derive(Clone, Copy)]
 pub struct IntegerRow {
     pub size: u16,
     pub least_low: u64,

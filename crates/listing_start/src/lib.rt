@@ -15,7 +15,7 @@ use image::{PatId, Tables};
 use place::{LocalId, Place};
 
 // The lowest-numbered type that leads to the last pattern's, if there is one.
-#[derive(Drop)]
+#[derive(Clone, Copy)]
 pub enum StartType {
     None,
     Some(u16),

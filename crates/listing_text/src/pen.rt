@@ -5,7 +5,7 @@ ghost use Rattle.row_tables.specs.Rows.{stored};
 ghost use Rattle.listing_text.specs.Writing.{Wrote};
 
 // The place of the next byte; and whether there was room for all bytes so far.
-#[derive(Drop)]
+#[derive(Clone, Copy)]
 pub struct Pen {
     pub at: usize,
     pub ok: bool,

@@ -15,7 +15,7 @@ use image::rows::{operand_at, operand_bytes, type_at};
 use mir::rvalues::Constant;
 use refusals::MirLowerError;
 
-#[derive(Drop)]
+#[derive(Clone, Copy)]
 pub enum LoweredOperand {
     Constant(Constant),
     Refused(MirLowerError),

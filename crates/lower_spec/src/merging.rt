@@ -3,13 +3,13 @@ use mir::{BasicBlockId, Counts};
 use refusals::MirLowerError;
 
 // A block that may be absent.
-#[derive(Drop)]
+#[derive(Clone, Copy)]
 pub enum OptBlock {
     None,
     Some(BasicBlockId),
 }
 
-#[derive(Drop)]
+#[derive(Clone, Copy)]
 pub enum Merged {
     At(Counts, OptBlock),
     Refused(MirLowerError),

@@ -3,13 +3,13 @@ use mir::Counts;
 use place::LocalId;
 use refusals::MirLowerError;
 
-#[derive(Drop)]
+#[derive(Clone, Copy)]
 pub enum NewTemp {
     Local(Counts, LocalId),
     Refused(MirLowerError),
 }
 
-#[derive(Drop)]
+#[derive(Clone, Copy)]
 pub enum BoundLocal {
     Local(LocalId),
     Refused(MirLowerError),

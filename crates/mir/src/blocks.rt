@@ -7,7 +7,7 @@ use super::{BLOCK_WIDTH, BasicBlockId, Counts};
 use place::LocalId;
 use row_tables::store_row;
 
-#[derive(Drop)]
+#[derive(Clone, Copy)]
 pub enum Terminator {
     // None yet.
     Open,
@@ -19,7 +19,7 @@ pub enum Terminator {
     Drop(LocalId, BasicBlockId),
 }
 
-#[derive(Drop)]
+#[derive(Clone, Copy)]
 pub enum NewBlock {
     Block(Counts, BasicBlockId),
     // The limit is passed.

@@ -16,11 +16,11 @@ pub const BLOCK_WORDS: usize = BLOCK_WIDTH * 512;
 pub const STATEMENT_WORDS: usize = STATEMENT_WIDTH * 1024;
 
 // A block's number.
-#[derive(Drop)]
+#[derive(Clone, Copy)]
 pub struct BasicBlockId(pub u16);
 
 // How many rows of each table of a body and its scopes are in use: they go into each builder call by value, and come out of it.
-#[derive(Drop)]
+#[derive(Clone, Copy)]
 pub struct Counts {
     pub blocks: u16,
     pub statements: u16,

@@ -13,7 +13,7 @@ pub const USIZE: u16 = 257;
 
 pub const I128: u16 = 258;
 
-#[derive(Drop)]
+#[derive(Clone, Copy)]
 pub enum NewLocal {
     Local(Counts, LocalId),
     // The limit is passed.

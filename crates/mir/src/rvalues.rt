@@ -2,7 +2,7 @@
 use place::LocalId;
 
 // A constant: its count of bytes, the word of its type, where a string's bytes lie in the data, and the 16 bytes as two halves.
-#[derive(Drop)]
+#[derive(Clone, Copy)]
 pub struct Constant {
     pub count: u16,
     pub ty: u16,
@@ -12,7 +12,7 @@ pub struct Constant {
 }
 
 // What is made of a place.
-#[derive(Drop)]
+#[derive(Clone, Copy)]
 pub enum PlaceRvalue {
     Copy,
     Ref,
@@ -21,7 +21,7 @@ pub enum PlaceRvalue {
     Discr,
 }
 
-#[derive(Drop)]
+#[derive(Clone, Copy)]
 pub enum BinOp {
     Eq,
     Le,
@@ -30,7 +30,7 @@ pub enum BinOp {
 }
 
 // The left operand of an operator; the right one is a copy of a place.
-#[derive(Drop)]
+#[derive(Clone, Copy)]
 pub enum Left {
     Local(LocalId),
     Constant(Constant),

@@ -7,7 +7,7 @@ use super::Counts;
 use place::LocalId;
 
 // The counts, or a limit is passed.
-#[derive(Drop)]
+#[derive(Clone, Copy)]
 pub enum Counted {
     Now(Counts),
     Full,

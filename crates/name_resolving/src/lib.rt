@@ -8,14 +8,14 @@ use node_rows::MakingRow;
 use type_parts::PartsRow;
 
 // Whether a position is refused.
-#[derive(Drop)]
+#[derive(Clone, Copy)]
 pub enum Refused {
     No,
     At(u16),
 }
 
 // A position that is refused or none, what is made, and how the parts are read.
-#[derive(Drop)]
+#[derive(Clone, Copy)]
 pub struct Resolution {
     pub refused: Refused,
     pub making: MakingRow,

@@ -11,7 +11,7 @@ use name_tables::{FoundRow, NameUse, name_row_at};
 use node_rows::NodeRow;
 
 // What a name is, by the table's row: its kind and number. Or the table lacks it.
-#[derive(Drop)]
+#[derive(Clone, Copy)]
 pub enum Named {
     As(u16, u16),
     Lacking,

@@ -7,7 +7,7 @@ use image::word_at;
 
 // A row: its kind, the number of a variant, a field or a constant's operand, the variant that has the field, and where the name's bytes
 // begin and how many they are.
-#[derive(Drop)]
+#[derive(Clone, Copy)]
 pub struct NameRow {
     pub kind: u16,
     pub number: u16,
@@ -17,7 +17,7 @@ pub struct NameRow {
 }
 
 // What rows a name is looked for in: variants, constants, both, or the fields of a variant.
-#[derive(Drop)]
+#[derive(Clone, Copy)]
 pub enum NameUse {
     Variant,
     Constant,
@@ -26,7 +26,7 @@ pub enum NameUse {
 }
 
 // The number of a row, or that there is none.
-#[derive(Drop)]
+#[derive(Clone, Copy)]
 pub enum FoundRow {
     At(u16),
     Nothing,

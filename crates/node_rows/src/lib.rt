@@ -14,7 +14,7 @@ pub const MAKING_WORDS: usize = MAKING_WIDTH * TEXT_BYTES;
 
 // A node: its kind, where it begins, how many parts it has, and what its kind says besides. A name's bytes stand from `from` to `to` among the
 // names that were read, an integer's digits in the text; a char is in `from` and, its upper half, in `to`.
-#[derive(Drop)]
+#[derive(Clone, Copy)]
 pub struct NodeRow {
     pub kind: u16,
     pub at: u16,
@@ -26,7 +26,7 @@ pub struct NodeRow {
 }
 
 // What is made of a node: see specs/Makings.antt for the words of each kind.
-#[derive(Drop)]
+#[derive(Clone, Copy)]
 pub struct MakingRow {
     pub kind: u16,
     pub parts: u16,

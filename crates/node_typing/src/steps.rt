@@ -10,7 +10,7 @@ use node_resolving::resolve;
 use typing_state::stack::{leave_part, next_context, wait_for};
 
 // How many parents wait, and whether the row is refused.
-#[derive(Drop)]
+#[derive(Clone, Copy)]
 pub struct TypedRow {
     pub depth: usize,
     pub refused: Refused,

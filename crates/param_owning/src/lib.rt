@@ -12,7 +12,7 @@ use lower_spec::temps::BoundLocal;
 use place::LocalId;
 use refusals::MirLowerError;
 
-#[derive(Drop)]
+#[derive(Clone, Copy)]
 pub enum Owned {
     Own,
     Other,

@@ -12,7 +12,7 @@ use params_spec::SelfParam;
 use row_tables::clear_from;
 
 // What the first four words of a call say: how many scopes are open, and self.
-#[derive(Drop)]
+#[derive(Clone, Copy)]
 pub struct CallWords {
     pub opened: u16,
     pub receiver: SelfParam,

@@ -2,7 +2,7 @@
 #![tactic(auto)]
 
 // What is read last, as `Reading` in the grammar's machine; what is open is on the stack, by which the places of names and bounds are told apart.
-#[derive(Drop)]
+#[derive(Clone, Copy)]
 pub enum ReadState {
     Begin,
     Expect,

@@ -7,7 +7,7 @@ use node_rows::NodeRow;
 use parsing_machine::ReadState;
 
 // What is read of a node that neither waits nor has closed: see `heldIn` for the words of each state.
-#[derive(Drop)]
+#[derive(Clone, Copy)]
 pub struct HeldRow {
     pub at: u16,
     pub more: u16,
@@ -17,7 +17,7 @@ pub struct HeldRow {
 }
 
 // A move, as in specs/Moves.antt of the machine.
-#[derive(Drop)]
+#[derive(Clone, Copy)]
 pub enum NodeMove {
     Halts(u16),
     Holds(ReadState, HeldRow),

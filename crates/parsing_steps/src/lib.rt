@@ -7,14 +7,14 @@ use parsing_machine::ReadState;
 use parsing_moves::HeldRow;
 
 // How many rows wait and have closed.
-#[derive(Drop)]
+#[derive(Clone, Copy)]
 pub struct Heights {
     pub depth: usize,
     pub rows: usize,
 }
 
 // The parser between two tokens.
-#[derive(Drop)]
+#[derive(Clone, Copy)]
 pub struct ParseState {
     pub state: ReadState,
     pub held: HeldRow,
@@ -23,7 +23,7 @@ pub struct ParseState {
 }
 
 // It goes on, or the text has ended with so many nodes, or it has failed.
-#[derive(Drop)]
+#[derive(Clone, Copy)]
 pub enum ParseStep {
     Going(ParseState),
     Ended(usize),

@@ -5,7 +5,7 @@ use lower_spec::merging::OptBlock;
 use mir::{BasicBlockId, Counts};
 use refusals::MirLowerError;
 
-#[derive(Drop)]
+#[derive(Clone, Copy)]
 pub enum MatchCall {
     // The counts, the block where a match goes on, and the one where a mismatch does.
     Matched(Counts, BasicBlockId, OptBlock),

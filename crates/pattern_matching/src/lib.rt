@@ -5,7 +5,7 @@ ghost use Rattle.pattern_matching.specs.Modes.{is_check};
 
 // What a walk over a pattern does: `Check` tests whether the pattern matches, `Bind` takes that for granted and fills the bindings, and `Assign` takes it
 // for granted and assigns to locals that there are.
-#[derive(Drop)]
+#[derive(Clone, Copy)]
 pub enum MatchingMode {
     Check,
     Bind,

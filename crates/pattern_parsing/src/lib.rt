@@ -11,7 +11,7 @@ use spelled_names::NAME_BYTES;
 use token_parsing::read_token;
 
 // How many nodes a text has, or the byte at which it fails.
-#[derive(Drop)]
+#[derive(Clone, Copy)]
 pub enum Parsed {
     Nodes(usize),
     FailsAt(u16),

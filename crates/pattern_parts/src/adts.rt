@@ -22,7 +22,7 @@ use place_types::multi_projection_ty;
 use refusals::MirLowerError;
 
 // The type at a place: one of the table, none that a pattern could need, or a projection does not apply.
-#[derive(Drop)]
+#[derive(Clone, Copy)]
 pub enum NeededTy {
     Ty(u16),
     Other,
@@ -30,20 +30,20 @@ pub enum NeededTy {
 }
 
 // The count of a tuple's fields.
-#[derive(Drop)]
+#[derive(Clone, Copy)]
 pub enum TupleAt {
     Fields(u16),
     Refused(MirLowerError),
 }
 
-#[derive(Drop)]
+#[derive(Clone, Copy)]
 pub enum ReferenceAt {
     Reference,
     Refused(MirLowerError),
 }
 
 // An ADT that has the variant.
-#[derive(Drop)]
+#[derive(Clone, Copy)]
 pub enum AdtAt {
     Struct,
     Enum,

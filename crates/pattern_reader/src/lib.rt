@@ -7,7 +7,7 @@ ghost use Rattle.pattern_tokens.specs.Tokens.{token_at};
 use pattern_tokens::Token;
 use token_reading::token_at;
 
-#[derive(Drop)]
+#[derive(Clone, Copy)]
 pub struct Reader<'a> {
     pub text: &'a [u8],
     pub at: usize,

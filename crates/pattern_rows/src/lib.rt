@@ -10,7 +10,7 @@ use image::rows::{PatRow, list_at};
 use image::{PatId, Tables};
 
 // The kinds of patterns that have subpatterns or name a variant.
-#[derive(Drop)]
+#[derive(Clone, Copy)]
 pub enum CompoundKind {
     Tuple,
     Or,
@@ -23,7 +23,7 @@ pub enum CompoundKind {
 
 // The arguments of a pattern that names a variant: in a row, with where they begin in the list, their count and the ellipsis; by fields, with where they begin and
 // their count; or none.
-#[derive(Drop)]
+#[derive(Clone, Copy)]
 pub enum AdtPatternShape {
     Tuple(u16, u16, u16),
     Record(u16, u16),
@@ -31,7 +31,7 @@ pub enum AdtPatternShape {
 }
 
 // What arguments in a row stand for, and how they lie in the list.
-#[derive(Drop)]
+#[derive(Clone, Copy)]
 pub enum ArgumentRow {
     // The first fields, from the word `from` on.
     Fields,
@@ -46,7 +46,7 @@ pub enum ArgumentRow {
 }
 
 // What a Slice pattern's type is.
-#[derive(Drop)]
+#[derive(Clone, Copy)]
 pub enum Sequence {
     Array,
     Slice,

@@ -6,7 +6,7 @@ ghost use Rattle.text_chars.specs.Bytes.{byte_of};
 use pattern_words::Kind;
 
 // A token, the position of its first byte and that behind it.
-#[derive(Drop)]
+#[derive(Clone, Copy)]
 pub struct Token {
     pub kind: Kind,
     pub from: usize,

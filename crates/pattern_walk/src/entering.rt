@@ -14,7 +14,7 @@ use pattern_parts::bindings::is_bind;
 use place::Place;
 
 // The pattern at which the walk goes on by its kind, and the place behind its derefs; or there is no room for these.
-#[derive(Drop)]
+#[derive(Clone, Copy)]
 pub struct Entered {
     pub ok: bool,
     pub p: PatId,

@@ -6,7 +6,7 @@ use mir::{BasicBlockId, Counts};
 use refusals::MirLowerError;
 
 // What the lowering of a pattern, or a part of it, gives.
-#[derive(Drop)]
+#[derive(Clone, Copy)]
 pub enum Lowered {
     // The counts, the block where a match goes on, and the one where a mismatch does.
     Done(Counts, BasicBlockId, OptBlock),

@@ -3,7 +3,7 @@
 pub mod words;
 
 // What a token is. A name has the position where it begins, behind `r#`; a char has its value.
-#[derive(Drop)]
+#[derive(Clone, Copy)]
 pub enum Kind {
     Name(usize),
     Ref,
@@ -34,7 +34,7 @@ pub enum Kind {
 }
 
 // A token by its kind and how many bytes it has.
-#[derive(Drop)]
+#[derive(Clone, Copy)]
 pub struct Piece {
     pub kind: Kind,
     pub size: usize,

@@ -3,7 +3,7 @@
 ghost use Rattle.std.specs.Prelude.{◌≡◌};
 ghost use Rattle.place.specs.Elems.{Fits, elem_of, word_of};
 
-#[derive(Drop)]
+#[derive(Clone, Copy)]
 pub enum ProjectionElem {
     // What a reference refers to.
     Deref,

@@ -10,11 +10,11 @@ ghost use Rattle.place.specs.Places.{Projects};
 use elems::{ProjectionElem, word_of};
 
 // A local's number.
-#[derive(Drop)]
+#[derive(Clone, Copy)]
 pub struct LocalId(pub u16);
 
 // A local, and the words of the elements that lead on from it: `len` of them.
-#[derive(Drop)]
+#[derive(Clone, Copy)]
 pub struct Place {
     pub local: LocalId,
     pub len: u16,
@@ -22,7 +22,7 @@ pub struct Place {
 }
 
 // A place that leads one element on; or there was no room for the element.
-#[derive(Drop)]
+#[derive(Clone, Copy)]
 pub struct Projected {
     pub ok: bool,
     pub place: Place,

@@ -5,7 +5,7 @@ ghost use Rattle.program_io.specs.Inputs.{InputFits};
 
 use libc::{STDERR_FILENO, STDIN_FILENO, STDOUT_FILENO};
 
-#[derive(Drop)]
+#[derive(Clone, Copy)]
 pub enum Input {
     // So many bytes, at the start of the buffer.
     Bytes(usize),

@@ -11,7 +11,7 @@ use image_tables::patterns::patterns_hold;
 use image_tables::tables_hold::rows_hold;
 
 // The places of the tables; or the image breaks a rule.
-#[derive(Drop)]
+#[derive(Clone, Copy)]
 pub enum Read {
     Image(Tables),
     Refused,

@@ -6,7 +6,7 @@ ghost use Rattle.reading_input.specs.Parts.{part_end, past_or_end, word_or0, Inp
 use image::word_at;
 
 // Where the sheet, the name table and the text end, where the text begins, and the expected type.
-#[derive(Drop)]
+#[derive(Clone, Copy)]
 pub struct InputParts {
     pub sheet: usize,
     pub names: usize,

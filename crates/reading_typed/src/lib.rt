@@ -15,7 +15,7 @@ use node_rows::{MAKING_WORDS, NODE_WORDS};
 use node_typing::{WAITING_WORDS, type_nodes};
 
 // The image's length, or a refusal's number and position.
-#[derive(Drop)]
+#[derive(Clone, Copy)]
 pub enum PatternRead {
     Image(usize),
     RefusedAt(u16, u16),

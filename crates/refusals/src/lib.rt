@@ -1,7 +1,7 @@
 // Why a lowering is refused, once image and call have been found good.
 #![tactic(auto)]
 
-#[derive(Drop)]
+#[derive(Clone, Copy)]
 pub enum MirLowerError {
     // Missing, Rest or NotNull is reached.
     IncompletePattern,

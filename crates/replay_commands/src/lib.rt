@@ -10,7 +10,7 @@ use mir::BasicBlockId;
 
 // 0 temp (word a, block b), 1 merge_blocks (a, b), 2 push_drop_scope, 3 pop_assume_dropped, 4 pop_and_drop (block a), 5 drop_until_scope (index a, block b),
 // 6 a word is set: word b of the table a to c, or of table 5 the count b.
-#[derive(Drop)]
+#[derive(Clone, Copy)]
 pub struct Command {
     pub op: u16,
     pub a: u16,

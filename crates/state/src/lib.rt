@@ -4,7 +4,7 @@ use mir::Counts;
 use refusals::MirLowerError;
 
 // What a step of the lowering leaves: the counts, or why it was refused.
-#[derive(Drop)]
+#[derive(Clone, Copy)]
 pub enum Stepped {
     Now(Counts),
     Refused(MirLowerError),

@@ -7,7 +7,7 @@ ghost use Rattle.stored_records.specs.Entries.{Fits, ReadWithin};
 use image::word_at;
 use libc::STDIN_FILENO;
 
-#[derive(Drop)]
+#[derive(Clone, Copy)]
 pub enum Entry {
     // An image of so many bytes, at the start of the buffer.
     Image(usize),
@@ -32,7 +32,7 @@ pub fn next_number() -> u32 {
 }
 
 // The words of a record, read or not.
-#[derive(Drop)]
+#[derive(Clone, Copy)]
 pub enum Words {
     // So many.
     Some(usize),

@@ -10,14 +10,14 @@ ghost use Rattle.text_chars.specs.Scalars.{scalar_of};
 ghost use Rattle.text_chars.specs.Gaps.{is_whitespace, gap_of, start_of};
 
 // A scalar value and how many bytes it has behind its first.
-#[derive(Drop)]
+#[derive(Clone, Copy)]
 pub enum Scalar {
     Of(u32, usize),
     Nothing,
 }
 
 // A whitespace character or a comment, by how many bytes it has behind its first; a broken one is a doc comment, not finished or not UTF-8.
-#[derive(Drop)]
+#[derive(Clone, Copy)]
 pub enum Gap {
     Of(usize),
     Nothing,
@@ -25,7 +25,7 @@ pub enum Gap {
 }
 
 // Where the next token begins, or a broken comment before it.
-#[derive(Drop)]
+#[derive(Clone, Copy)]
 pub enum Start {
     At(usize),
     BrokenAt(usize),

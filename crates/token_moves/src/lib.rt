@@ -3,7 +3,7 @@
 use parsing_moves::NodeMove;
 
 // What is done, and how many bytes of names are in use then.
-#[derive(Drop)]
+#[derive(Clone, Copy)]
 pub struct TokenMove {
     pub made: NodeMove,
     pub named: usize,

@@ -12,7 +12,7 @@ use token_copying::token_move;
 use token_next::token_row;
 
 // What a token leads to, the byte behind it, and how many bytes of names are in use then.
-#[derive(Drop)]
+#[derive(Clone, Copy)]
 pub struct TokenStep {
     pub step: ParseStep,
     pub next: usize,

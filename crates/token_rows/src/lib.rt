@@ -4,7 +4,7 @@ ghost use Rattle.std.specs.Prelude.{◌≡◌, ◌<◌};
 ghost use Rattle.token_rows.specs.TokenRows.{name_row, char_row, mark_row};
 
 // A token: `sort` is 0 for a name, whose own bytes begin at `own`, 1 for a char, whose number's halves are `mark` and `own`, and 2 for a mark.
-#[derive(Drop)]
+#[derive(Clone, Copy)]
 pub struct TokenRow {
     pub sort: u16,
     pub mark: u16,

@@ -4,7 +4,7 @@
 pub mod sheet; // sheet.rt: the rows of a sheet
 
 // A type behind so many references, and the default binding mode there: 0 by value, 1 by reference, 2 by mutable reference.
-#[derive(Drop)]
+#[derive(Clone, Copy)]
 pub struct CrossedType {
     pub ty: u16,
     pub derefs: u16,
@@ -12,7 +12,7 @@ pub struct CrossedType {
 }
 
 // The types of fields: so many list words from a start.
-#[derive(Drop)]
+#[derive(Clone, Copy)]
 pub struct FieldRun {
     pub start: u16,
     pub count: u16,
@@ -21,7 +21,7 @@ pub struct FieldRun {
 // How the parts of a node are read, by its kind: 0 not at all; 1 as the type `a`; 2 as the target of `a`, behind `&mut` where `b` is 1; 3 as
 // arguments of `b` fields from `a`, of which `c` stand before the rest; 4 as items of `a`, of which `c` stand before the rest; 5 as fields of the
 // variant `b` of `a`; 6 as the field `c` of `b` fields from `a`. `many` is how many there are.
-#[derive(Drop)]
+#[derive(Clone, Copy)]
 pub struct PartsRow {
     pub kind: u16,
     pub a: u16,
@@ -33,7 +33,7 @@ pub struct PartsRow {
 
 // What a part is read at: a type and the default mode; the rest of a slice, with its type, how many other items there are, and the mode; a field
 // of a record, with the type, the variant and the mode; no part of its parent's type; or inside what is refused already.
-#[derive(Drop)]
+#[derive(Clone, Copy)]
 pub enum PartContext {
     Typed(u16, u16),
     RestAmong(u16, u16, u16),

@@ -13,7 +13,7 @@ use image_tables::patterns::patterns_hold;
 use image_tables::tables_hold::rows_hold;
 
 // The places of the tables; or the sheet breaks a rule.
-#[derive(Drop)]
+#[derive(Clone, Copy)]
 pub enum Sheet {
     Tables(Tables),
     Refused,

@@ -7,7 +7,7 @@ use row_tables::store_row;
 use type_parts::PartsRow;
 
 // How the parts of a parent are read, and how many of them are left.
-#[derive(Drop)]
+#[derive(Clone, Copy)]
 pub struct WaitingRow {
     pub reads: PartsRow,
     pub left: u16,

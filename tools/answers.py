@@ -1,0 +1,320 @@
+#!/usr/bin/env python3
+"""Turns a function's Proof.antt of an older Rattle into Answers.antt and Invariants.antt, under the goals' names of today.
+
+usage: python3 tools/answers.py NAMES CRATE [FUNCTION..]
+
+NAMES is the names.json that `rt check --generated DIR --old-names` writes for the crate, and CRATE its folder. What it cannot turn it names, and leaves as it is.
+"""
+
+import json
+import os
+import re
+import sys
+
+WORD = r"[^\s(){}\[\],;.«»]+"
+PATH = re.compile(r"(?<![\w.'«-])(ROOT)((?:\.(?:«[^»]*»|[^\s(){}\[\],;.«»]+))+)")
+
+
+class Left(Exception):
+    """What is left to do by hand."""
+
+
+def label(text):
+    """A step's label, however its words are joined."""
+    text = text.strip("«»").replace("-", "_").lower()
+    return re.sub(r"_lem(?=\d*$)", "", text)
+
+
+def blocks_of(text):
+    """The declarations of a file, each with the comments in front of it."""
+    found, now = [], []
+    for line in text.split("\n"):
+        head = line and not line[0].isspace() and not line.startswith("--")
+        if head and now and not (any(l and not l.startswith("--") for l in now) is False):
+            name = re.match(r"(?:(?:pub|abbrev|unfoldable)\s+)*(\S+)", line).group(1)
+            same = next((l for l in now if l and not l.startswith("--")), "")
+            of = re.match(r"(?:(?:pub|abbrev|unfoldable)\s+)*(\S+)", same).group(1)
+            if name != of and name != "unfolding":
+                found.append("\n".join(now).strip("\n"))
+                now = []
+        now.append(line)
+    found.append("\n".join(now).strip("\n"))
+    # comments at the end of one belong to the next
+    out = []
+    carry = ""
+    for block in found:
+        lines = block.split("\n")
+        tail = []
+        while lines and (not lines[-1].strip() or lines[-1].startswith("--")):
+            tail.insert(0, lines.pop())
+        body = (carry + "\n".join(lines)).strip("\n")
+        carry = "\n".join(tail).strip("\n")
+        carry = carry + "\n" if carry else ""
+        if body:
+            out.append(body)
+    return out
+
+
+def arguments(text):
+    """The arguments of a call, as they stand: names or parts in parentheses."""
+    found, at = [], 0
+    while at < len(text):
+        if text[at].isspace():
+            at += 1
+            continue
+        start, depth = at, 0
+        while at < len(text):
+            c = text[at]
+            if c in "([{":
+                depth += 1
+            elif c in ")]}":
+                depth -= 1
+                if depth < 0:
+                    return found
+            elif c.isspace() and depth == 0:
+                break
+            at += 1
+        found.append(text[start:at])
+    return found
+
+
+def plain(text):
+    """A goal's name without what its spelling has changed."""
+    text = re.sub(r"^(overflow|nonzero)-", "", text.replace("_", "-"))
+    return re.sub(r"-lem(?=-|$)", "", text).replace("-", "")
+
+
+def matched(given, needs):
+    """Which goal each answer is for, in order: an answer with a name fits a goal of that name, one without fits any, and one that is proved without it now fits none."""
+    n, m = len(given), len(needs)
+    best = [[0] * (m + 1) for _ in range(n + 1)]
+    for i in range(n - 1, -1, -1):
+        for j in range(m, -1, -1):
+            score = best[i + 1][j]
+            if j < m:
+                score = max(score, best[i][j + 1])
+                worth = fits(given[i], needs[j])
+                if worth:
+                    score = max(score, worth + best[i + 1][j + 1])
+            best[i][j] = score
+    pairs, i, j = [], 0, 0
+    while i < n and j < m:
+        worth = fits(given[i], needs[j])
+        if worth and best[i][j] == worth + best[i + 1][j + 1]:
+            pairs.append((i, j))
+            i, j = i + 1, j + 1
+        elif best[i][j] == best[i][j + 1]:
+            j += 1
+        else:
+            i += 1
+    return pairs
+
+
+def fits(given, need):
+    name, text = given
+    if name:
+        return 100 if plain(name) == plain(need) else 0
+    return 1 if text.endswith("search rules)") else 5
+
+
+class Chain:
+    """What is known at a goal: each step by its old label, and each part of an arm by its old path."""
+
+    def __init__(self, names, place):
+        self.steps, self.parts, self.typed = {}, {}, {}
+        places = names["places"]
+        at = {}
+        for i, it in enumerate(places):
+            at.setdefault(it[0], i)
+        i = at[place]
+        for var, of in names["typed"][i]:
+            self.typed.setdefault(label(of), var)
+        seen = set()
+        while i is not None and i not in seen:
+            seen.add(i)
+            name, before, (old, new), _, _ = places[i]
+            if old:
+                self.steps.setdefault(label(old), new)
+            arm = names["arms"][i]
+            if arm:
+                for field, step, path in arm[2]:
+                    self.parts.setdefault((label(step), tuple(path)), f"{arm[0]}.{field}")
+            i = at.get(before)
+
+    def turned(self, path):
+        fields = [f for f in re.findall(r"\.(«[^»]*»|[^\s(){}\[\],;.«»]+)", path)]
+        while fields and fields[0] == "before":
+            fields.pop(0)
+        if not fields:
+            return ""
+        step = label(fields[0])
+        for n in range(len(fields), 0, -1):
+            part = self.parts.get((step, tuple(fields[1:n])))
+            if part:
+                return "".join("." + f for f in [part, *fields[n:]])
+        if len(fields) > 1 and fields[1] == "given" and step in self.typed:
+            return "".join("." + f for f in ["type_inv", self.typed[step], *fields[2:]])
+        if step in self.steps:
+            return "".join("." + f for f in [self.steps[step], *fields[1:]])
+        return "".join("." + f for f in fields)
+
+
+def answer_body(body, root, chain):
+    """A body with the paths of today. A name that stands for the facts at an earlier step stands for all of them."""
+    roots = [root] if root else []
+    for it in re.finditer(rf"\blet ({WORD}) = ({'|'.join(map(re.escape, roots)) or 'c'})((?:\.before)*) in", body):
+        roots.append(it.group(1))
+    if not roots:
+        return body
+    pattern = re.compile(PATH.pattern.replace("ROOT", "|".join(re.escape(r) for r in roots)))
+    return pattern.sub(lambda it: (root if it.group(1) in roots else it.group(1)) + chain.turned(it.group(2)), body)
+
+
+def split(block):
+    """A declaration's name, type, lines of `unfolding`, its parameters and its body."""
+    comments = [l for l in block.split("\n") if l.startswith("--")]
+    lines = [l for l in block.split("\n") if not l.startswith("--")]
+    head = re.match(r"(?:(?:pub|abbrev|unfoldable)\s+)*(\S+) :\s*(.*)", lines[0])
+    if not head:
+        raise Left("no signature: " + lines[0][:80])
+    name, kind, at = head.group(1), head.group(2), 1
+    unfolds = []
+    while at < len(lines) and not re.match(re.escape(name) + r"(\s|=)", lines[at]):
+        if lines[at].startswith("unfolding"):
+            unfolds.append(lines[at])
+        elif unfolds:
+            unfolds[-1] += "\n" + lines[at]
+        else:
+            kind += " " + lines[at].strip()
+        at += 1
+    if at == len(lines):
+        raise Left("no clause: " + name)
+    clause = "\n".join(lines[at:])
+    if re.search(r"(?m)^" + re.escape(name) + r"(\s|=)", "\n".join(lines[at + 1 :])):
+        raise Left("several clauses: " + name)
+    left, body = clause.split("=", 1)
+    return comments, name, kind.strip(), unfolds, left.split()[1:], body
+
+
+def invariant(names, kind, name, unfolds, params, body):
+    """An invariant or a measure as a function of the loop's variables."""
+    word, loop = re.match(r"tie\.(invariant|decreases)-(\S+)", kind).groups()
+    at = [i for i, l in enumerate(names["loops"]) if label(l[0][0]) == label(loop)]
+    if len(at) != 1:
+        raise Left(f"no loop {loop}")
+    (_, new), variables = names["loops"][at[0]]
+    changed = list(zip(variables, names["changed"][at[0]]))
+    wanted = [f"l.initial.{var}" if changes else f"l.{var}" for var, changes in changed] + [f"l.{var}" for var, changes in changed if changes]
+    if len(wanted) != len(params):
+        raise Left(f"{name} has {len(params)} parameters, and the loop {len(wanted)} values")
+    means = {p: w for p, w in zip(params, wanted) if p != "_"}
+    token = re.compile(r"(?<![\w.'«-])(" + "|".join(re.escape(p) for p in sorted(means, key=len, reverse=True)) + r")(?![\w'₀-])") if means else None
+    out = token.sub(lambda it: means[it.group(1)], body) if token else body
+    goal = f"{word}-{new}"
+    return "\n".join([f"abbrev pub {goal} : goal.{goal}", *unfolds, f"{goal} l ={out}"])
+
+
+def turn(names, key, crate, folder, path):
+    with open(path, encoding="utf-8") as it:
+        text = it.read()
+    lines = text.split("\n")
+    uses = [l for l in lines if l.startswith(("use ", "pub use "))]
+    if any("{" in u and "}" not in u for u in uses):
+        raise Left("a use line over several lines")
+    comments = []
+    rest = []
+    for l in lines:
+        if l in uses:
+            continue
+        rest.append(l)
+    blocks = blocks_of("\n".join(rest))
+    final = [b for b in blocks if "tie.close" in b]
+    if len(final) != 1:
+        raise Left("no tie.close")
+    spec = re.search(r"\(\s*tie\.spec(.*)\)", final[0], re.S)
+    if not spec:
+        raise Left("no tie.spec")
+    given = arguments(spec.group(1))
+    declared, own = {}, []
+    for block in blocks:
+        if block is final[0]:
+            continue
+        code = [l for l in block.split("\n") if not l.startswith("--")]
+        if re.match(r"(?:(?:pub|abbrev|unfoldable)\s+)*\S+ : tie\.", code[0]):
+            it = split(block)
+            declared[it[1]] = it
+        else:
+            own.append(block)
+    loops = [g for g in given if g in declared and re.match(r"tie\.(invariant|decreases)-", declared[g][2])]
+    asked = [g for g in given if g not in loops]
+    of = lambda g: re.match(r"tie\.Need-(\S+)", declared[g][2]).group(1) if g in declared else None
+    if len(asked) == len(names["needs"]):
+        pairs = [(k, k) for k in range(len(asked))]
+    else:
+        pairs = matched([(of(g), g) for g in asked], [n[0] for n in names["needs"]])
+    invariants = [invariant(names, declared[g][2], g, declared[g][3], declared[g][4], declared[g][5]) for g in loops]
+    answers, doubts = [], []
+    taken = {k for k, _ in pairs}
+    doubts += [f"no goal for {of(g) or g}" for k, g in enumerate(asked) if k not in taken and not g.endswith("search rules)")]
+    for k, n in pairs:
+        given_one, (_, new), (place, _) = asked[k], names["needs"][n], names["asked_at"][n]
+        chain = Chain(names, place)
+        if given_one in declared:
+            notes, name, kind, unfolds, params, body = declared[given_one]
+        elif given_one.startswith("(λ"):
+            it = re.match(r"\(λ ([^.]*)\.(.*)\)$", given_one, re.S)
+            notes, unfolds, params, body = [], [], it.group(1).split(), " " + it.group(2).strip()
+        else:
+            notes, unfolds, params, body = [], [], [], " " + given_one
+        if re.sub(r"\s+", " ", body).strip() == "search rules":
+            continue
+        root = params[0] if params else None
+        for p in params[1:]:
+            if re.search(rf"(?<![\w.]){re.escape(p)}(?![\w])", body):
+                doubts.append(f"{new}: {p} is used")
+        out = answer_body(body, root, chain)
+        left = f"{new} {root}" if root else new
+        answers.append("\n".join([*notes, f"pub {new} : goal.{new}", *unfolds, f"{left} ={out}"]))
+    module = ".".join(key.split(".")[1:-1])
+    base = f"Rattle.{crate}.proofs.{module}"
+    keep = [u for u in uses if not re.search(r"\.(Tie|Lts|Reads|Statement)( as \S+|\.\{statement\})?$", u)]
+    if invariants:
+        with open(os.path.join(folder, "Invariants.antt"), "w", encoding="utf-8") as it:
+            it.write("\n".join([*keep, f"use {base}.Given as goal"]) + "\n\n" + "\n\n".join(invariants) + "\n")
+    if answers:
+        with open(os.path.join(folder, "Answers.antt"), "w", encoding="utf-8") as it:
+            it.write("\n".join([*keep, f"use {base}.Goals as goal"]) + "\n\n" + "\n\n".join([*own, *answers]) + "\n")
+    elif own:
+        doubts.append("lemmas that no answer uses were dropped: " + ", ".join(b.split(" :")[0] for b in own))
+    os.remove(path)
+    return doubts
+
+
+def main(argv):
+    with open(argv[1], encoding="utf-8") as it:
+        names = json.load(it)
+    root, only = argv[2].rstrip("/"), argv[3:]
+    crate = os.path.basename(root)
+    done = left = 0
+    for folder, _, files in os.walk(os.path.join(root, "proofs")):
+        if "Proof.antt" not in files:
+            continue
+        function = os.path.relpath(folder, os.path.join(root, "proofs"))
+        if only and function not in only:
+            continue
+        key = f"Rattle-{crate}-proofs." + function.replace("/", ".") + ".Lts"
+        path = os.path.join(folder, "Proof.antt")
+        try:
+            if key not in names:
+                raise Left("names.json has no " + key)
+            for doubt in turn(names[key], key, crate, folder, path):
+                print(f"look: {crate} {function}: {doubt}")
+            done += 1
+        except Left as why:
+            print(f"left: {crate} {function}: {why}")
+            left += 1
+    print(f"{crate}: {done} turned, {left} left")
+
+
+if __name__ == "__main__":
+    main(sys.argv)
