@@ -29,7 +29,7 @@ def blocks_of(text):
     """The declarations of a file, each with the comments in front of it."""
     found, now = [], []
     for line in text.split("\n"):
-        head = line and not line[0].isspace() and not line.startswith("--")
+        head = line and not line[0].isspace() and line[0] not in ")]}" and not line.startswith("--")
         if head and now and not (any(l and not l.startswith("--") for l in now) is False):
             name = re.match(r"(?:(?:pub|abbrev|unfoldable)\s+)*(\S+)", line).group(1)
             same = next((l for l in now if l and not l.startswith("--")), "")
@@ -159,6 +159,20 @@ class Chain:
         return "".join("." + f for f in fields)
 
 
+ATOM = r"(?:_|\((?:[^()]|\([^()]*\))*\)|[^\s(),\[\]]+)"
+TESTED = re.compile(rf"not[-_](?:true|false)\s+{ATOM}\s+([^\s(),\[\]]+\.(?:true|false))(?![\w.-])")
+DEFAULT = re.compile(r"(?<!opened )(?<![\w.])([\w«»]+(?:\.[^\s(){}\[\],;.]+)*\.in_default[^\s(){}\[\],;.]*-own\.keys\d+)")
+
+
+def mended(text):
+    """A test of `!x` says of x itself what it came to, and the fact of a default arm on an enum is sealed."""
+    text = TESTED.sub(r"\1", text)
+    new = DEFAULT.sub(r"(opened \1)", text)
+    if new != text and "{opened}" not in new:
+        new = "use borrow.Enum.Refused.{opened}\n" + new
+    return new
+
+
 def answer_body(body, root, chain):
     """A body with the paths of today. A name that stands for the facts at an earlier step stands for all of them."""
     roots = [root] if root else []
@@ -283,7 +297,7 @@ def turn(names, key, crate, folder, path):
             it.write("\n".join([*keep, f"use {base}.Given as goal"]) + "\n\n" + "\n\n".join(invariants) + "\n")
     if answers:
         with open(os.path.join(folder, "Answers.antt"), "w", encoding="utf-8") as it:
-            it.write("\n".join([*keep, f"use {base}.Goals as goal"]) + "\n\n" + "\n\n".join([*own, *answers]) + "\n")
+            it.write(mended("\n".join([*keep, f"use {base}.Goals as goal"]) + "\n\n" + "\n\n".join([*own, *answers]) + "\n"))
     elif own:
         doubts.append("lemmas that no answer uses were dropped: " + ", ".join(b.split(" :")[0] for b in own))
     os.remove(path)
@@ -297,6 +311,12 @@ def main(argv):
     crate = os.path.basename(root)
     done = left = 0
     for folder, _, files in os.walk(os.path.join(root, "proofs")):
+        if "Answers.antt" in files:
+            with open(os.path.join(folder, "Answers.antt"), encoding="utf-8") as it:
+                text = it.read()
+            if mended(text) != text:
+                with open(os.path.join(folder, "Answers.antt"), "w", encoding="utf-8") as it:
+                    it.write(mended(text))
         if "Proof.antt" not in files:
             continue
         function = os.path.relpath(folder, os.path.join(root, "proofs"))

@@ -1,0 +1,9 @@
+use borrow.Author.Rules.{rules}
+use Rattle.pattern_words.specs.Words.{never_raw}
+use Rattle.text_chars.specs.Bytes.{ascii}
+use Rattle.image.specs.Bytes.{little_endian}
+use Rattle.pattern_words.proofs.words.is_never_raw.Goals as goal
+
+pub returns : goal.returns
+unfolding never_raw ascii little_endian
+returns c = c.is_in.ensures
