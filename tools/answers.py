@@ -122,6 +122,7 @@ class Chain:
 
     def __init__(self, names, place):
         self.steps, self.parts, self.typed = {}, {}, {}
+        self.arguments = names["args"]
         places = names["places"]
         at = {}
         for i, it in enumerate(places):
@@ -181,7 +182,14 @@ def answer_body(body, root, chain):
     if not roots:
         return body
     pattern = re.compile(PATH.pattern.replace("ROOT", "|".join(re.escape(r) for r in roots)))
-    return pattern.sub(lambda it: (root if it.group(1) in roots else it.group(1)) + chain.turned(it.group(2)), body)
+    body = pattern.sub(lambda it: (root if it.group(1) in roots else it.group(1)) + chain.turned(it.group(2)), body)
+    for old, new in chain.arguments:
+        of, was = old.split(" ") if " " in old else ("", "")
+        if of not in (".args", ".ranges"):
+            continue
+        names = [re.escape(root + of), *(re.escape(n) for n in re.findall(rf"\blet ({WORD}) = {re.escape(root + of)} in", body))]
+        body = re.sub(rf"(?<![\w.'-])({'|'.join(names)}){re.escape(was)}(?![\w'-])", lambda it: it.group(1) + new.split(" ")[1], body)
+    return body
 
 
 def split(block):
@@ -304,6 +312,121 @@ def turn(names, key, crate, folder, path):
     return doubts
 
 
+def measured(body, params, root):
+    """A measure over the arguments by position as one over them by name."""
+    token = re.compile(rf"(?<![\w.]){root}((?:\.1)*)\.0(?![\w'-])")
+    return token.sub(lambda it: "l." + params[it.group(1).count(".1")], body)
+
+
+def turn_cycle(names, base, crate, folder, path):
+    """The proof of a cycle of calls: its measures and invariants, and the answers of all its functions."""
+    texts = []
+    parts = os.path.join(folder, "Proof")
+    files = [path] + [os.path.join(parts, f) for f in sorted(os.listdir(parts))] if os.path.isdir(parts) else [path]
+    for file in files:
+        with open(file, encoding="utf-8") as it:
+            texts.append(it.read())
+    lines = [l for t in texts for l in t.split("\n") if not re.match(r"mod \S+$", l)]
+    uses = []
+    for l in lines:
+        if l.startswith("use ") and l not in uses:
+            uses.append(l)
+    lts = {}
+    for u in uses:
+        it = re.match(r"use Rattle\.(\S+?)\.proofs\.(\S+)\.(Lts-\S+) as (\S+)$", u)
+        if it:
+            lts[it.group(4)] = f"Rattle-{it.group(1)}-proofs.{it.group(2)}.{it.group(3)}"
+    blocks = [b for t in texts for b in blocks_of("\n".join(l for l in t.split("\n") if not l.startswith("use ") and not re.match(r"mod \S+$", l)))]
+    declared, own, final, loops = {}, [], None, {}
+    invariants, answers, doubts = [], [], []
+    for block in blocks:
+        code = "\n".join(l for l in block.split("\n") if not l.startswith("--"))
+        head = re.match(r"(?:(?:pub|abbrev|unfoldable)\s+)*(\S+) :\s*(.*)", code)
+        if not head:
+            raise Left("no signature: " + code[:60])
+        name, kind = head.group(1), head.group(2)
+        if "→ statement M" in kind:
+            final = code
+        elif re.match(r"Measures ", kind):
+            _, _, _, _, params, body = split(block)
+            function = name[len("μ-") :].replace("-", "_")
+            key = next((k for k in lts.values() if k.split(".Lts-")[1] == function), None)
+            if not key or key not in names:
+                raise Left(f"no names for the measure of {function}: {key}")
+            mine = [v for f, v in names[key]["params"].items() if f.split("::")[-1] == function]
+            every = [v for k in lts.values() if k in names for f, v in names[k]["params"].items() if f.split("::")[-1] == function]
+            if not (mine or every):
+                raise Left("no parameters of " + function)
+            invariants.append(f"abbrev pub decreases-{function} : goal.decreases-{function}\ndecreases-{function} l ={measured(body, (mine or every)[0], params[-1])}")
+        elif re.match(r"\S+\.(invariant|decreases)-loop", kind):
+            it = re.match(r"(\S+)\.(invariant|decreases)-(\S+)", kind)
+            loops[name] = (lts[it.group(1)], f"tie.{it.group(2)}-{it.group(3)}", split(block))
+        elif re.search(r"\S+\.Need-", kind):
+            declared[name] = split(block)
+        elif kind.startswith("ℕ → In ") or kind.endswith(".Claims") or re.search(r"ℕ → \S+\.Claims", kind):
+            continue
+        else:
+            own.append(block)
+    if not final:
+        raise Left("no last line")
+    order = []
+    for it in re.finditer(r"(\S+)\.spec\s", final):
+        alias = it.group(1).lstrip("(")
+        key = lts[alias]
+        given = arguments(final[it.end() :])
+        order.append((key, given[3:]))
+    for key, given in order:
+        here = names.get(key)
+        if not here:
+            raise Left("names.json has no " + key)
+        bare = lambda g: re.sub(r"^\((\S+) t\)$", r"\1", g)
+        asked = []
+        for g in given:
+            if bare(g) in loops:
+                _, kind, (_, name, _, unfolds, params, body) = loops[bare(g)]
+                invariants.append(invariant(here, kind, name, unfolds, params, body))
+            else:
+                asked.append(bare(g))
+        of = lambda g: re.search(r"\.Need-(\S+)", declared[g][2]).group(1) if g in declared else None
+        if len(asked) == len(here["needs"]):
+            pairs = [(k, k) for k in range(len(asked))]
+        else:
+            pairs = matched([(of(g), g) for g in asked], [n[0] for n in here["needs"]])
+        taken = {k for k, _ in pairs}
+        doubts += [f"no goal for {g}" for k, g in enumerate(asked) if k not in taken and not g.endswith("search rules)")]
+        for k, n in pairs:
+            (_, new), (place, _) = here["needs"][n], here["asked_at"][n]
+            chain = Chain(here, place)
+            if asked[k] in declared:
+                notes, _, _, unfolds, params, body = declared[asked[k]]
+                time, root, more = params[0], params[1], params[2:]
+            else:
+                it = re.match(r"\(λ ([^.]*)\.(.*)\)$", asked[k], re.S)
+                if not it:
+                    doubts.append(f"{new}: {asked[k][:40]}")
+                    continue
+                notes, unfolds, time, body = [], [], "t", " " + it.group(2).strip()
+                root, *more = it.group(1).split()
+            if re.sub(r"\s+", " ", body).strip() == "search rules":
+                continue
+            doubts += [f"{new}: {p} is used" for p in more if re.search(rf"(?<![\w.]){re.escape(p)}(?![\w])", body)]
+            out = answer_body(body, root, chain)
+            out = re.sub(rf"(?<![\w.]){re.escape(root)}\.requires\.0(?![\w-])", f"{root}.decreases", out)
+            out = re.sub(rf"(?<![\w.]){re.escape(root)}\.requires\.1(?![\w-])", f"{root}.requires", out)
+            answers.append("\n".join([*notes, f"pub {new} : goal.{new}", *unfolds, f"{new} {time} {root} ={out}"]))
+    keep = [u for u in uses if not re.search(r"\.(Tie|Lts\S*|Reads|Kinds|Statement)( as \S+|\.\{[^}]*\})?$|\.\{statement\}$|PlainCycle|Kinds\.\{|\.Proof\.", u)]
+    with open(os.path.join(folder, "Invariants.antt"), "w", encoding="utf-8") as it:
+        it.write("\n".join([*keep, f"use {base}.Given as goal"]) + "\n\n" + "\n\n".join(invariants) + "\n")
+    if answers:
+        with open(os.path.join(folder, "Answers.antt"), "w", encoding="utf-8") as it:
+            it.write(mended("\n".join([*keep, f"use {base}.Goals as goal"]) + "\n\n" + "\n\n".join([*own, *answers]) + "\n"))
+    for file in files:
+        os.remove(file)
+    if os.path.isdir(parts):
+        os.rmdir(parts)
+    return doubts
+
+
 def main(argv):
     with open(argv[1], encoding="utf-8") as it:
         names = json.load(it)
@@ -325,9 +448,13 @@ def main(argv):
         key = f"Rattle-{crate}-proofs." + function.replace("/", ".") + ".Lts"
         path = os.path.join(folder, "Proof.antt")
         try:
-            if key not in names:
+            if "/+" in "/" + function:
+                doubts = turn_cycle(names, f"Rattle.{crate}.proofs." + function.replace("/", "."), crate, folder, path)
+            elif key not in names:
                 raise Left("names.json has no " + key)
-            for doubt in turn(names[key], key, crate, folder, path):
+            else:
+                doubts = turn(names[key], key, crate, folder, path)
+            for doubt in doubts:
                 print(f"look: {crate} {function}: {doubt}")
             done += 1
         except Left as why:

@@ -36,6 +36,7 @@ hits_standing : (n : ℕ) (r : Reached) (rs : List Reached) → IsReached r rs �
 unfolding total
 hits_standing n r (q ∷ rs) (inl same) e = let s = hit_same n q.number (ap (λ (x : Reached). x.number) (sym same) ∙ e) in omega (arith, s)
 hits_standing n r (q ∷ rs) (inr s) e = let i = hits_standing n r rs s e in omega (arith, i)
+hits_standing n r [] x'' e = elim x'' [ ]
 
 -- the visits of one whose number no other has
 visits_one : (r : Reached) (rs : List Reached) → hits r.number rs ≤ 1 → IsReached r rs → visits_of r.number rs ≡ r.ors + 2
@@ -53,6 +54,7 @@ visits_one r (q ∷ rs) le (inr st) =
     let i = hits_standing n r rs st refl in
     let other : q.number ≡ n → ⊥ = λ e. let s = hit_same n q.number e in omega (arith, i, s, le) in
     visits_other n q rs other ∙ visits_one r rs (omega (arith, le)) st
+visits_one r [] le x'' = elim x'' [ ]
 
 -- "Every pattern reached, with k Or patterns above it in the tree walked, was visited exactly k + 2 times"
 pub visited_exactly : (image : List ℕ) (p : ℕ) (ty : PlaceTy) (r : Reached) → valid image ≡ true → p < pattern_count image → IsReached r (reached_from image (tree image p) ty) →

@@ -67,6 +67,7 @@ low_append (low_one a l) l' = low_one a (low_append l l')
 low_standing : {m : ℕ} (q : Reached) {rs : List Reached} → Low m rs → IsReached q rs → q.number + q.ors < m
 low_standing {m = m} q (low_one a l) (inl same) = subst (λ (x : Reached). x.number + x.ors < m) (sym same) a
 low_standing q (low_one a l) (inr s) = low_standing q l s
+low_standing {m = m} q low_none x3 = elim x3 [ ]
 
 module _ {n : ℕ} where
   each_take : {rs : List Reaching} (m : ℕ) → Each n rs → Each n (take m rs)

@@ -40,20 +40,20 @@ module _ {size row : ℕ} (a : Ahead size row) where
   row_few = omega (arith, a.behind, a.signed)
 
   -- the row is not this one
-  pub further : not (eqb (table_row row).size size) ≡ true → Ahead size (row + 1)
+  pub further : ((table_row row).size ≡ size → ⊥) → Ahead size (row + 1)
   further ne =
       record {
         place = a.place;
         behind =
-            let apart : row ≡ a.place → ⊥ = λ e. eqb-false (table_row row).size size (not-true (eqb (table_row row).size size) ne) (size_right row (omega (arith, row_few)) ∙ ap row_size e ∙ a.is) in
+            let apart : row ≡ a.place → ⊥ = λ e. ne (size_right row (omega (arith, row_few)) ∙ ap row_size e ∙ a.is) in
             omega (arith, a.behind);
         signed = a.signed;
         is = a.is;
       }
 
   -- the row is this one: it has the size, or no other is left
-  pub found : not (eqb (table_row row).size size) ≡ false → row_size row ≡ size
-  found e = sym (size_right row (omega (arith, row_few))) ∙ eqb-true (table_row row).size size (not-false (eqb (table_row row).size size) e)
+  pub found : (table_row row).size ≡ size → row_size row ≡ size
+  found e = sym (size_right row (omega (arith, row_few))) ∙ e
 
   pub last : 4 ≤ row → row_size row ≡ size
   last h = let e : row ≡ a.place = omega (arith, a.behind, a.signed) in ap row_size e ∙ a.is

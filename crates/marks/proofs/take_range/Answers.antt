@@ -8,8 +8,6 @@ use Rattle.image.specs.Lists.{up_from}
 use Rattle.marks.proofs.Takes.{Continues, continues_more, continues_refused, continues_end, up_from_next, up_from_none}
 use Rattle.marks.proofs.take_range.Goals as goal
 
-)
-
 pub loop-left-init : goal.loop-left-init
 loop-left-init c = ((λ after r t. t), refl, refl)
 

@@ -17,4 +17,4 @@ unfolding new_statement statements_after
 returns c =
     let a = c.args in
     let room = lt-ltb _ 1024 c.if-n-ge1024.false in
-    (rw room, rw room (three_parts a.statements.now _ _ _ (statement_width * a.counts.statements) a.t3 a.t4 a.t5 (search rules) (search rules) (search rules) (omega (arith, c.if-n-ge1024.false, c.requires)) c.store_row.ensures c.store_row-2.ensures c.store_row-3.ensures))
+    (rw room, rw room (three_parts a.statements.now _ _ _ (statement_width * a.counts.statements) a.head a.operand a.place (search rules) (search rules) (search rules) (omega (arith, c.if-n-ge1024.false, c.requires)) c.store_row.ensures c.store_row-2.ensures c.store_row-3.ensures))

@@ -1,3 +1,4 @@
+use borrow.Enum.Refused.{opened}
 use borrow.Author.Rules.{rules}
 use Rattle.image.specs.Operands.{operand_value_holds}
 use Rattle.pattern_rules.proofs.Defaults.{any_bytes}

@@ -7,11 +7,11 @@ use Rattle.pattern_rules.proofs.patterns.constant_holds.Goals as goal
 
 pub returns-then-not-operand_holds : goal.returns-then-not-operand_holds
 unfolding path_holds
-returns-then-not-operand_holds c = rw (← c.operand_holds.ensures, not-true c.operand_holds.result c.if-not-operand_holds.true)
+returns-then-not-operand_holds c = rw (← c.operand_holds.ensures, c.if-not-operand_holds.true)
 
 pub operand_at-row-requires : goal.operand_at-row-requires
-operand_at-row-requires c = (c.requires, operand_listed _ _ _ c.requires (sym c.operand_holds.ensures ∙ not-false c.operand_holds.result c.if-not-operand_holds.false))
+operand_at-row-requires c = (c.requires, operand_listed _ _ _ c.requires (sym c.operand_holds.ensures ∙ c.if-not-operand_holds.false))
 
 pub returns : goal.returns
 unfolding path_holds
-returns c = rw (← c.operand_holds.ensures, not-false c.operand_holds.result c.if-not-operand_holds.false, ← c.operand_at-row.ensures)
+returns c = rw (← c.operand_holds.ensures, c.if-not-operand_holds.false, ← c.operand_at-row.ensures)

@@ -1,3 +1,4 @@
+use borrow.Enum.Refused.{opened}
 use borrow.Author.Rules.{rules}
 use Rattle.image.specs.Patterns.{pattern_shape_holds}
 use Rattle.pattern_rules.proofs.Defaults.{names_nothing_lem}
