@@ -291,11 +291,11 @@ def turn(names, key, crate, folder, path):
         if re.sub(r"\s+", " ", body).strip() == "search rules":
             continue
         root = params[0] if params else None
-        for p in params[1:]:
-            if re.search(rf"(?<![\w.]){re.escape(p)}(?![\w])", body):
-                doubts.append(f"{new}: {p} is used")
+        more = [p for p in params[1:] if p != "κs"]
+        if "κs" in params[1:] and re.search(r"(?<![\w.])κs(?![\w])", body):
+            doubts.append(f"{new}: κs is used")
         out = answer_body(body, root, chain)
-        left = f"{new} {root}" if root else new
+        left = " ".join([new, *([root] if root else []), *more])
         answers.append("\n".join([*notes, f"pub {new} : goal.{new}", *unfolds, f"{left} ={out}"]))
     module = ".".join(key.split(".")[1:-1])
     base = f"Rattle.{crate}.proofs.{module}"
@@ -409,11 +409,11 @@ def turn_cycle(names, base, crate, folder, path):
                 root, *more = it.group(1).split()
             if re.sub(r"\s+", " ", body).strip() == "search rules":
                 continue
-            doubts += [f"{new}: {p} is used" for p in more if re.search(rf"(?<![\w.]){re.escape(p)}(?![\w])", body)]
+            more = [p for p in more if p != "κs"]
             out = answer_body(body, root, chain)
             out = re.sub(rf"(?<![\w.]){re.escape(root)}\.requires\.0(?![\w-])", f"{root}.decreases", out)
             out = re.sub(rf"(?<![\w.]){re.escape(root)}\.requires\.1(?![\w-])", f"{root}.requires", out)
-            answers.append("\n".join([*notes, f"pub {new} : goal.{new}", *unfolds, f"{new} {time} {root} ={out}"]))
+            answers.append("\n".join([*notes, f"pub {new} : goal.{new}", *unfolds, " ".join([new, time, root, *more]) + f" ={out}"]))
     keep = [u for u in uses if not re.search(r"\.(Tie|Lts\S*|Reads|Kinds|Statement)( as \S+|\.\{[^}]*\})?$|\.\{statement\}$|PlainCycle|Kinds\.\{|\.Proof\.", u)]
     with open(os.path.join(folder, "Invariants.antt"), "w", encoding="utf-8") as it:
         it.write("\n".join([*keep, f"use {base}.Given as goal"]) + "\n\n" + "\n\n".join(invariants) + "\n")

@@ -13,11 +13,11 @@ variant_field-requires-in-Union c = c.requires
 
 pub returns-in-Struct : goal.returns-in-Struct
 unfolding adt_field_ty
-returns-in-Struct c = rw (c.in-Struct.is, first_of_range c.args.v count some) c.variant_field.ensures
+returns-in-Struct c count some = rw (c.in-Struct.is, first_of_range c.args.v count some) c.variant_field.ensures
 
 pub returns-in-Union : goal.returns-in-Union
 unfolding adt_field_ty
-returns-in-Union c = rw (c.in-Union.is, first_of_range c.args.v count some) c.variant_field-in-Union.ensures
+returns-in-Union c count some = rw (c.in-Union.is, first_of_range c.args.v count some) c.variant_field-in-Union.ensures
 
 pub returns-in_default : goal.returns-in_default
-returns-in_default c = no_adt_field _ _ _ _ c.in_default.in_default-own.keys3
+returns-in_default c count some = no_adt_field _ _ _ _ c.in_default.in_default-own.keys3

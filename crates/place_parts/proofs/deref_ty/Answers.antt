@@ -7,7 +7,7 @@ use Rattle.place_parts.proofs.deref_ty.Goals as goal
 
 pub returns-in-Reference : goal.returns-in-Reference
 unfolding deref_ty shape_by
-returns-in-Reference c = rw c.in-Reference.is
+returns-in-Reference c image = rw c.in-Reference.is
 
 pub returns-in_default : goal.returns-in_default
-returns-in_default c = no_deref image _ _ (opened c.in_default.in_default-own.keys2)
+returns-in_default c image = no_deref image _ _ (opened c.in_default.in_default-own.keys2)

@@ -7,11 +7,11 @@ use Rattle.place_parts.proofs.subslice_ty.Goals as goal
 
 pub returns-in-Array : goal.returns-in-Array
 unfolding subslice_ty shape_by
-returns-in-Array c = rw c.in-Array.is
+returns-in-Array c image = rw c.in-Array.is
 
 pub returns-in-Slice : goal.returns-in-Slice
 unfolding subslice_ty shape_by
-returns-in-Slice c = rw c.in-Slice.is
+returns-in-Slice c image = rw c.in-Slice.is
 
 pub returns-in_default : goal.returns-in_default
-returns-in_default c = no_part image _ _ _ (opened c.in_default.in_default-own.keys3)
+returns-in_default c image = no_part image _ _ _ (opened c.in_default.in_default-own.keys3)
