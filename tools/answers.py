@@ -160,14 +160,33 @@ class Chain:
         return "".join("." + f for f in fields)
 
 
-ATOM = r"(?:_|\((?:[^()]|\([^()]*\))*\)|[^\s(),\[\]]+)"
-TESTED = re.compile(rf"not[-_](?:true|false)\s+{ATOM}\s+([^\s(),\[\]]+\.(?:true|false))(?![\w.-])")
+TESTED = re.compile(r"(?<![\w.-])not[-_](?:true|false)(?=\s)")
+
+
+def untested(text):
+    """`not-true x h` and `not-false x h` become h, where h is what a test came to."""
+    at = 0
+    while True:
+        it = TESTED.search(text, at)
+        if not it:
+            return text
+        rest = text[it.end() :]
+        given = arguments(rest)[:2] if not rest.lstrip().startswith((",", ")")) else []
+        if len(given) == 2 and re.search(r"\.(true|false)$", given[1].rstrip(",")):
+            first = rest.index(given[0])
+            second = rest.index(given[1], first + len(given[0]))
+            text = text[: it.start()] + rest[second:]
+            at = it.start()
+        else:
+            at = it.end()
+
+
 DEFAULT = re.compile(r"(?<!opened )(?<![\w.])([\w«»]+(?:\.[^\s(){}\[\],;.]+)*\.in_default[^\s(){}\[\],;.]*-own\.keys\d+)")
 
 
 def mended(text):
     """A test of `!x` says of x itself what it came to, and the fact of a default arm on an enum is sealed."""
-    text = TESTED.sub(r"\1", text)
+    text = untested(text)
     new = DEFAULT.sub(r"(opened \1)", text)
     if new != text and "{opened}" not in new:
         new = "use borrow.Enum.Refused.{opened}\n" + new
@@ -288,7 +307,7 @@ def turn(names, key, crate, folder, path):
             notes, unfolds, params, body = [], [], it.group(1).split(), " " + it.group(2).strip()
         else:
             notes, unfolds, params, body = [], [], [], " " + given_one
-        if re.sub(r"\s+", " ", body).strip() == "search rules":
+        if re.sub(r"\s+", " ", body).strip() == "search rules" and not unfolds:
             continue
         root = params[0] if params else None
         more = [p for p in params[1:] if p != "κs"]
@@ -407,7 +426,7 @@ def turn_cycle(names, base, crate, folder, path):
                     continue
                 notes, unfolds, time, body = [], [], "t", " " + it.group(2).strip()
                 root, *more = it.group(1).split()
-            if re.sub(r"\s+", " ", body).strip() == "search rules":
+            if re.sub(r"\s+", " ", body).strip() == "search rules" and not unfolds:
                 continue
             more = [p for p in more if p != "κs"]
             out = answer_body(body, root, chain)
