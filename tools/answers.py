@@ -70,7 +70,9 @@ def arguments(text):
             elif c in ")]}":
                 depth -= 1
                 if depth < 0:
-                    return found
+                    return found + [text[start:at]] * (at > start)
+            elif c == "," and depth == 0:
+                return found + [text[start:at]] * (at > start)
             elif c.isspace() and depth == 0:
                 break
             at += 1

@@ -13,7 +13,7 @@ pub node_at-f-requires : goal.node_at-f-requires
 node_at-f-requires c = omega (arith, c.loop-d.invariant.shallow, c.requires.0)
 
 pub returns-then-not-passes : goal.returns-then-not-passes
-returns-then-not-passes c = record { goes = c.loop-d.invariant.goes; rests = passes_none _ _ _ _ (omega arith) c.node_at-f.ensures (sym c.passes.ensures ∙ not-true c.passes.result c.if-not-passes.true); total = c.loop-d.invariant.total; shallow = c.loop-d.invariant.shallow }
+returns-then-not-passes c = record { goes = c.loop-d.invariant.goes; rests = passes_none _ _ _ _ (omega arith) c.node_at-f.ensures (sym c.passes.ensures ∙ c.if-not-passes.true); total = c.loop-d.invariant.total; shallow = c.loop-d.invariant.shallow }
 
 pub grown_row-requires : goal.grown_row-requires
 grown_row-requires c = parts_fit_lem _ c.requires.1 (omega (arith, c.loop-d.invariant.shallow)) c.node_at-f.ensures
@@ -28,7 +28,7 @@ pub loop-d-smaller : goal.loop-d-smaller
 loop-d-smaller c = omega arith
 
 pub loop-d-preserved : goal.loop-d-preserved
-loop-d-preserved c = passes_one _ _ c.loop-d.invariant (omega arith) (omega arith) c.node_at-f.ensures (sym c.passes.ensures ∙ not-false c.passes.result c.if-not-passes.false) c.grown_row.ensures c.put_node.ensures
+loop-d-preserved c = passes_one _ _ c.loop-d.invariant (omega arith) (omega arith) c.node_at-f.ensures (sym c.passes.ensures ∙ c.if-not-passes.false) c.grown_row.ensures c.put_node.ensures
 
 pub returns : goal.returns
 returns c = record { goes = λ text names. rw (zero_of c.loop-d-test.false) at (c.loop-d.invariant.goes text names); rests = passes_nothing _ _ refl; total = omega (arith, c.loop-d.invariant.total); shallow = omega arith }
