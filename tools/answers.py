@@ -174,7 +174,7 @@ def untested(text):
             return text
         rest = text[it.end() :]
         given = arguments(rest)[:2] if not rest.lstrip().startswith((",", ")")) else []
-        if len(given) == 2 and re.search(r"\.(true|false)$", given[1].rstrip(",")):
+        if len(given) == 2 and not given[0].startswith("(") and (given[0] == "_" or given[0].endswith(".result")) and re.search(r"\.(true|false)$", given[1]):
             first = rest.index(given[0])
             second = rest.index(given[1], first + len(given[0]))
             text = text[: it.start()] + rest[second:]
