@@ -1,3 +1,4 @@
+use mathlib.Core.Bool.{not}
 use Prim.Native.Nat.{◌-◌}
 use mathlib.Core.Path.{ap, ◌∙◌}
 use native.Mathlib.Omega.{arith}
@@ -32,7 +33,7 @@ bounds-elems-i c = omega (arith, c.loop-i-test.true, c.if-place-gt16.false)
 
 pub returns-then-not-elem_holds : goal.returns-then-not-elem_holds
 unfolding place_holds
-returns-then-not-elem_holds c = rw (lt-ltb _ _ c.if-counts-place.false, le-leb _ _ c.if-place-gt16.false) (test_fails (λ j. elem_holds c.args.variants (elem_of (get_or c.args.place.elems j 0))) c.args.place.len c.loop-i.i c.elem_holds.result c.loop-i-test.true (c.elem_holds.ensures ∙ ap (elem_holds c.args.variants) c.elem_of.ensures) c.if-not-elem_holds.true)
+returns-then-not-elem_holds c = rw (lt-ltb _ _ c.if-counts-place.false, le-leb _ _ c.if-place-gt16.false) (test_fails (λ j. elem_holds c.args.variants (elem_of (get_or c.args.place.elems j 0))) c.args.place.len c.loop-i.i c.elem_holds.result c.loop-i-test.true (c.elem_holds.ensures ∙ ap (elem_holds c.args.variants) c.elem_of.ensures) (ap not c.if-not-elem_holds.true))
 
 pub overflow_add-i : goal.overflow_add-i
 overflow_add-i c = omega (arith, c.loop-i-test.true, c.if-place-gt16.false)
@@ -41,7 +42,7 @@ pub loop-i-smaller : goal.loop-i-smaller
 loop-i-smaller c = omega (arith, c.loop-i-test.true)
 
 pub loop-i-preserved : goal.loop-i-preserved
-loop-i-preserved c = test_holds (λ j. elem_holds c.args.variants (elem_of (get_or c.args.place.elems j 0))) c.args.place.len c.loop-i.i c.elem_holds.result c.loop-i.invariant c.loop-i-test.true (c.elem_holds.ensures ∙ ap (elem_holds c.args.variants) c.elem_of.ensures) c.if-not-elem_holds.false
+loop-i-preserved c = test_holds (λ j. elem_holds c.args.variants (elem_of (get_or c.args.place.elems j 0))) c.args.place.len c.loop-i.i c.elem_holds.result c.loop-i.invariant c.loop-i-test.true (c.elem_holds.ensures ∙ ap (elem_holds c.args.variants) c.elem_of.ensures) (ap not c.if-not-elem_holds.false)
 
 pub returns : goal.returns
 unfolding place_holds

@@ -1,0 +1,34 @@
+use borrow.Author.Rules.{rules}
+use Prim.Native.Nat.{◌+◌}
+use native.Mathlib.Omega.{arith}
+use Rattle.listing_places.proofs.rows.four_words.Goals as goal
+
+pub overflow_cast-a : goal.overflow_cast-a
+overflow_cast-a c = omega (arith, c.type_inv.row c.args.k)
+
+pub overflow_cast-b : goal.overflow_cast-b
+overflow_cast-b c = omega (arith, c.type_inv.row (c.args.k + 1))
+
+pub overflow_cast-c : goal.overflow_cast-c
+overflow_cast-c c = omega (arith, c.type_inv.row (c.args.k + 2))
+
+pub overflow_cast-d : goal.overflow_cast-d
+overflow_cast-d c = omega (arith, c.type_inv.row (c.args.k + 3))
+
+pub overflow_mul-result : goal.overflow_mul-result
+overflow_mul-result c = omega (arith, c.type_inv.row (c.args.k + 1))
+
+pub overflow_add-result : goal.overflow_add-result
+overflow_add-result c = omega (arith, c.type_inv.row c.args.k, c.type_inv.row (c.args.k + 1))
+
+pub overflow_mul-result-2 : goal.overflow_mul-result-2
+overflow_mul-result-2 c = omega (arith, c.type_inv.row (c.args.k + 2))
+
+pub overflow_add-result-2 : goal.overflow_add-result-2
+overflow_add-result-2 c = omega (arith, c.type_inv.row c.args.k, c.type_inv.row (c.args.k + 1), c.type_inv.row (c.args.k + 2))
+
+pub overflow_mul-result-3 : goal.overflow_mul-result-3
+overflow_mul-result-3 c = omega (arith, c.type_inv.row (c.args.k + 3))
+
+pub overflow_add-result-3 : goal.overflow_add-result-3
+overflow_add-result-3 c = omega (arith, c.type_inv.row c.args.k, c.type_inv.row (c.args.k + 1), c.type_inv.row (c.args.k + 2), c.type_inv.row (c.args.k + 3))
