@@ -34,11 +34,11 @@ OPENED = {
     'pattern_reading': ('Reads',),
 }
 # Printers of trees, and what two files call alike: these are not computed, or are opened by their whole name.
-LEFT_OUT = re.compile(r'\w*T$')
+LEFT_OUT = re.compile(r'\w*_t$')
 CLASSES = ('text', 'laser', 'mixed')
 LONGEST, LARGEST, A_FILE, CHANCE = 100, 1200, 60, 15
 # What the rows' own file computes with.
-OWN = 'total, told, typesTold, patternsTold, bindingsTold, draftTold, drafted, answered'
+OWN = 'total, told, types_told, patterns_told, bindings_told, draft_told, drafted, answered'
 OPENED_OWN = OWN.replace(',', '')
 MODULUS, FACTOR = 2 ** 61 - 1, 1_000_003
 
@@ -56,7 +56,7 @@ def opened():
                     found = re.findall(r'^  pub (\S+) :', block, re.M)
                 else:
                     found = re.findall(r'^unfoldable pub (\S+) :', block)
-                names += [f'Rattle·{crate}.specs.{file}.{name}' for name in found if not LEFT_OUT.fullmatch(name)]
+                names += [f'Rattle.{crate}.specs.{file}.{name}' for name in found if not LEFT_OUT.fullmatch(name)]
     return ' '.join(names)
 
 
@@ -90,71 +90,72 @@ def wanted(answer, sheet, whole):
     return numbers(said + [len(m.list) - len(s.list)] + m.list[len(s.list):] + list(m.data[len(s.data):]))
 
 
-HEAD = '''use Prim.Native.Nat.{ℕ, _+_, _*_, _%_}
-use mathlib.Core.Path.{_≡_, refl}
-use mathlib.Core.List.{List, [], _∷_, map}
-use Rattle·text_chars.specs.Bytes.{ascii}
+HEAD = '''use Prim.Native.Nat.{ℕ, ◌+◌, ◌*◌, ◌%◌}
+use mathlib.Core.Path.{◌≡◌, refl}
+use mathlib.Core.List.{List, [], ◌∷◌, map}
+use Rattle.text_chars.specs.Bytes.{ascii}
 '''
 
 
 def tables(named):
     """the file of the sheets and name tables, and of what a row is"""
     lines = ['-- The sheets and name tables of the rows, and what a row asks for. Assumes nothing.', HEAD.rstrip()]
-    lines += ['use mathlib.Core.Bool.{cond}', 'use mathlib.Core.Option.{Option, none, some}', 'use mathlib.Core.List.{_++_}', 'use lib.ListN.{length}',
-              'use Rattle·image.specs.declared.rows.TypeRow.{TypeRow}', 'use Rattle·image.specs.declared.rows.PatRow.{PatRow}',
-              'use Rattle·image.specs.declared.rows.BindingRow.{BindingRow}', 'use Rattle·pattern_grammar.specs.Parsed.{parsed}',
-              'use Rattle·pattern_syntax.specs.Written.{Written}', 'use Rattle·pattern_syntax.specs.Reduced.{reduced}',
-              'use Rattle·pattern_typing.specs.Contexts.{typed}', 'use Rattle·pattern_typing.specs.Failing.{refusedIn}',
-              'use Rattle·pattern_images.specs.Drafts.{Draft}', 'use Rattle·pattern_images.specs.Imaging.{withinImageLimits}',
-              'use Rattle·pattern_reading.specs.Reads.{Answer, imageOf, refusedWith, Outcome, treeIs, failsAt, outcome, draftOf, readPattern}', '']
+    lines += ['use mathlib.Core.Bool.{cond}', 'use mathlib.Core.Option.{Option, none, some}', 'use mathlib.Core.List.{◌++◌}', 'use lib.ListN.{length}',
+              'use Rattle.image.specs.declared.rows.TypeRow.{TypeRow}', 'use Rattle.image.specs.declared.rows.PatRow.{PatRow}',
+              'use Rattle.image.specs.declared.rows.BindingRow.{BindingRow}', 'use Rattle.pattern_grammar.specs.Parsed.{parsed}',
+              'use Rattle.pattern_syntax.specs.Written.{Written}', 'use Rattle.pattern_syntax.specs.Reduced.{reduced}',
+              'use Rattle.pattern_typing.specs.Contexts.{typed}', 'use Rattle.pattern_typing.specs.Failing.{refused_in}',
+              'use Rattle.pattern_images.specs.Drafts.{Draft}', 'use Rattle.pattern_images.specs.Imaging.{within_image_limits}',
+              'use Rattle.pattern_reading.specs.Reads.{Answer, image_of, refused_with, Outcome, tree_is, fails_at, outcome, draft_of, read_pattern}', '']
     for data, name in named.items():
         lines += [f'abbrev pub {name} : List ℕ', f'{name} = {numbers(data)}', '']
     lines += ['-- a sum over bytes in which each place counts', 'unfoldable pub total : ℕ → List ℕ → ℕ', 'total h [] = h',
               f'total h (b ∷ bs) = total ((h * {FACTOR} + b + 1) % {MODULUS}) bs', '']
     lines += ['-- an answer in numbers: a refusal by its number and position, an image by its length and sum', 'unfoldable pub told : Answer → List ℕ',
-              'told (imageOf bytes) = 1 ∷ length bytes ∷ total 0 bytes ∷ []', 'told (refusedWith number at) = 0 ∷ number ∷ at ∷ []', '']
+              'told (image_of bytes) = 1 ∷ length bytes ∷ total 0 bytes ∷ []', 'told (refused_with number at) = 0 ∷ number ∷ at ∷ []', '']
     for table, row, words in (('types', 'TypeRow', 'kind a b c copy'), ('patterns', 'PatRow', 'kind ty derefs a b c d'), ('bindings', 'BindingRow', 'ty picked')):
-        lines += [f'unfoldable pub {table}Told : List {row} → List ℕ', f'{table}Told [] = []',
-                  f"{table}Told (r ∷ rs) = {' ∷ '.join('r .' + word for word in words.split())} ∷ {table}Told rs", '']
-    lines += ['-- what is added to a sheet, in numbers', 'unfoldable pub draftTold : Draft → List ℕ',
-              'draftTold d =', '    length (d .types) ∷ (typesTold (d .types)',
-              '    ++ (length (d .patterns) ∷ (patternsTold (d .patterns)',
-              '    ++ (length (d .bindings) ∷ (bindingsTold (d .bindings) ++ (length (d .words) ∷ (d .words ++ d .bytes)))))))', '']
+        lines += [f'unfoldable pub {table}_told : List {row} → List ℕ', f'{table}_told [] = []',
+                  f"{table}_told (r ∷ rs) = {' ∷ '.join('r.' + word for word in words.split())} ∷ {table}_told rs", '']
+    lines += ['-- what is added to a sheet, in numbers', 'unfoldable pub draft_told : Draft → List ℕ',
+              'draft_told d =', '    length d.types ∷ (types_told d.types',
+              '    ++ (length d.patterns ∷ (patterns_told d.patterns',
+              '    ++ (length d.bindings ∷ (bindings_told d.bindings ++ (length d.words ∷ (d.words ++ d.bytes)))))))', '']
     lines += ['pub record Row : Type 0 where', '  pub text : List ℕ', '  pub sheet : List ℕ', '  pub names : List ℕ', '  pub expected : ℕ', '  pub wanted : List ℕ', '',
               'abbrev pub row : List ℕ → List ℕ → List ℕ → ℕ → List ℕ → Row',
               'row t s n e w = record { text = t; sheet = s; names = n; expected = e; wanted = w }', '',
               '-- reading over a sheet, a name table and a type that are known to hold', 'unfoldable pub drafted : Row → Option ℕ → Draft → List ℕ',
               'drafted r (some at) d = 0 ∷ 20 ∷ at ∷ []',
-              'drafted r none d = cond (withinImageLimits (r .sheet) d) (1 ∷ draftTold d) (0 ∷ 1 ∷ 65535 ∷ [])', '',
-              'abbrev pub draftedTree : Row → Written → List ℕ',
-              'draftedTree r w = drafted r (refusedIn (r .sheet) (r .names) w (typed (r .expected) 0)) (draftOf (r .sheet) (r .names) (r .expected) w)', '',
+              'drafted r none d = cond (within_image_limits r.sheet d) (1 ∷ draft_told d) (0 ∷ 1 ∷ 65535 ∷ [])', '',
+              'abbrev pub drafted_tree : Row → Written → List ℕ',
+              'drafted_tree r w = drafted r (refused_in r.sheet r.names w (typed r.expected 0)) (draft_of r.sheet r.names r.expected w)', '',
               'unfoldable pub answered : Row → Outcome → List ℕ',
-              'answered r (failsAt at) = 0 ∷ 19 ∷ at ∷ []', 'answered r (treeIs p) = draftedTree r (reduced (r .text) p)', '',
-              'abbrev pub given : Row → List ℕ', 'given r = answered r (outcome (parsed (r .text)))', '',
-              '-- reading as a whole', 'abbrev pub givenWhole : Row → List ℕ',
-              'givenWhole r = told (readPattern (r .text) (r .sheet) (r .names) (r .expected))', '',
-              'abbrev pub wants : Row → List ℕ', 'wants r = r .wanted', '']
+              'answered r (fails_at at) = 0 ∷ 19 ∷ at ∷ []', 'answered r (tree_is p) = drafted_tree r (reduced r.text p)', '',
+              'abbrev pub given : Row → List ℕ', 'given r = answered r (outcome (parsed r.text))', '',
+              '-- reading as a whole', 'abbrev pub given_whole : Row → List ℕ',
+              'given_whole r = told (read_pattern r.text r.sheet r.names r.expected)', '',
+              'abbrev pub wants : Row → List ℕ', 'wants r = r.wanted', '']
     return '\n'.join(lines)
 
 
 def held(named):
     """the file that says that the classes' tables hold"""
     lines = ["-- The classes' sheets and name tables hold their rules. Assumes nothing.", HEAD.rstrip(), 'use mathlib.Core.Bool.{true}',
-             'use Rattle·type_sheets.specs.Sheets.{sheetHolds}', 'use Rattle·name_tables.specs.Names.{namesHold}',
-             f'use Rattle·reading_samples·proofs.proofs.Tables.{{{", ".join(named[data] for name in CLASSES for data in class_tables(name))}}}', '']
+             'use Rattle.type_sheets.specs.Sheets.{sheet_holds}', 'use Rattle.name_tables.specs.Names.{names_hold}',
+             f'use Rattle.reading_samples.proofs.Tables.{{{", ".join(named[data] for name in CLASSES for data in class_tables(name))}}}', '']
     for name in CLASSES:
-        lines += [f'pub {name}-holds : sheetHolds {name}Sheet ≡ true', f'unfolding {opened()}', f'{name}-holds = refl', '',
-                  f'pub {name}-names-hold : namesHold {name}Sheet {name}Names ≡ true', f'unfolding {opened()}', f'{name}-names-hold = refl', '']
+        lines += [f'pub {name}_holds : sheet_holds {name}_sheet ≡ true', f'unfolding {opened()}', f'{name}_holds = refl', '',
+                  f'pub {name}_names_hold : names_hold {name}_sheet {name}_names ≡ true', f'unfolding {opened()}', f'{name}_names_hold = refl', '']
     return '\n'.join(lines)
 
 
 def file_of(called, given, rows, tables_of):
     """the file of some rows"""
+    called = called.lower()
     lines = ['-- Texts read over sheets and name tables: the definitions, computed. Assumes nothing.', HEAD.rstrip(),
-             f'use Rattle·reading_samples·proofs.proofs.Tables.{{Row, row, {given}, wants, {OWN}, {", ".join(sorted(tables_of))}}}', '',
-             f'unfoldable pub rows{called} : List Row', f'rows{called} =', '    ' + '\n    ∷ '.join(rows) + '\n    ∷ []', '',
-             f'pub as-judged-{called} : map {given} rows{called} ≡ map wants rows{called}', f'unfolding rows{called} {OPENED_OWN} {opened()}',
-             f'as-judged-{called} = refl', '']
+             f'use Rattle.reading_samples.proofs.Tables.{{Row, row, {given}, wants, {OWN}, {", ".join(sorted(tables_of))}}}', '',
+             f'unfoldable pub rows_{called} : List Row', f'rows_{called} =', '    ' + '\n    ∷ '.join(rows) + '\n    ∷ []', '',
+             f'pub as_judged_{called} : map {given} rows_{called} ≡ map wants rows_{called}', f'unfolding rows_{called} {OPENED_OWN} {opened()}',
+             f'as_judged_{called} = refl', '']
     return '\n'.join(lines)
 
 
@@ -166,21 +167,21 @@ def is_spare(name):
 
 def files():
     """each file's text by its name"""
-    named, made, rows = {}, {}, {'given': [], 'givenWhole': []}
+    named, made, rows = {}, {}, {'given': [], 'given_whole': []}
     classes = {class_tables(name) for name in CLASSES}
     for name in CLASSES:
-        for what, data in zip(('Sheet', 'Names'), class_tables(name)):
+        for what, data in zip(('_sheet', '_names'), class_tables(name)):
             named[data] = name + what
     for name, text, sheet, names, expected in calls():
         if len(text) > LONGEST or max(len(sheet), len(names)) > LARGEST or is_spare(name):
             continue
         own = [named.setdefault(data, f'{what}{len(named)}') for what, data in (('sheet', sheet), ('names', names))]
-        given = 'given' if (sheet, names) in classes and expected < len(decode(sheet).types) else 'givenWhole'
-        answer = wanted(read(text, sheet, names, expected), sheet, given == 'givenWhole')
+        given = 'given' if (sheet, names) in classes and expected < len(decode(sheet).types) else 'given_whole'
+        answer = wanted(read(text, sheet, names, expected), sheet, given == 'given_whole')
         rows[given].append((own, f"row {quoted(text)} {' '.join(own)} {expected} ({answer})"))
     for given, own_rows in rows.items():
         for first in range(0, len(own_rows), A_FILE):
-            part, called = own_rows[first:first + A_FILE], f"{'Whole' if given == 'givenWhole' else 'Typed'}{first // A_FILE + 1}"
+            part, called = own_rows[first:first + A_FILE], f"{'Whole' if given == 'given_whole' else 'Typed'}{first // A_FILE + 1}"
             made[called] = file_of(called, given, [text for _, text in part], {table for own, _ in part for table in own})
     made['Tables'], made['Held'] = tables(named), held(named)
     made['Lib'] = ''.join(f'pub mod {name}\n' for name in sorted(made))
