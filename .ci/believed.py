@@ -21,12 +21,12 @@ AUDIT = [f"audit/proofs/{name}" for name in ("Audit", "Parameters", "Defined", "
 PAGE = (("demands 2 and 3, with parameters", AUDIT[:2]), ("all of the page", AUDIT), ("patterns as text", ["reading_audit/proofs/Texts"]))
 # The lowering's definition and the steps that it is made of; of `lower_spec` and `state` the rest is read as tables are.
 LOWERING = re.compile(r"crates/(pattern_matching|literals|drop_scopes_spec)/specs/|crates/(params_spec/specs/Params|lower_spec/specs/(Temps|Merging)|state/specs/Steps|mir/specs/Rvalues)")
-# `placeTy` and the shape of a place stand among the lowering's files, but are read by the counts and the fit.
-READ_BY_OTHERS = {"placeTy", "shapeOf", "Ctx", "Out", "Walk", "localPlace", "fieldsUpTo", "suffixItems", "Param", "ParamsOut", "Declared", "selfCount"}
+# `place_ty` and the shape of a place stand among the lowering's files, but are read by the counts and the fit.
+READ_BY_OTHERS = {"place_ty", "shape_of", "Ctx", "Out", "Walk", "local_place", "fields_up_to", "suffix_items", "Param", "ParamsOut", "Declared", "self_count"}
 # What a call's contract promises of its answer.
 CONTRACT = re.compile(r"Promised\w*$")
 
-USE = re.compile(r"^use Rattle·(\w+?)(?:·specs|·proofs)?((?:\.\w+)+)\.\{([^}]*)\}", re.M)
+USE = re.compile(r"^use Rattle\.(\w+)((?:\.\w+)+)\.\{([^}]*)\}", re.M)
 HEAD = re.compile(r"^( *)(?:(?:unfoldable|abbrev) )?(?:pub )?(?:(record|data) )?([^\s:(]+)(?: |$)")
 NAME = re.compile(r"[^\s(){},.;λ∷]+")
 WORDS = {"use", "module", "mutual", "unfoldable", "unfolding", "where", "--", "let", "in"}

@@ -91,8 +91,8 @@ OF_MATCHES = (
      "        MatchingMode::Check,\n        p,\n        current,\n        els,\n",
      "        MatchingMode::Check,\n        p,\n        current,\n        OptBlock::None,\n"),
     ("the projection that is handed in is dropped", "pattern_match_call/src/lib.rt",
-     "                els,\n                place,\n            )\n        }\n",
-     "                els,\n                Place { local: place.local, len: 0, elems: [0u32; 16] },\n            )\n        }\n"),
+     "                image, tables, bindings, body, visits, counts, p, current, els, place,\n            )\n        }\n",
+     "                image, tables, bindings, body, visits, counts, p, current, els, Place { local: place.local, len: 0, elems: [0u32; 16] },\n            )\n        }\n"),
     ("what is live enters the scope before the last", "pattern_match_call/src/lib.rt", MATCHED,
      "        Lowered::Done(c, then, other) => {\n"
      "            if 1 < counts.scopes {\n                body[body_tables::SCOPES + ((counts.scopes - 1) as usize)] = c.entries;\n            }\n"

@@ -27,7 +27,7 @@ REPOSITORY = Path(__file__).resolve().parent.parent
 THEOREMS = ("counting", "growth", "named", "meaning", "correctness", "fitted", "room", "param_runs", "called", "audit")
 # The crate of the page's rows alone, over the definitions that they are computed from.
 ROWS_STAND_ON = "refusals row_tables image cases_spec place mir state literals lower_spec views pattern_matching counting meaning"
-ERROR = re.compile(r"crates/(\w+)/(specs|proofs)/([\w/]+)\.antt:\d+:\d+: error: `([^`]+)`(.*)")
+ERROR = re.compile(r"^(?:\./)?(?:crates/(\w+)/)?(specs|proofs)/([\w/+]+)\.antt:\d+:\d+: error: `([^`]+)`(.*)", re.MULTILINE)
 
 
 def dependencies():
@@ -49,25 +49,24 @@ def check(copy, crate):
 
 
 def take(name, source, target):
-    """What is proved of a crate, from one folder to another, if it is there."""
-    if (source / "stamp" / name).exists():
-        shutil.rmtree(target / "rlib" / f"{name}.rlib", ignore_errors=True)
-        shutil.copytree(source / "rlib" / f"{name}.rlib", target / "rlib" / f"{name}.rlib")
-        (target / "stamp").mkdir(exist_ok=True)
-        shutil.copy2(source / "stamp" / name, target / "stamp" / name)
+    """What is proved of a crate, from one folder of crates to another, if it is there."""
+    proved, place = source / "crates" / name / "out/rlib", target / "crates" / name / "out/rlib"
+    if (proved / "stamp").exists():
+        shutil.rmtree(place, ignore_errors=True)
+        shutil.copytree(proved, place)
 
 
 def put_back(copy, saved):
     """What was proved of the crates as they are, where a check has proved them anew."""
-    for stamp in (saved / "stamp").iterdir():
-        anew = copy / "target/stamp" / stamp.name
+    for crate in (saved / "crates").iterdir():
+        stamp, anew = crate / "out/rlib/stamp", copy / "crates" / crate.name / "out/rlib/stamp"
         if not anew.exists() or anew.read_bytes() != stamp.read_bytes():
-            take(stamp.name, saved, copy / "target")
+            take(crate.name, saved, copy)
 
 
 def of_function(file):
     """The function whose proof a file is, if it is one's."""
-    return Path(file).parent.name if Path(file).name == "Proof" else ""
+    return Path(file).parent.name if Path(file).name in ("Proof", "Answers", "Invariants") else ""
 
 
 def refusal(copy, crates):
@@ -80,7 +79,7 @@ def refusal(copy, crates):
                 sys.exit(f"no definition, but an error in {found[0][3]}")
             at = dict.fromkeys(of_function(file) or name for _, _, file, name, why in found if "was not admitted" not in why)
             with_it = dict.fromkeys(name for _, _, file, name, _ in found if name not in at and not of_function(file))
-            return found[0][0], list(at), list(with_it)
+            return found[0][0] or crate, list(at), list(with_it)
     return None
 
 
@@ -125,15 +124,15 @@ def tried(folder, below, change):
 def one_by_one(text):
     """A file of rows with a theorem for each row in place of one for all."""
     unfolding = re.search(r"^unfolding .*$", text, re.MULTILINE)[0]
-    names = re.findall(r"^abbrev (\S+-row) :", text, re.MULTILINE)
-    each = [f"the-{name} : judged {name} ≡ {name}\n{unfolding}\nthe-{name} = refl\n" for name in names]
-    return "\n".join([text[:text.index("-- each row's answers")], *each]).replace("Rattle·audit·", "Rattle·rows·")
+    names = re.findall(r"^abbrev (\S+_row) :", text, re.MULTILINE)
+    each = [f"the_{name} : judged {name} ≡ {name}\n{unfolding}\nthe_{name} = refl\n" for name in names]
+    return "\n".join([text[:text.index("-- each row's answers")], *each]).replace("Rattle.audit.", "Rattle.rows.")
 
 
 def rows_alone(folder, below):
     """A copy of the definitions without the proofs over them, and a crate of the rows."""
     rows, page = folder / "rows", folder / "copy/crates/audit"
-    shutil.copytree(folder / "copy/crates", rows / "crates", ignore=shutil.ignore_patterns("must-fail"))
+    shutil.copytree(folder / "copy/crates", rows / "crates", ignore=shutil.ignore_patterns("must-fail", "out"))
     shutil.rmtree(rows / "crates/meaning/proofs")
     lines = [line for line in (folder / "copy/crates.txt").read_text().splitlines() if line.split(":")[0] in below["meaning"]]
     (rows / "crates.txt").write_text("\n".join([*lines, f"rows: {ROWS_STAND_ON}"]) + "\n")
@@ -145,10 +144,10 @@ def rows_alone(folder, below):
         (rows / "crates/rows" / part / "Lib.antt").write_text("".join(f"pub mod {file}\n" for file in files))
         for file in files:
             text = (page / part / f"{file}.antt").read_text()
-            text = one_by_one(text) if part == "proofs" else text.replace("Rattle·audit·", "Rattle·rows·")
+            text = one_by_one(text) if part == "proofs" else text.replace("Rattle.audit.", "Rattle.rows.")
             (rows / "crates/rows" / part / f"{file}.antt").write_text(text)
     for name in below["meaning"]:
-        take(name, folder / "saved", rows / "target")
+        take(name, folder / "saved", rows)
     proved, printed = check(rows, "rows")
     if not proved:
         sys.exit(f"the rows as they are, are refused:\n{printed}")
@@ -157,15 +156,15 @@ def rows_alone(folder, below):
 def prepare(folder, below):
     """A copy of the crates with what is proved, all of which must be, and what is to be put back."""
     copy, saved = folder / "copy", folder / "saved"
-    shutil.copytree(REPOSITORY / "crates", copy / "crates")
+    shutil.copytree(REPOSITORY / "crates", copy / "crates", ignore=shutil.ignore_patterns("out"))
     shutil.copy2(REPOSITORY / "crates.txt", copy)
     for name in below["audit"]:
-        take(name, REPOSITORY / "target", copy / "target")
+        take(name, REPOSITORY, copy)
     proved, printed = check(copy, "audit")
     if not proved:
         sys.exit(f"the definitions as they are, are refused:\n{printed}")
     for name in below["audit"]:
-        take(name, copy / "target", saved)
+        take(name, copy, saved)
     rows_alone(folder, below)
 
 

@@ -69,21 +69,21 @@ CHANGES = (
     ("a limit is told before a name", "pattern_reading", "Reads", "    unless_refused (refused_in sheet names w (typed expected by_value)) (imaged sheet (draft_of sheet names expected w))",
      "    cond (within_image_limits sheet (draft_of sheet names expected w)) (unless_refused (refused_in sheet names w (typed expected by_value)) (imaged sheet (draft_of sheet names expected w))) (refused_with 1 absent)"),
 )
-ERROR = re.compile(rf"crates/{ROWS}/proofs/(\w+)\.antt:\d+:\d+: error")
+ERROR = re.compile(rf"^(?:\./)?(?:crates/{ROWS}/)?proofs/(\w+)\.antt:\d+:\d+: error", re.MULTILINE)
 
 
 def prepare(folder):
     """A copy of the definitions below the rows, with no proof and no code over them but what declares types."""
     below = dependencies()[ROWS]
     for name in below:
-        shutil.copytree(REPOSITORY / "crates" / name, folder / "crates" / name, ignore=shutil.ignore_patterns("must-fail"))
+        shutil.copytree(REPOSITORY / "crates" / name, folder / "crates" / name, ignore=shutil.ignore_patterns("must-fail", "out"))
     lines = [line for line in (REPOSITORY / "crates.txt").read_text().splitlines() if line.split(":")[0] in below]
     (folder / "crates.txt").write_text("\n".join(lines) + "\n")
     for name in {change[1] for change in CHANGES}:
         shutil.rmtree(folder / "crates" / name / "proofs", ignore_errors=True)
     declarations(folder)
     for name in below:
-        take(name, REPOSITORY / "target", folder / "target")
+        take(name, REPOSITORY, folder)
     proved, printed = check(folder, ROWS)
     if not proved:
         sys.exit(f"the rows as they are, are refused:\n{printed}")
@@ -97,8 +97,9 @@ def declarations(folder):
             if path.name != "lib.rt":
                 path.unlink()
         text = (source / "lib.rt").read_text()
-        kept = "".join(re.findall(r"^pub (?:struct|enum) [^{]*\{.*?^\}\n|^pub const .*?;\n", text, re.M | re.S))
-        uses = [use[0] for use in re.finditer(r"^use [\w:]+::(\w+);\n", text, re.M) if re.search(rf"\({use[1]}\)|: {use[1]}\b", kept)]
+        kept = "".join(re.findall(r"^(?:#\[derive\([^\n]*\n)?pub (?:struct|enum) [^{]*\{.*?^\}\n|^pub const .*?;\n", text, re.M | re.S))
+        named = [(path, use) for path, many, one in re.findall(r"^use ([\w:]+)::(?:\{([^}]*)\}|(\w+));\n", text, re.M) for use in re.findall(r"\w+", many or one)]
+        uses = [f"use {path}::{use};\n" for path, use in named if re.search(rf"\({use}\)|: {use}\b", kept)]
         (source / "lib.rt").write_text("".join(uses) + kept or "// no declaration\n")
 
 
