@@ -22,7 +22,7 @@ def dependencies():
     for line in (ROOT / "crates.txt").read_text(encoding="utf-8").splitlines():
         crate, colon, rest = line.split("#")[0].partition(":")
         if colon:
-            found[crate.strip()] = rest.split()
+            found[crate.split()[0]] = rest.split()
     return found
 
 

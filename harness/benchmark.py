@@ -2,7 +2,7 @@
 """Measures lowerings: the Rattle's and the Rust text's, and prints the tables of docs/BENCHMARK.md.
 
 `benchmark.py [FOLDER]` builds `bench` with the liblowering_c.a of FOLDER, by default
-target/staticlib, where `rt staticlib lowering_c` puts it. Instructions are counted where valgrind is
+crates/lowering_c/out, where `rt lib` puts it. Instructions are counted where valgrind is
 at hand. FITHONGU_RUST_TEXT is the folder of the Rust's text, by default `shared` beside the checkout.
 """
 
@@ -76,7 +76,7 @@ def instruction_lines(folder):
 
 def main():
     """Prints the two tables."""
-    build(Path(sys.argv[1] if sys.argv[1:] else HERE.parent / "target/staticlib").resolve())
+    build(Path(sys.argv[1] if sys.argv[1:] else HERE.parent / "crates/lowering_c/out").resolve())
     print(f"Nanoseconds for one lowering:\n\n{TIMES_HEAD}", flush=True)
     for line in time_lines():
         print(line, flush=True)

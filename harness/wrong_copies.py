@@ -274,7 +274,7 @@ def made(changes):
 
 def changed_copy(folder, changes):
     """A copy of the crates in which texts are others."""
-    shutil.copytree(REPOSITORY / "crates", folder / "crates", ignore=shutil.ignore_patterns("proofs", "must-fail"))
+    shutil.copytree(REPOSITORY / "crates", folder / "crates", ignore=shutil.ignore_patterns("proofs", "must-fail", "out"))
     shutil.copy(REPOSITORY / "crates.txt", folder)
     for file, text in made(changes)[0].items():
         (folder / "crates" / file).write_text(text, encoding="utf-8")

@@ -27,13 +27,13 @@ REPOSITORY = Path(__file__).resolve().parent.parent
 THEOREMS = ("counting", "growth", "named", "meaning", "correctness", "fitted", "room", "param_runs", "called", "audit")
 # The crate of the page's rows alone, over the definitions that they are computed from.
 ROWS_STAND_ON = "refusals row_tables image cases_spec place mir state literals lower_spec views pattern_matching counting meaning"
-ERROR = re.compile(r"^(?:\./)?(?:crates/(\w+)/)?(specs|proofs)/([\w/+]+)\.antt:\d+:\d+: error: `([^`]+)`(.*)", re.MULTILINE)
+ERROR = re.compile(r"^(?:\./)?(specs|proofs)/([\w/+]+)\.antt:\d+:\d+: error: `([^`]+)`(.*)", re.MULTILINE)
 
 
 def dependencies():
     """What each crate stands on, and what that stands on."""
     lines = (line.split("#")[0] for line in (REPOSITORY / "crates.txt").read_text().splitlines())
-    direct = {name: below.split() for name, colon, below in (line.partition(":") for line in lines) if colon}
+    direct = {name.split()[0]: below.split() for name, colon, below in (line.partition(":") for line in lines) if colon}
 
     def all_below(name):
         return {name}.union(*map(all_below, direct.get(name, ())))
@@ -42,7 +42,7 @@ def dependencies():
 
 def check(copy, crate):
     """Whether a crate and all below it are proved, and what was printed."""
-    run = subprocess.run(["rt", "check", crate], cwd=copy, capture_output=True, text=True)
+    run = subprocess.run(["rt", "check"], cwd=copy / "crates" / crate, capture_output=True, text=True)
     if run.returncode not in (0, 1):
         sys.exit(f"rt check {crate} could not tell:\n{run.stdout}{run.stderr}")
     return run.returncode == 0, run.stdout + run.stderr
@@ -75,11 +75,12 @@ def refusal(copy, crates):
         proved, printed = check(copy, crate)
         if not proved:
             found = ERROR.findall(printed) or sys.exit(f"refused without a place:\n{printed}")
-            if found[0][1] == "specs":
-                sys.exit(f"no definition, but an error in {found[0][3]}")
-            at = dict.fromkeys(of_function(file) or name for _, _, file, name, why in found if "was not admitted" not in why)
-            with_it = dict.fromkeys(name for _, _, file, name, _ in found if name not in at and not of_function(file))
-            return found[0][0] or crate, list(at), list(with_it)
+            below = re.search(r"the library (\w+) did not build", printed)
+            if found[0][0] == "specs":
+                sys.exit(f"no definition, but an error in {found[0][2]}")
+            at = dict.fromkeys(of_function(file) or name for _, file, name, why in found if "was not admitted" not in why)
+            with_it = dict.fromkeys(name for _, file, name, _ in found if name not in at and not of_function(file))
+            return below[1] if below else crate, list(at), list(with_it)
     return None
 
 

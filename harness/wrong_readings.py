@@ -69,7 +69,7 @@ CHANGES = (
     ("a limit is told before a name", "pattern_reading", "Reads", "    unless_refused (refused_in sheet names w (typed expected by_value)) (imaged sheet (draft_of sheet names expected w))",
      "    cond (within_image_limits sheet (draft_of sheet names expected w)) (unless_refused (refused_in sheet names w (typed expected by_value)) (imaged sheet (draft_of sheet names expected w))) (refused_with 1 absent)"),
 )
-ERROR = re.compile(rf"^(?:\./)?(?:crates/{ROWS}/)?proofs/(\w+)\.antt:\d+:\d+: error", re.MULTILINE)
+ERROR = re.compile(r"^(?:\./)?proofs/(\w+)\.antt:\d+:\d+: error", re.MULTILINE)
 
 
 def prepare(folder):
