@@ -345,7 +345,7 @@ def quoted(text):
 
 
 def print_rows(name, texts):
-    print(f'unfoldable pub {name}Rows : List Row\n{name}Rows =')
+    print(f'unfoldable pub {name}_rows : List Row\n{name}_rows =')
     for k, text in enumerate(texts):
         wanted = ' ∷ '.join(map(str, verdict(text)))
         print(f'    {"∷ " if k else ""}row ({quoted(text)}) ({wanted} ∷ [])')
