@@ -26,10 +26,10 @@ pub loop-i-smaller : goal.loop-i-smaller
 loop-i-smaller c = omega (arith, c.loop-i-test.true)
 
 pub loop-i-preserved : goal.loop-i-preserved
-loop-i-preserved c = going_more c.loop-i.invariant c.put_local-written.ensures c.put_local-written.auto.0 (locals_more c.args.locals.now c.args.count (omega (arith, c.requires.0, c.requires.1)) c.loop-i.i c.loop-i-test.true)
+loop-i-preserved c = going_more c.loop-i.invariant c.put_local-written.ensures c.put_local-written.auto.out (locals_more c.args.locals.now c.args.count (omega (arith, c.requires.0, c.requires.1)) c.loop-i.i c.loop-i-test.true)
 
 pub shape_of-out : goal.shape_of-out
-shape_of-out c = omega (arith, c.loop-i.invariant.long, c.put-written.auto.0)
+shape_of-out c = omega (arith, c.loop-i.invariant.long, c.put-written.auto.out)
 
 pub returns : goal.returns
 returns c = and_then_lem c.put-written.ensures (going_end c.loop-i.invariant (locals_end c.args.locals.now c.args.count (omega (arith, c.requires.0, c.requires.1)) c.loop-i.i c.loop-i-test.false))

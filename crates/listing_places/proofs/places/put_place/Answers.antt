@@ -22,10 +22,10 @@ pub loop-j-smaller : goal.loop-j-smaller
 loop-j-smaller c = omega (arith, c.loop-j-test.true)
 
 pub loop-j-preserved : goal.loop-j-preserved
-loop-j-preserved c = going_more c.loop-j.invariant c.put_elem-written.ensures c.put_elem-written.auto.0 (elems_more c.args.row.now (get_or c.args.row.now 16 0) c.loop-j.j c.elem_at.result c.loop-j-test.true c.elem_at.ensures)
+loop-j-preserved c = going_more c.loop-j.invariant c.put_elem-written.ensures c.put_elem-written.auto.out (elems_more c.args.row.now (get_or c.args.row.now 16 0) c.loop-j.j c.elem_at.result c.loop-j-test.true c.elem_at.ensures)
 
 pub shape_of-out : goal.shape_of-out
-shape_of-out c = omega (arith, c.loop-j.invariant.long, c.put_decimal-written.auto.0)
+shape_of-out c = omega (arith, c.loop-j.invariant.long, c.put_decimal-written.auto.out)
 
 pub returns : goal.returns
 unfolding place_text path_of

@@ -15,4 +15,4 @@ pub overflow_add-result : goal.overflow_add-result
 overflow_add-result c = omega (arith, room c.args.out.now c.args.pen 1 c.has_room.result c.has_room.ensures (ap not c.if-not-has_room.false))
 
 pub returns : goal.returns
-returns c = written c.has_room.ensures (ap not c.if-not-has_room.false) (stored_one c.args.out.now c.args.pen.at c.args.byte (omega (arith, room c.args.out.now c.args.pen 1 c.has_room.result c.has_room.ensures c.if-not-has_room.false)))
+returns c = written c.has_room.ensures (ap not c.if-not-has_room.false) (stored_one c.args.out.now c.args.pen.at c.args.byte (omega (arith, room c.args.out.now c.args.pen 1 c.has_room.result c.has_room.ensures (ap not c.if-not-has_room.false))))

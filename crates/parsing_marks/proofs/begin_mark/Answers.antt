@@ -1,0 +1,19 @@
+use borrow.Author.Rules.{rules}
+use borrow.Author.Tests.{eq-eqb, ne_eqb, lt-ltb, le-ltb}
+use Rattle.parsing_machine.specs.Waiting.{closes}
+use Rattle.parsing_machine.specs.Moves.{mark_move, start_move, bound_move, ranged_move, fit_move, path_move, field_move}
+use Rattle.node_rows.specs.Nodes.{closed_node_of, node_of, literal_in, number_in, name_in}
+use Rattle.parsing_moves.specs.Rows.{move_of, held_in, is_index}
+use Rattle.parsing_marks.proofs.begin_mark.Goals as goal
+
+pub returns-then-m-eq2 : goal.returns-then-m-eq2
+unfolding mark_move start_move move_of held_in closed_node_of node_of literal_in ranged_move fit_move number_in name_in bound_move closes path_move field_move is_index
+returns-then-m-eq2 c = λ names. rw (eq-eqb _ 2 c.if-m-eq2.true, c.opens_row.ensures)
+
+pub returns-then-m-lt6 : goal.returns-then-m-lt6
+unfolding mark_move start_move move_of held_in closed_node_of node_of literal_in ranged_move fit_move number_in name_in bound_move closes path_move field_move is_index
+returns-then-m-lt6 c = λ names. rw (ne_eqb _ 2 c.if-m-eq2.false, lt-ltb _ 6 c.if-m-lt6.true) (c.closing_move.ensures _ names)
+
+pub returns : goal.returns
+unfolding mark_move start_move move_of held_in closed_node_of node_of literal_in ranged_move fit_move number_in name_in bound_move closes path_move field_move is_index
+returns c = λ names. rw (ne_eqb _ 2 c.if-m-eq2.false, le-ltb _ 6 c.if-m-lt6.false) (c.start_move.ensures names)
