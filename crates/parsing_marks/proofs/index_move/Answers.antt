@@ -8,8 +8,8 @@ use Rattle.parsing_marks.proofs.index_move.Goals as goal
 
 pub returns-then-is_wide : goal.returns-then-is_wide
 unfolding mark_move start_move move_of held_in closed_node_of node_of literal_in ranged_move fit_move number_in name_in bound_move closes path_move field_move is_index
-returns-then-is_wide c = λ names h. rw (sym c.is_IsWide.ensures ∙ c.if-is_wide.true)
+returns-then-is_wide c = λ names h. rw (sym c.is_wide.ensures ∙ c.if-is_wide.true)
 
 pub returns : goal.returns
 unfolding mark_move start_move move_of held_in closed_node_of node_of literal_in ranged_move fit_move number_in name_in bound_move closes path_move field_move is_index
-returns c = λ names h. rw (sym c.is_IsWide.ensures ∙ c.if-is_wide.false, h)
+returns c = λ names h. rw (sym c.is_wide.ensures ∙ c.if-is_wide.false, h)
