@@ -150,6 +150,9 @@ class Chain:
             fields.pop(0)
         if not fields:
             return ""
+        fields[0] = {"pre": "requires"}.get(fields[0], fields[0])
+        if len(fields) > 1:
+            fields[1] = {"taken": "true", "left": "false", "kept": "auto", "came": "branch"}.get(fields[1], fields[1]) if fields[0] not in ("args", "requires") else fields[1]
         step = label(fields[0])
         for n in range(len(fields), 0, -1):
             part = self.parts.get((step, tuple(fields[1:n])))

@@ -1,6 +1,7 @@
 // Blocks in a lent table of records: a terminator is set and read in a slice of block structs that the caller lends. The borrow checker covers no function with a
 // local that refers to structs: each function over the slice is thin, and its proof follows its code by hand. What is done with records by value is covered.
 #![tactic(auto)]
+
 ghost use Rattle.std.specs.Prelude.{◌≡◌, ◌+◌, ◌<◌, eqb, ltb, length, get_or, set};
 ghost use Rattle.block_records.specs.Records.{blank, terminator_in};
 ghost use Rattle.block_record_tables.specs.declared.Look.{Look};

@@ -1,5 +1,6 @@
 // A body's blocks as records: the record of a terminator, of a block's row, and a record read as a terminator, all by value.
 #![tactic(auto)]
+
 ghost use Rattle.std.specs.Prelude.{◌≡◌, ◌+◌, ◌≤◌, ◌<◌, length};
 ghost use Rattle.mir.specs.Blocks.{block_words};
 ghost use Rattle.views.specs.Views.{four_words_at};

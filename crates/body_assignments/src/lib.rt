@@ -1,5 +1,6 @@
 // Assignments as a body's last statement: a leaf for each function on the table of statements, which is handed its part.
 #![tactic(auto)]
+
 ghost use Rattle.std.specs.Prelude.{◌≡◌, length};
 ghost use Rattle.mir.specs.Statements.{new_statement, statements_after};
 ghost use Rattle.mir.specs.Rvalues.{place_rvalue_row, constant_row, binary_row};

@@ -1,5 +1,6 @@
 // The public calls on a body and its scopes. Here stand their answers, in specs/ what they give and promise, and in proofs/ what all of them rest on.
 #![tactic(auto)]
+
 use image::Tables;
 use lower_spec::merging::OptBlock;
 use mir::{BasicBlockId, Counts};

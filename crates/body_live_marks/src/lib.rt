@@ -1,6 +1,7 @@
 // Live marks: a local is live from the end of a block on, and the last scope holds it unless one does. A function stops at the first refusal and leaves the
 // table as it then is; below the counts nothing is changed.
 #![tactic(auto)]
+
 ghost use Rattle.std.specs.Prelude.{◌≡◌, cond};
 ghost use Rattle.mir.specs.declared.scopes.Counted.{Counted};
 ghost use Rattle.mir.specs.Scopes.{new_entry, entries_after};

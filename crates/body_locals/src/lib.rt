@@ -1,5 +1,6 @@
 // What is read of a body's locals: which one a binding has, and whether an open scope holds one.
 #![tactic(auto)]
+
 ghost use Rattle.std.specs.Prelude.{◌≡◌, ◌<◌, length, take};
 ghost use Rattle.image.specs.Lists.{member};
 ghost use Rattle.lower_spec.specs.Temps.{binding_local};

@@ -1,5 +1,6 @@
 // Scopes and their entries, in the lent table of a body: a leaf for each function on one of the two tables, which is handed its part.
 #![tactic(auto)]
+
 ghost use Rattle.std.specs.Prelude.{◌≡◌, ◌-◌, ◌<◌, ◌≤◌, length, get_or, set};
 ghost use Rattle.row_tables.specs.Rows.{zeros, stored};
 ghost use Rattle.mir.specs.Scopes.{new_scope, scopes_after, new_entry, entries_after};

@@ -1,5 +1,6 @@
 // Whether the rows of a body's statements may be handed in: those in use name nothing that is missing.
 #![tactic(auto)]
+
 ghost use Rattle.std.specs.Prelude.{◌≡◌, ◌<◌, ◌≤◌, length};
 ghost use Rattle.image.specs.Lists.{all_below};
 ghost use Rattle.mir.specs.Statements.{statement_words};

@@ -1,5 +1,6 @@
 // A body and its scopes in one table that the caller lends: five tables, one behind the other, and a leaf for each function on a table, which is handed its part.
 #![tactic(auto)]
+
 pub mod blocks; // blocks.rt: terminators
 pub mod locals; // locals.rt: new locals, and the words of their types
 pub mod statements; // statements.rt: live and dead marks

@@ -1,5 +1,6 @@
 // Temporaries on a body in one table. A function stops at the first refusal and leaves the table as it then is; below the counts nothing is changed.
 #![tactic(auto)]
+
 ghost use Rattle.std.specs.Prelude.{◌≡◌};
 ghost use Rattle.image.specs.Tables.{Whole};
 ghost use Rattle.lower_spec.specs.Temps.{is_slice, temp, discr_temp_place};

@@ -1,5 +1,6 @@
 // The escapes of chars.
 #![tactic(auto)]
+
 ghost use Rattle.std.specs.Prelude.{◌≡◌, drop};
 ghost use Rattle.pattern_tokens.specs.Literals.{hex_digit, simple_escape, byte_escape, escaped, unicode_from, escape_of};
 

@@ -1,5 +1,6 @@
 // Chars.
 #![tactic(auto)]
+
 ghost use Rattle.std.specs.Prelude.{◌≡◌, ◌<◌, length};
 ghost use Rattle.pattern_tokens.specs.Literals.{plain_char, char_of, is_suffix, closed_char, char_piece};
 

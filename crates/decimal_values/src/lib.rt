@@ -1,5 +1,6 @@
 // The value of a decimal integer, in 16 bytes or over.
 #![tactic(auto)]
+
 ghost use Rattle.std.specs.Prelude.{◌≡◌, ◌+◌, ◌*◌, ◌<◌, ◌^◌};
 ghost use Rattle.decimal_values.specs.Values.{integer_value};
 

@@ -1,5 +1,6 @@
 // The row of a Bind, behind the binding of its name.
 #![tactic(auto)]
+
 ghost use Rattle.std.specs.Prelude.{◌≡◌, ◌≤◌, ◌<◌, length};
 ghost use Rattle.image.specs.Tables.{Whole};
 ghost use Rattle.draft_tables.specs.Room.{DraftRoom};

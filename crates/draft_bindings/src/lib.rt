@@ -1,5 +1,6 @@
 // A name's binding: the types that it lacks, "an array before the reference to it", and its row with the name's range.
 #![tactic(auto)]
+
 ghost use Rattle.std.specs.Prelude.{◌≡◌, cond, eqb, length};
 ghost use Rattle.image.specs.Tables.{Whole};
 ghost use Rattle.pattern_syntax.specs.Reduced.{bytes_from};

@@ -1,5 +1,6 @@
 // The binding of a Bind's name, which is made where the name has none yet.
 #![tactic(auto)]
+
 ghost use Rattle.std.specs.Prelude.{◌≡◌, length};
 ghost use Rattle.image.specs.Tables.{Whole};
 ghost use Rattle.pattern_syntax.specs.Reduced.{bytes_from};

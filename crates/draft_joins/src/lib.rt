@@ -1,5 +1,6 @@
 // Rows of makings of kinds 8 and up, added to the draft: a row with a list, a Slice, and a field.
 #![tactic(auto)]
+
 ghost use Rattle.std.specs.Prelude.{◌≡◌, cond, [], ◌*◌, ◌≤◌, ◌<◌, eqb, length};
 ghost use Rattle.node_rows.specs.Makings.{closed_making_of};
 ghost use Rattle.draft_makings.specs.Makings.{MakingReady, JoinedStepped};

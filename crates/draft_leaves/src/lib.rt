@@ -1,5 +1,6 @@
 // Rows of makings of kinds 0 to 4, added to the draft: nothing at all, a row without a list, a literal, and the bounds of ranges.
 #![tactic(auto)]
+
 ghost use Rattle.std.specs.Prelude.{◌≡◌, [], ◌≤◌, ◌<◌, length};
 ghost use Rattle.pattern_typing.specs.Making.{row_made, pattern_row};
 ghost use Rattle.node_rows.specs.Makings.{closed_making_of};

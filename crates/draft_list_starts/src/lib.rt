@@ -1,5 +1,6 @@
 // Where the list of a pattern starts.
 #![tactic(auto)]
+
 ghost use Rattle.std.specs.Prelude.{◌≡◌, cond, eqb};
 
 // Where a list of so many words starts: "empty lists' starts 0".

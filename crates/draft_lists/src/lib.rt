@@ -1,5 +1,6 @@
 // Patterns that have a list of all their parts: Tuple, TupleStruct, Record and Or. Their words are the last of the stack.
 #![tactic(auto)]
+
 ghost use Rattle.std.specs.Prelude.{◌≡◌, ◌≤◌, ◌<◌, length};
 ghost use Rattle.pattern_images.specs.Emitting.{with_list};
 ghost use Rattle.draft_tables.specs.Layout.{height_is};

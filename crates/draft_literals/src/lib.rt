@@ -1,5 +1,6 @@
 // Literals as patterns and as bounds of ranges: their operand, then a row or its place.
 #![tactic(auto)]
+
 ghost use Rattle.std.specs.Prelude.{◌≡◌, ◌≤◌, ◌<◌, length};
 ghost use Rattle.pattern_typing.specs.Making.{literal_made, operand_made};
 ghost use Rattle.draft_tables.specs.Room.{DraftRoom};

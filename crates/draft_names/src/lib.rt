@@ -1,5 +1,6 @@
 // The binding of a name, among those that were added to the draft: names are compared by their bytes.
 #![tactic(auto)]
+
 ghost use Rattle.std.specs.Prelude.{◌≡◌, ◌≤◌, min, length, drop};
 ghost use Rattle.row_tables.specs.Rows.{row_at};
 ghost use Rattle.pattern_words.specs.Words.{same_word};

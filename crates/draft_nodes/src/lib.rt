@@ -1,5 +1,6 @@
 // Nodes that add a row by the words of their parts, or only put words on the stack.
 #![tactic(auto)]
+
 ghost use Rattle.std.specs.Prelude.{◌≡◌, true, cond, ◌+◌, ◌≤◌, ◌<◌, eqb, length, get_or};
 ghost use Rattle.pattern_syntax.specs.Formed.{one_if};
 ghost use Rattle.pattern_typing.specs.Making.{operand_named, range_made, reference_made, field_made};

@@ -1,5 +1,6 @@
 // A literal as an operand of the draft: its kind, and its bytes, the lowest first.
 #![tactic(auto)]
+
 ghost use Rattle.std.specs.Prelude.{◌≡◌, true, ◌++◌, ◌+◌, ◌*◌, ◌-◌, ◌^◌, ◌≤◌, length};
 ghost use Rattle.node_rows.specs.Nodes.{literal_in};
 ghost use Rattle.pattern_images.specs.Drafts.{little_endian_bytes};

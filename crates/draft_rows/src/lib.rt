@@ -1,5 +1,6 @@
 // Patterns of the draft: a row and its number on the stack.
 #![tactic(auto)]
+
 ghost use Rattle.std.specs.Prelude.{◌≡◌, ◌<◌, length};
 ghost use Rattle.draft_tables.specs.Room.{DraftRoom};
 ghost use Rattle.draft_tables.specs.Steps.{SheetsStepped};

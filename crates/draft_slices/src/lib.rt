@@ -1,5 +1,6 @@
 // Slices: their list is their items without the rest, which they hold beside it.
 #![tactic(auto)]
+
 ghost use Rattle.std.specs.Prelude.{◌≡◌, true, ◌≤◌, ◌<◌, length};
 ghost use Rattle.std.proofs.Math.Option.{some};
 ghost use Rattle.pattern_syntax.specs.Formed.{rest_within};

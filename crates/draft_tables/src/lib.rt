@@ -1,5 +1,6 @@
 // A draft and its stack in one table that the caller lends: what is added to each of its parts.
 #![tactic(auto)]
+
 ghost use Rattle.std.specs.Prelude.{◌≡◌, ◌+◌, ◌*◌, ◌≤◌, ◌<◌, length, get_or, take, drop};
 ghost use Rattle.row_tables.specs.Rows.{row_at, stored};
 ghost use Rattle.draft_tables.specs.Layout.{type_of_words, range_of_words, WithinDraft, type_more, pattern_more, binding_more, words_more, bytes_more, height_is, HoldsType, HoldsPattern, HoldsBinding, HoldsWords, HoldsBytes, HoldsStack};

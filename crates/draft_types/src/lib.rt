@@ -1,5 +1,6 @@
 // The types that a binding may lack: "of .. types alike the first serves", and what is not there is added to the draft.
 #![tactic(auto)]
+
 ghost use Rattle.std.specs.Prelude.{◌≡◌, ◌||◌, ◌+◌, ◌≤◌, ◌<◌, eqb, length};
 ghost use Rattle.image.specs.Tables.{Whole};
 ghost use Rattle.name_tables.specs.Names.{first_from};

@@ -1,5 +1,6 @@
 // Whether an else, a place and two blocks that a call is handed name something: document 01's number 2.
 #![tactic(auto)]
+
 ghost use Rattle.std.specs.Prelude.{◌≡◌};
 ghost use Rattle.handed.specs.Handed.{else_holds, place_holds, is_block_or_none, merge_holds};
 

@@ -1,5 +1,6 @@
 // The image: where its tables stand in the lent bytes, and what their rows hold.
 #![tactic(auto)]
+
 pub mod kinds; // kinds.rt: the numbers of kinds, by name
 pub mod rows; // rows.rt: the rows of the tables, and an operand's bytes
 

@@ -1,5 +1,6 @@
 // An image's first 17 bytes.
 #![tactic(auto)]
+
 ghost use Rattle.std.specs.Prelude.{◌≡◌, ◌<◌, length};
 ghost use Rattle.row_tables.specs.Rows.{stored};
 ghost use Rattle.image_head.specs.Heads.{WithinLimits, head_bytes};

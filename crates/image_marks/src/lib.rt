@@ -1,5 +1,6 @@
 // The rules on numbers that may stand only once: a pattern is used once, and a variant has one ADT. Each number is marked when it is first met.
 #![tactic(auto)]
+
 ghost use Rattle.std.specs.Prelude.{◌≡◌, true, ◌+◌, ◌<◌, ◌≤◌, length, replicate};
 ghost use Rattle.image.specs.Tables.{Whole, type_count, variant_count, pattern_count, list_count};
 ghost use Rattle.image.specs.Lists.{all_below};

@@ -1,5 +1,6 @@
 // Pieces of an image: bytes and words of a table, each to a place. Each function hands out the place behind what it wrote.
 #![tactic(auto)]
+
 ghost use Rattle.std.specs.Prelude.{◌≡◌, ◌+◌, ◌*◌, ◌≤◌, length, take, drop};
 ghost use Rattle.row_tables.specs.Rows.{stored, AtMost};
 ghost use Rattle.pattern_images.specs.Imaging.{words_bytes};

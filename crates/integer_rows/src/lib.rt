@@ -1,6 +1,7 @@
 // The integers in ten rows: 0 to 4 signed, 5 to 9 unsigned, at 1, 2, 4, 8 and 16 bytes. Each row has its size, its least and its greatest value.
 // A value is 16 bytes, two's complement: i8's least is 80 ff .. ff, its greatest 7f 00 .. 00. The table has the lower eight of them as one number, and the upper eight.
 #![tactic(auto)]
+
 ghost use Rattle.std.specs.Prelude.{◌≡◌, true, ◌+◌, ◌*◌, ◌-◌, ◌/◌, ◌≤◌, ◌<◌, pos, neg_ℤ};
 ghost use Rattle.image.specs.Integers.{value_count, in_range};
 ghost use Rattle.image.specs.Rules.{is_integer_size};

@@ -1,5 +1,6 @@
 // The terminators of blocks, in document 01's listing of a body, written into a lent buffer.
 #![tactic(auto)]
+
 ghost use Rattle.mir.specs.declared.blocks.Terminator.{Terminator};
 ghost use Rattle.listing_text.specs.Listing.{terminator_text};
 ghost use Rattle.listing_text.specs.Writing.{Wrote};

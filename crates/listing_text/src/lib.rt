@@ -1,5 +1,6 @@
 // Pieces of text, numbers, and a refusal, written into a lent buffer. What document 01's listing says is defined in specs/.
 #![tactic(auto)]
+
 pub mod numbers; // numbers.rt: numbers in decimal and in hexadecimal
 pub mod pen; // pen.rt: where the next byte goes, and how bytes are written
 

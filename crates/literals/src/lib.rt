@@ -1,5 +1,6 @@
 // Literals and constants as operands: their bytes, as they lie in memory.
 #![tactic(auto)]
+
 ghost use Rattle.std.specs.Prelude.{◌≡◌, true, ◌+◌, ◌<◌, ◌≤◌, length, take, drop};
 ghost use Rattle.image.specs.declared.kinds.OperandKind.{OperandKind};
 ghost use Rattle.image.specs.Bytes.{little_endian};

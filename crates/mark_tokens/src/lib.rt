@@ -1,5 +1,6 @@
 // Punctuation, by its first three bytes.
 #![tactic(auto)]
+
 ghost use Rattle.std.specs.Prelude.{◌≡◌, [], ◌∷◌};
 ghost use Rattle.pattern_words.specs.Words.{piece, failing};
 ghost use Rattle.pattern_tokens.specs.Tokens.{punctuation, first_where};

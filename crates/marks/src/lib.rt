@@ -1,5 +1,6 @@
 // Numbers that may stand only once: each is marked when it is first met.
 #![tactic(auto)]
+
 ghost use Rattle.std.specs.Prelude.{true, [], ◌∷◌, ◌+◌, ◌*◌, ◌<◌, ◌≤◌, length};
 ghost use Rattle.image.specs.Tables.{Whole, list_count};
 ghost use Rattle.image.specs.Lists.{up_from};

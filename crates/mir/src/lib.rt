@@ -1,5 +1,6 @@
 // The body of MIR blocks, in tables that the caller lends.
 #![tactic(auto)]
+
 pub mod blocks; // blocks.rt: blocks and their terminators
 pub mod locals; // locals.rt: locals and their types
 pub mod rvalues; // rvalues.rt: what statements hold

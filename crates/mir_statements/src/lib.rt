@@ -1,6 +1,7 @@
 // Statements, in order of creation, each with its block's number: a new row touches nothing else. The statements of the listing are
 // live and dead marks, and the assignments of each rvalue to a local.
 #![tactic(auto)]
+
 ghost use Rattle.std.specs.Prelude.{◌≡◌, ◌++◌, length};
 ghost use Rattle.row_tables.specs.Rows.{stored};
 ghost use Rattle.mir.specs.Statements.{halves, place_words, new_statement, statements_after, statement_words};

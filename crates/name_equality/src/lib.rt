@@ -1,5 +1,6 @@
 // Whether two names are the same.
 #![tactic(auto)]
+
 ghost use Rattle.std.specs.Prelude.{◌≡◌};
 ghost use Rattle.pattern_words.specs.Words.{same_word};
 

@@ -1,5 +1,6 @@
 // How a name is found: the first row that serves a use and has it.
 #![tactic(auto)]
+
 ghost use Rattle.std.specs.Prelude.{◌≡◌, ◌<◌};
 ghost use Rattle.name_tables.specs.Names.{row_count, is_named, row_for};
 ghost use Rattle.name_tables.specs.Tested.{NameBytesWithin, use_of, found_in};

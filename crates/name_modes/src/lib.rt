@@ -1,5 +1,6 @@
 // How a name binds by its marks, and its annotation.
 #![tactic(auto)]
+
 ghost use Rattle.std.specs.Prelude.{◌≡◌};
 ghost use Rattle.name_modes.specs.Modes.{mode_word, annotation_word};
 

@@ -1,5 +1,6 @@
 // The name table that a pattern's text is read with: which names are variants, fields and constants.
 #![tactic(auto)]
+
 ghost use Rattle.std.specs.Prelude.{◌≡◌, ◌+◌, ◌*◌, ◌≤◌, length};
 ghost use Rattle.name_tables.specs.Names.{name_row_at};
 

@@ -1,5 +1,6 @@
 // Whether a row of the name table is of a kind that a use looks for.
 #![tactic(auto)]
+
 ghost use Rattle.std.specs.Prelude.{◌≡◌};
 ghost use Rattle.name_tables.specs.Names.{serves};
 ghost use Rattle.name_tables.specs.Tested.{use_of};

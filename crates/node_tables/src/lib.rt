@@ -1,5 +1,6 @@
 // Rows of nodes in a lent table: one is read, or put.
 #![tactic(auto)]
+
 ghost use Rattle.std.specs.Prelude.{◌≡◌, ◌<◌, length};
 ghost use Rattle.node_rows.specs.Nodes.{node_row_at};
 ghost use Rattle.node_tables.specs.Tables.{Puts, row_kind};

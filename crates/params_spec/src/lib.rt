@@ -1,5 +1,6 @@
 // What `lower_params_and_bindings` is handed and what it answers. Its definition stands in specs/.
 #![tactic(auto)]
+
 use image::{BindingId, PatId};
 use mir::{BasicBlockId, Counts};
 use place::LocalId;

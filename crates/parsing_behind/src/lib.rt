@@ -1,5 +1,6 @@
 // A mark behind a pattern: in the item or the field that waits for it, and behind an alternative.
 #![tactic(auto)]
+
 ghost use Rattle.std.specs.Prelude.{◌≡◌, ◌+◌, ◌<◌, ◌≤◌};
 ghost use Rattle.parsing_bounds.specs.Weights.{or_one};
 ghost use Rattle.parsing_steps.specs.Settling.{PartsMost};

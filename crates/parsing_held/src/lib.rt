@@ -1,3 +1,4 @@
 // What the parser does at a mark behind what is held.
 #![tactic(auto)]
+
 pub mod behind;

@@ -1,5 +1,6 @@
 // What the parser does at a mark in one of the states that hold nothing, a flag or a sign.
 #![tactic(auto)]
+
 ghost use Rattle.std.specs.Prelude.{◌<◌};
 ghost use Rattle.parsing_machine.specs.declared.ReadState.TheVariants.{Begin, BehindAmp, BehindRef, AtFrom, AtEtc};
 ghost use Rattle.parsing_moves.specs.Rows.{DecidesIn, DecidesHeld, DecidesMinus, DecidesIndex, DecidesBrace};

@@ -1,5 +1,6 @@
 // What the parser does where a pattern or a bound begins, as numbers and rows.
 #![tactic(auto)]
+
 pub mod makers;
 pub mod starts;
 

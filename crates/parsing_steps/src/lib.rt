@@ -1,5 +1,6 @@
 // The parser's moves on lent tables: the stack of what waits, and the nodes that have closed.
 #![tactic(auto)]
+
 pub mod ending;
 pub mod settling;
 

@@ -1,5 +1,6 @@
 // What the fields of a struct, a variant or a tuple are read at, and the arguments that stand for them.
 #![tactic(auto)]
+
 ghost use Rattle.std.specs.Prelude.{◌≡◌};
 ghost use Rattle.image.specs.Tables.{Whole};
 ghost use Rattle.node_rows.specs.Nodes.{number_in};

@@ -1,5 +1,6 @@
 // What is read behind a reference that is written as a pattern.
 #![tactic(auto)]
+
 ghost use Rattle.std.specs.Prelude.{◌≡◌};
 ghost use Rattle.image.specs.Tables.{Whole};
 ghost use Rattle.pattern_typing.specs.Contexts.{target_context};

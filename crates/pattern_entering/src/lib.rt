@@ -1,5 +1,6 @@
 // A pattern is entered: it is visited once more, and its derefs are appended to the place.
 #![tactic(auto)]
+
 ghost use Rattle.std.specs.Prelude.{◌≡◌, ◌<◌, length, get_or, set};
 ghost use Rattle.pattern_entering.specs.Entering.{one_more, projected_result, derefs_of};
 

@@ -1,5 +1,6 @@
 // The element of a place that an argument in a row stands for, a field or an item of an array or a slice; whether a type is an array or a slice.
 #![tactic(auto)]
+
 ghost use Rattle.std.specs.Prelude.{◌≡◌, true};
 ghost use Rattle.image.specs.Tables.{Whole};
 ghost use Rattle.image.specs.Valid.{valid};

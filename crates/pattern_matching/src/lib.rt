@@ -1,5 +1,6 @@
 // The lowering of patterns: its definitions stand in specs/.
 #![tactic(auto)]
+
 ghost use Rattle.std.specs.Prelude.{◌≡◌};
 ghost use Rattle.pattern_matching.specs.Modes.{is_check};
 

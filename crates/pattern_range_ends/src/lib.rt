@@ -1,5 +1,6 @@
 // By which test a range's end is tested.
 #![tactic(auto)]
+
 ghost use Rattle.std.specs.Prelude.{◌≡◌};
 ghost use Rattle.image.specs.Types.{is_set};
 ghost use Rattle.pattern_matching.specs.Patterns.{end_op};

@@ -1,5 +1,6 @@
 // Arguments in a row, and the shapes of patterns with subpatterns, by the rows of the image; what a Slice pattern's type can be.
 #![tactic(auto)]
+
 ghost use Rattle.std.specs.Prelude.{◌≡◌, true};
 ghost use Rattle.image.specs.Tables.{Whole};
 ghost use Rattle.image.specs.Valid.{valid};

@@ -1,5 +1,6 @@
 // The blocks of a test, and its end: a new local is what an operator makes of two operands, and the block goes on by it.
 #![tactic(auto)]
+
 ghost use Rattle.std.specs.Prelude.{◌≡◌, ◌<◌, ◌≤◌, length};
 ghost use Rattle.image.specs.Tables.{Whole};
 ghost use Rattle.pattern_walk_spec.specs.Answers.{Begins, Lowers};

@@ -1,5 +1,6 @@
 // What the tokens of a pattern's text are: see specs/ and proofs/.
 #![tactic(auto)]
+
 ghost use Rattle.std.specs.Prelude.{◌≡◌, ◌+◌};
 ghost use Rattle.text_chars.specs.Bytes.{byte_of};
 

@@ -1,5 +1,6 @@
 // What a walk over a pattern answers. What an answer promises is defined in specs/, and that answers follow one another is proved in proofs/.
 #![tactic(auto)]
+
 use image::PatId;
 use lower_spec::merging::OptBlock;
 use mir::{BasicBlockId, Counts};

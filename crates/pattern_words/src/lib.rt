@@ -1,5 +1,6 @@
 // What a token of a pattern's text is, and those that begin with a word.
 #![tactic(auto)]
+
 pub mod words;
 
 // What a token is. A name has the position where it begins, behind `r#`; a char has its value.

@@ -1,5 +1,6 @@
 // Places: a local, and the way from it to a part of its value.
 #![tactic(auto)]
+
 pub mod elems; // elems.rt: the elements of a projection, and the words that hold them
 pub mod place_ty; // place_ty.rt: what a place's type can be
 

@@ -1,5 +1,6 @@
 // The type one element on from a type of the table, for each sort of element.
 #![tactic(auto)]
+
 ghost use Rattle.std.specs.Prelude.{◌≡◌, true, List, ℕ, ◌+◌, ◌<◌, ◌≤◌};
 ghost use Rattle.image.specs.Tables.{Whole, variant_count, list_count};
 ghost use Rattle.image.specs.Lists.{up_from};

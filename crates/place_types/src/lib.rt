@@ -1,5 +1,6 @@
 // The type of a place, by the type table.
 #![tactic(auto)]
+
 ghost use Rattle.std.specs.Prelude.{◌≡◌, true, ◌<◌, ◌≤◌};
 ghost use Rattle.image.specs.Tables.{Whole, type_count, variant_count};
 ghost use Rattle.image.specs.Valid.{valid};

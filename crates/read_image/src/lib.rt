@@ -1,5 +1,6 @@
 // Reads an image: every byte string is an image, whose tables' places are answered, or is refused.
 #![tactic(auto)]
+
 pub mod frame; // frame.rt: the bytes before the tables, and the limits
 
 ghost use Rattle.read_image.specs.Read.{Reads};

@@ -1,5 +1,6 @@
 // Where a rest and a range without an upper bound may stand, and what a list is behind its rest.
 #![tactic(auto)]
+
 ghost use Rattle.std.specs.Prelude.{◌≡◌, ◌<◌, ◌≤◌};
 ghost use Rattle.rest_rows.specs.Rested.{counted_row, rested_row, takes_rest_row, rest_row, bars_open, FitsSlice, FitsRest};
 

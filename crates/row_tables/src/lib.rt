@@ -1,5 +1,6 @@
 // Tables of rows in lent numbers: a row is stored whole, and what lies past the last row is cleared.
 #![tactic(auto)]
+
 ghost use Rattle.std.specs.Prelude.{◌≡◌, ◌+◌, ◌-◌, ◌≤◌, length};
 ghost use Rattle.row_tables.specs.Rows.{zeros, stored, cleared, AtMost, ZerosFrom};
 

@@ -1,5 +1,6 @@
 // Unicode scalar values, of which a char is one.
 #![tactic(auto)]
+
 ghost use Rattle.std.specs.Prelude.{◌≡◌};
 ghost use Rattle.image.specs.Operands.{is_scalar_value};
 

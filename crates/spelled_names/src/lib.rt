@@ -1,5 +1,6 @@
 // Names as they are spelled, copied from a text into one table: a name's own bytes, and `::` before a name that goes on a path.
 #![tactic(auto)]
+
 ghost use Rattle.std.specs.Prelude.{◌≡◌, ◌++◌, ◌+◌, ◌-◌, ◌≤◌, length};
 ghost use Rattle.text_chars.specs.Bytes.{ascii};
 ghost use Rattle.pattern_syntax.specs.Reduced.{bytes_from};

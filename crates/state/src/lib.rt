@@ -1,5 +1,6 @@
 // The state of a lowering is defined in specs/, and its laws are proved in proofs/.
 #![tactic(auto)]
+
 use mir::Counts;
 use refusals::MirLowerError;
 

@@ -1,5 +1,6 @@
 // The characters of a pattern's text and what stands between its tokens.
 #![tactic(auto)]
+
 mod comments;
 pub mod scalars;
 

@@ -1,5 +1,6 @@
 // The row of a token, by its kind.
 #![tactic(auto)]
+
 ghost use Rattle.std.specs.Prelude.{◌≡◌};
 ghost use Rattle.pattern_grammar.specs.Lexemes.{of_kind};
 ghost use Rattle.token_rows.specs.TokenRows.{spot_from, lexeme_of, SmallName};

@@ -1,5 +1,6 @@
 // The token at a position of a pattern's text: by its first byte a word, an integer, a char, or punctuation.
 #![tactic(auto)]
+
 mod integers;
 
 ghost use Rattle.std.specs.Prelude.{◌≡◌, ◌+◌, ◌<◌, ◌≤◌, ◌^◌, length};

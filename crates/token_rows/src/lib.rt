@@ -1,5 +1,6 @@
 // The words of a token, and the rows of names, chars and marks.
 #![tactic(auto)]
+
 ghost use Rattle.std.specs.Prelude.{◌≡◌, ◌<◌};
 ghost use Rattle.token_rows.specs.TokenRows.{name_row, char_row, mark_row};
 

@@ -1,5 +1,6 @@
 // References that are crossed with the default binding mode, and the fields of a type.
 #![tactic(auto)]
+
 ghost use Rattle.std.specs.Prelude.{◌≡◌};
 ghost use Rattle.image.specs.Types.{is_set};
 ghost use Rattle.image.specs.Tables.{Whole};

@@ -1,6 +1,7 @@
 // The types of a sheet as patterns meet them: its rows, and the answers about references that are crossed, the fields of a type, and what each part
 // of a node is read at. Every number is taken: a sheet that keeps its rules is not asked for.
 #![tactic(auto)]
+
 pub mod sheet; // sheet.rt: the rows of a sheet
 
 // A type behind so many references, and the default binding mode there: 0 by value, 1 by reference, 2 by mutable reference.

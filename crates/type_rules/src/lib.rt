@@ -1,5 +1,6 @@
 // The rules on types, variants and bindings. Type numbers in the list are tested once each, by the runs of them.
 #![tactic(auto)]
+
 ghost use Rattle.std.specs.Prelude.{◌≡◌, cond, ◌+◌, ◌<◌, ◌≤◌, length, replicate};
 ghost use Rattle.image.specs.Tables.{Whole, list_count};
 ghost use Rattle.image.specs.Rules.{is_flag, in_table, types_listed, is_integer_size, adt_may_have, type_shape_holds, type_holds, variant_holds, binding_holds};

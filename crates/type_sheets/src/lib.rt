@@ -1,6 +1,7 @@
 // The type sheet that a pattern's text is read with: an image that may have no pattern. Every byte string is a sheet, whose tables' places are
 // answered, or is refused.
 #![tactic(auto)]
+
 mod frame; // frame.rt: the bytes before the tables, and the limits
 
 ghost use Rattle.std.specs.Prelude.{◌≡◌};

@@ -22,8 +22,8 @@ loop-i-smaller c = omega (arith, c.if-i-entries.true)
 pub loop-i-preserved : goal.loop-i-preserved
 loop-i-preserved c =
     elim c.if-entries-i.branch [
-      then-entries-i w ↦ rw w.held-is (meets_it c.args.l.0 c.args.counts.entries c.args.entries.now c.loop-i.held c.loop-i.i c.loop-i.invariant c.loop-i-test.true (lt-ltb _ _ c.if-i-entries.true) w.if-entries-i.true)
-    | else-entries-i w ↦ rw w.held-is (meets_another c.args.l.0 c.args.counts.entries c.args.entries.now c.loop-i.held c.loop-i.i c.loop-i.invariant c.loop-i-test.true (lt-ltb _ _ c.if-i-entries.true) w.if-entries-i.false)
+      | then-entries-i w ↦ rw w.held-is (meets_it c.args.l.0 c.args.counts.entries c.args.entries.now c.loop-i.held c.loop-i.i c.loop-i.invariant c.loop-i-test.true (lt-ltb _ _ c.if-i-entries.true) w.if-entries-i.true)
+      | else-entries-i w ↦ rw w.held-is (meets_another c.args.l.0 c.args.counts.entries c.args.entries.now c.loop-i.held c.loop-i.i c.loop-i.invariant c.loop-i-test.true (lt-ltb _ _ c.if-i-entries.true) w.if-entries-i.false)
     ]
 
 pub returns-else-i-entries : goal.returns-else-i-entries

@@ -1,3 +1,5 @@
+use mathlib.Core.Bool.{not}
+use mathlib.Core.Path.{ap}
 use Prim.Native.Nat.{◌-◌}
 use native.Mathlib.Omega.{arith}
 use lib.ListN.{length}
@@ -16,16 +18,16 @@ loop-i-init c = words_begin (binding_local_holds c.args.counts) c.args.bindings.
 
 pub returns-then-not-binding_holds : goal.returns-then-not-binding_holds
 unfolding bindings_hold
-returns-then-not-binding_holds c = rw (eq-eqb _ _ c.if-bindings-count.false) (word_fails (binding_local_holds c.args.counts) c.args.bindings.now c.loop-i.i c.binding_holds.result c.loop-i.invariant c.loop-i-test.true c.binding_holds.ensures c.if-not-binding_holds.true)
+returns-then-not-binding_holds c = rw (eq-eqb _ _ c.if-bindings-count.false) (word_fails (binding_local_holds c.args.counts) c.args.bindings.now c.loop-i.i c.binding_holds.result c.loop-i.invariant c.loop-i-test.true c.binding_holds.ensures (ap not c.if-not-binding_holds.true))
 
 pub overflow_add-i : goal.overflow_add-i
-overflow_add-i c = omega (arith, c.loop-i-test.true, c.if-bindings-count.false, c.well-formed)
+overflow_add-i c = omega (arith, c.loop-i-test.true, c.if-bindings-count.false, c.well_formed)
 
 pub loop-i-smaller : goal.loop-i-smaller
 loop-i-smaller c = omega (arith, c.loop-i-test.true)
 
 pub loop-i-preserved : goal.loop-i-preserved
-loop-i-preserved c = word_holds (binding_local_holds c.args.counts) c.args.bindings.now c.loop-i.i c.binding_holds.result c.loop-i.invariant c.loop-i-test.true c.binding_holds.ensures c.if-not-binding_holds.false
+loop-i-preserved c = word_holds (binding_local_holds c.args.counts) c.args.bindings.now c.loop-i.i c.binding_holds.result c.loop-i.invariant c.loop-i-test.true c.binding_holds.ensures (ap not c.if-not-binding_holds.false)
 
 pub returns : goal.returns
 unfolding bindings_hold

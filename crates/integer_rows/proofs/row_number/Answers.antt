@@ -32,8 +32,8 @@ pub returns-then-signed : goal.returns-then-signed
 unfolding up_from integer_row row_size
 returns-then-signed c =
     elim c.loop-row-test.branch [
-      then-loop-row-test+else-row-size w ↦ signed_row c.loop-row.invariant (found c.loop-row.invariant w.if-row-size.false) c.if-signed.true
-    | else-loop-row-test w ↦ signed_row c.loop-row.invariant (last c.loop-row.invariant w.loop-row-test.false) c.if-signed.true
+      | then-loop-row-test+else-row-size w ↦ signed_row c.loop-row.invariant (found c.loop-row.invariant w.if-row-size.false) c.if-signed.true
+      | else-loop-row-test w ↦ signed_row c.loop-row.invariant (last c.loop-row.invariant w.loop-row-test.false) c.if-signed.true
     ]
 
 pub overflow_add-result : goal.overflow_add-result
@@ -43,6 +43,6 @@ pub returns : goal.returns
 unfolding up_from integer_row row_size
 returns c =
     elim c.loop-row-test.branch [
-      then-loop-row-test+else-row-size w ↦ unsigned_row c.loop-row.invariant (found c.loop-row.invariant w.if-row-size.false) c.if-signed.false
-    | else-loop-row-test w ↦ unsigned_row c.loop-row.invariant (last c.loop-row.invariant w.loop-row-test.false) c.if-signed.false
+      | then-loop-row-test+else-row-size w ↦ unsigned_row c.loop-row.invariant (found c.loop-row.invariant w.if-row-size.false) c.if-signed.false
+      | else-loop-row-test w ↦ unsigned_row c.loop-row.invariant (last c.loop-row.invariant w.loop-row-test.false) c.if-signed.false
     ]

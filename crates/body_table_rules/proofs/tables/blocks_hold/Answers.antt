@@ -1,3 +1,5 @@
+use mathlib.Core.Bool.{not}
+use mathlib.Core.Path.{ap}
 use Prim.Native.Nat.{◌-◌}
 use native.Mathlib.Omega.{arith}
 use Rattle.body_row_rules.specs.Bodies.{block_holds}
@@ -11,7 +13,7 @@ pub block_holds-requires : goal.block_holds-requires
 block_holds-requires c = (c.requires.0, omega (arith, c.loop-i-test.true, c.requires.1))
 
 pub returns-then-not-block_holds : goal.returns-then-not-block_holds
-returns-then-not-block_holds c = test_fails (block_holds c.args.blocks.now c.args.counts) c.args.counts.blocks c.loop-i.i c.block_holds.result c.loop-i-test.true c.block_holds.ensures c.if-not-block_holds.true
+returns-then-not-block_holds c = test_fails (block_holds c.args.blocks.now c.args.counts) c.args.counts.blocks c.loop-i.i c.block_holds.result c.loop-i-test.true c.block_holds.ensures (ap not c.if-not-block_holds.true)
 
 pub overflow_add-i : goal.overflow_add-i
 overflow_add-i c = omega (arith, c.loop-i-test.true, c.requires)
@@ -20,7 +22,7 @@ pub loop-i-smaller : goal.loop-i-smaller
 loop-i-smaller c = omega (arith, c.loop-i-test.true)
 
 pub loop-i-preserved : goal.loop-i-preserved
-loop-i-preserved c = test_holds (block_holds c.args.blocks.now c.args.counts) c.args.counts.blocks c.loop-i.i c.block_holds.result c.loop-i.invariant c.loop-i-test.true c.block_holds.ensures c.if-not-block_holds.false
+loop-i-preserved c = test_holds (block_holds c.args.blocks.now c.args.counts) c.args.counts.blocks c.loop-i.i c.block_holds.result c.loop-i.invariant c.loop-i-test.true c.block_holds.ensures (ap not c.if-not-block_holds.false)
 
 pub returns : goal.returns
 returns c = tests_end (block_holds c.args.blocks.now c.args.counts) c.args.counts.blocks c.loop-i.i c.loop-i.invariant c.loop-i-test.false

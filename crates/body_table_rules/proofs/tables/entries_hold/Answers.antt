@@ -1,3 +1,5 @@
+use mathlib.Core.Bool.{not}
+use mathlib.Core.Path.{ap}
 use Prim.Native.Nat.{◌-◌}
 use native.Mathlib.Omega.{arith}
 use Rattle.body_row_rules.specs.Bodies.{entry_holds}
@@ -11,7 +13,7 @@ pub entry_holds-requires : goal.entry_holds-requires
 entry_holds-requires c = (c.requires.0, omega (arith, c.loop-i-test.true, c.requires.1))
 
 pub returns-then-not-entry_holds : goal.returns-then-not-entry_holds
-returns-then-not-entry_holds c = test_fails (entry_holds c.args.entries.now c.args.counts) c.args.counts.entries c.loop-i.i c.entry_holds.result c.loop-i-test.true c.entry_holds.ensures c.if-not-entry_holds.true
+returns-then-not-entry_holds c = test_fails (entry_holds c.args.entries.now c.args.counts) c.args.counts.entries c.loop-i.i c.entry_holds.result c.loop-i-test.true c.entry_holds.ensures (ap not c.if-not-entry_holds.true)
 
 pub overflow_add-i : goal.overflow_add-i
 overflow_add-i c = omega (arith, c.loop-i-test.true, c.requires)
@@ -20,7 +22,7 @@ pub loop-i-smaller : goal.loop-i-smaller
 loop-i-smaller c = omega (arith, c.loop-i-test.true)
 
 pub loop-i-preserved : goal.loop-i-preserved
-loop-i-preserved c = test_holds (entry_holds c.args.entries.now c.args.counts) c.args.counts.entries c.loop-i.i c.entry_holds.result c.loop-i.invariant c.loop-i-test.true c.entry_holds.ensures c.if-not-entry_holds.false
+loop-i-preserved c = test_holds (entry_holds c.args.entries.now c.args.counts) c.args.counts.entries c.loop-i.i c.entry_holds.result c.loop-i.invariant c.loop-i-test.true c.entry_holds.ensures (ap not c.if-not-entry_holds.false)
 
 pub returns : goal.returns
 returns c = tests_end (entry_holds c.args.entries.now c.args.counts) c.args.counts.entries c.loop-i.i c.loop-i.invariant c.loop-i-test.false

@@ -1,3 +1,5 @@
+use mathlib.Core.Bool.{not}
+use mathlib.Core.Path.{ap}
 use Prim.Native.Nat.{◌-◌}
 use native.Mathlib.Omega.{arith}
 use Rattle.body_row_rules.specs.Bodies.{statement_holds}
@@ -11,7 +13,7 @@ pub statement_holds-requires : goal.statement_holds-requires
 statement_holds-requires c = (c.requires.0, omega (arith, c.loop-i-test.true, c.requires.1))
 
 pub returns-then-not-statement_holds : goal.returns-then-not-statement_holds
-returns-then-not-statement_holds c = test_fails (statement_holds c.args.types c.args.variants c.args.statements.now c.args.counts) c.args.counts.statements c.loop-i.i c.statement_holds.result c.loop-i-test.true c.statement_holds.ensures c.if-not-statement_holds.true
+returns-then-not-statement_holds c = test_fails (statement_holds c.args.types c.args.variants c.args.statements.now c.args.counts) c.args.counts.statements c.loop-i.i c.statement_holds.result c.loop-i-test.true c.statement_holds.ensures (ap not c.if-not-statement_holds.true)
 
 pub overflow_add-i : goal.overflow_add-i
 overflow_add-i c = omega (arith, c.loop-i-test.true, c.requires)
@@ -20,7 +22,7 @@ pub loop-i-smaller : goal.loop-i-smaller
 loop-i-smaller c = omega (arith, c.loop-i-test.true)
 
 pub loop-i-preserved : goal.loop-i-preserved
-loop-i-preserved c = test_holds (statement_holds c.args.types c.args.variants c.args.statements.now c.args.counts) c.args.counts.statements c.loop-i.i c.statement_holds.result c.loop-i.invariant c.loop-i-test.true c.statement_holds.ensures c.if-not-statement_holds.false
+loop-i-preserved c = test_holds (statement_holds c.args.types c.args.variants c.args.statements.now c.args.counts) c.args.counts.statements c.loop-i.i c.statement_holds.result c.loop-i.invariant c.loop-i-test.true c.statement_holds.ensures (ap not c.if-not-statement_holds.false)
 
 pub returns : goal.returns
 returns c = tests_end (statement_holds c.args.types c.args.variants c.args.statements.now c.args.counts) c.args.counts.statements c.loop-i.i c.loop-i.invariant c.loop-i-test.false

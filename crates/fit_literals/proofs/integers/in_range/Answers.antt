@@ -16,6 +16,6 @@ returns-then-high-ge9223372036854775808 c = c.negative_in_range.ensures ∙ valu
 pub returns : goal.returns
 returns c =
     elim c.else-negative.branch [
-      else-negative-via-then-negative+else-high-ge9223372036854775808 w ↦ c.positive_in_range.ensures ∙ value_positive _ _ _ c.requires.1 c.half-low.ensures c.half-high.ensures (omega arith) w.if-high-ge9223372036854775808.false w.if-negative.true
-    | else-negative-via-else-negative w ↦ c.positive_in_range.ensures ∙ value_unsigned _ _ _ c.requires.1 c.half-low.ensures c.half-high.ensures w.if-negative.false
+      | else-negative-via-then-negative+else-high-ge9223372036854775808 w ↦ c.positive_in_range.ensures ∙ value_positive _ _ _ c.requires.1 c.half-low.ensures c.half-high.ensures (omega arith) w.if-high-ge9223372036854775808.false w.if-negative.true
+      | else-negative-via-else-negative w ↦ c.positive_in_range.ensures ∙ value_unsigned _ _ _ c.requires.1 c.half-low.ensures c.half-high.ensures w.if-negative.false
     ]
