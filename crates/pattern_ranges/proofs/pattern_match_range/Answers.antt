@@ -6,13 +6,13 @@ use Rattle.pattern_ranges.proofs.Ends.{range_skips, range_stops, range_both}
 use Rattle.pattern_ranges.proofs.pattern_match_range.Goals as goal
 
 pub returns-then-not-is_check : goal.returns-then-not-is_check
-returns-then-not-is_check c = range_skips _ _ _ _ _ _ _ _ _ _ _ _ (sym c.is_check.ensures ∙ c.if-not-is_check.true) c.requires.1.1
+returns-then-not-is_check c = range_skips _ _ _ _ _ _ _ _ _ _ _ _ (sym c.is_check.ensures ∙ c.if-not-is_check.true) c.requires.ready.1
 
 pub range_end-requires-in-Done : goal.range_end-requires-in-Done
-range_end-requires-in-Done c = ((c.requires.0.0, c.requires.0.1, c.requires.0.2, c.requires.0.4), lowers_goes (rw c.in-Done.is at c.range_end.ensures) c.requires.1.0)
+range_end-requires-in-Done c = record { image_value = (c.requires.image_value.0, c.requires.image_value.1, c.requires.image_value.2, c.requires.image_value.4); ready = lowers_goes (rw c.in-Done.is at c.range_end.ensures) c.requires.ready.0 }
 
 pub returns-in-Refused : goal.returns-in-Refused
 returns-in-Refused c = range_stops _ _ _ _ _ _ _ _ _ _ _ _ (sym c.is_check.ensures ∙ c.if-not-is_check.false) (rw c.in-Refused.is at c.range_end.ensures)
 
 pub returns-in-Done : goal.returns-in-Done
-returns-in-Done c = range_both _ _ _ _ _ _ _ _ _ _ _ _ (sym c.is_check.ensures ∙ c.if-not-is_check.false) c.requires.1.0 (rw c.in-Done.is at c.range_end.ensures) c.end_op.ensures c.range_end-in-Done.ensures
+returns-in-Done c = range_both _ _ _ _ _ _ _ _ _ _ _ _ (sym c.is_check.ensures ∙ c.if-not-is_check.false) c.requires.ready.0 (rw c.in-Done.is at c.range_end.ensures) c.end_op.ensures c.range_end-in-Done.ensures

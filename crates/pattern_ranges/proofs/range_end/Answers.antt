@@ -3,10 +3,10 @@ use Rattle.pattern_ranges.proofs.Ends.{range_holds, end_absent, end_refused, end
 use Rattle.pattern_ranges.proofs.range_end.Goals as goal
 
 pub returns-then-o-eq65535 : goal.returns-then-o-eq65535
-returns-then-o-eq65535 c = end_absent _ _ _ _ _ _ _ _ _ _ c.if-o-eq65535.true c.requires.1.1
+returns-then-o-eq65535 c = end_absent _ _ _ _ _ _ _ _ _ _ c.if-o-eq65535.true c.requires.ready.1
 
 pub lower_literal_or_const_to_operand-requires : goal.lower_literal_or_const_to_operand-requires
-lower_literal_or_const_to_operand-requires c = (c.requires.0.0, c.requires.0.1, c.requires.0.2, range_holds _ _ c.if-o-eq65535.false c.requires.0.3)
+lower_literal_or_const_to_operand-requires c = (c.requires.image_value.0, c.requires.image_value.1, c.requires.image_value.2, range_holds _ _ c.if-o-eq65535.false c.requires.image_value.3)
 
 pub returns-in-Refused : goal.returns-in-Refused
 returns-in-Refused c = end_refused _ _ _ _ _ _ _ _ _ _ c.if-o-eq65535.false (rw c.in-Refused.is at c.lower_literal_or_const_to_operand.ensures)
