@@ -365,6 +365,8 @@ def turn_cycle(names, base, crate, folder, path):
     invariants, answers, doubts = [], [], []
     for block in blocks:
         code = "\n".join(l for l in block.split("\n") if not l.startswith("--"))
+        if not code.strip():
+            continue
         head = re.match(r"(?:(?:pub|abbrev|unfoldable)\s+)*(\S+) :\s*(.*)", code)
         if not head:
             raise Left("no signature: " + code[:60])

@@ -14,11 +14,11 @@ returns-in_default c = path_full _ _ _ _ _ _ _ _ _ _ (sym c.is_check.ensures ∙
 
 pub constant_compared-requires : goal.constant_compared-requires
 constant_compared-requires c =
-    let G = assign_goes _ (rw c.in-Local.is at c.temp.ensures) (constant_length _ _ _) c.push_constant_assignment.ensures.ready (sym c.in-Now.is ∙ c.push_constant_assignment.ensures.whole) c.requires.ready.0 c.requires.ready.1 in
-    (c.requires.0.0, G.0, G.1)
+    let G = assign_goes _ (rw c.in-Local.is at c.temp.ensures) (constant_length _ _ _) c.push_constant_assignment.ensures.1 (sym c.in-Now.is ∙ c.push_constant_assignment.ensures.0) c.requires.ready.0 c.requires.ready.1 in
+    (c.requires.whole.0, G.0, G.1)
 
 pub returns-in-Refused : goal.returns-in-Refused
 returns-in-Refused c = path_no_temp _ _ _ _ _ _ _ _ _ _ (sym c.is_check.ensures ∙ c.if-not-is_check.false) c.lower_const_to_operand-constant.ensures (rw c.in-Refused.is at c.temp.ensures)
 
 pub returns-in-Now : goal.returns-in-Now
-returns-in-Now c = path_tests_lem _ _ _ _ _ _ _ _ _ _ (sym c.is_check.ensures ∙ c.if-not-is_check.false) c.lower_const_to_operand-constant.ensures (rw c.in-Local.is at c.temp.ensures) c.push_constant_assignment.ensures.ready (sym c.in-Now.is ∙ c.push_constant_assignment.ensures.whole) c.requires.ready.0 c.requires.ready.1 c.constant_compared.ensures
+returns-in-Now c = path_tests_lem _ _ _ _ _ _ _ _ _ _ (sym c.is_check.ensures ∙ c.if-not-is_check.false) c.lower_const_to_operand-constant.ensures (rw c.in-Local.is at c.temp.ensures) c.push_constant_assignment.ensures.1 (sym c.in-Now.is ∙ c.push_constant_assignment.ensures.0) c.requires.ready.0 c.requires.ready.1 c.constant_compared.ensures

@@ -1,0 +1,7 @@
+use borrow.Author.Rules.{rules}
+use native.Mathlib.Omega.{arith}
+use Rattle.parsing_opening.proofs.Opened.{opens_two_lem}
+use Rattle.parsing_opening.proofs.open_two.Goals as goal
+
+pub returns : goal.returns
+returns c = opens_two_lem c.put_node.ensures (omega arith) c.open_node.ensures
