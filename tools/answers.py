@@ -219,7 +219,7 @@ def answer_body(body, root, chain):
 def split(block):
     """A declaration's name, type, lines of `unfolding`, its parameters and its body."""
     comments = [l for l in block.split("\n") if l.startswith("--")]
-    lines = [l for l in block.split("\n") if not l.startswith("--")]
+    lines = "\n".join(l for l in block.split("\n") if not l.startswith("--")).strip("\n").split("\n")
     head = re.match(r"(?:(?:pub|abbrev|unfoldable)\s+)*(\S+) :\s*(.*)", lines[0])
     if not head:
         raise Left("no signature: " + lines[0][:80])
@@ -256,7 +256,7 @@ def invariant(names, kind, name, unfolds, params, body):
     means = {p: w for p, w in zip(params, wanted) if p != "_"}
     token = re.compile(r"(?<![\w.'«-])(" + "|".join(re.escape(p) for p in sorted(means, key=len, reverse=True)) + r")(?![\w'₀-])") if means else None
     out = token.sub(lambda it: means[it.group(1)], body) if token else body
-    goal = f"{word}-{new}"
+    goal = f"{word}-{names['stem']}{new}"
     return "\n".join([f"abbrev pub {goal} : goal.{goal}", *unfolds, f"{goal} l ={out}"])
 
 
@@ -364,13 +364,15 @@ def turn_cycle(names, base, crate, folder, path):
     declared, own, final, loops = {}, [], None, {}
     invariants, answers, doubts = [], [], []
     for block in blocks:
-        code = "\n".join(l for l in block.split("\n") if not l.startswith("--"))
+        code = "\n".join(l for l in block.split("\n") if not l.startswith("--")).strip("\n")
         if not code.strip():
             continue
         head = re.match(r"(?:(?:pub|abbrev|unfoldable)\s+)*(\S+) :\s*(.*)", code)
         if not head:
             raise Left("no signature: " + code[:60])
-        name, kind = head.group(1), head.group(2)
+        name = head.group(1)
+        clause = re.search(r"(?m)^" + re.escape(name) + r"(?=\s)", code)
+        kind = " ".join(code[head.start(2) : clause.start() if clause and clause.start() > head.start(2) else len(code)].split())
         if "→ statement M" in kind:
             final = code
         elif re.match(r"Measures ", kind):
@@ -422,6 +424,7 @@ def turn_cycle(names, base, crate, folder, path):
         doubts += [f"no goal for {g}" for k, g in enumerate(asked) if k not in taken and not g.endswith("search rules)")]
         for k, n in pairs:
             (_, new), (place, _) = here["needs"][n], here["asked_at"][n]
+            new = here["stem"] + new
             chain = Chain(here, place)
             if asked[k] in declared:
                 notes, _, _, unfolds, params, body = declared[asked[k]]

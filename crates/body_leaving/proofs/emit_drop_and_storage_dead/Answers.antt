@@ -13,7 +13,7 @@ pub returns-in_default : goal.returns-in_default
 returns-in_default c = no_room_leaves _ _ _ _ _ c.requires.1.2 (sym (c.is_copy.ensures ∙ ap (is_copy _) c.local_word-word.ensures) ∙ c.if-is_copy.false) (rw c.in_default.is at c.new_basic_block.ensures)
 
 pub set_terminator-requires : goal.set_terminator-requires
-set_terminator-requires c = (search rules, omega (arith, c.requires.1, (made_block _ _ _ (rw c.in-Block.is at c.new_basic_block.ensures)).0))
+set_terminator-requires c = (search rules, omega (arith, c.requires.locals_bound, (made_block _ _ _ (rw c.in-Block.is at c.new_basic_block.ensures)).0))
 
 pub mark_dead-requires-2 : goal.mark_dead-requires-2
 mark_dead-requires-2 c = next_below _ _ _ (rw c.in-Block.is at c.new_basic_block.ensures)

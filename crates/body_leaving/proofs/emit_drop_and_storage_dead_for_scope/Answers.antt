@@ -6,16 +6,16 @@ use Rattle.body_leaving.proofs.Departing.{Departed, departing_starts, entry_name
 use Rattle.body_leaving.proofs.emit_drop_and_storage_dead_for_scope.Goals as goal
 
 pub loop-i-init : goal.loop-i-init
-loop-i-init c = departing_starts c.requires.1.1 c.requires.1.2
+loop-i-init c = departing_starts c.requires.locals_bound.1 c.requires.locals_bound.2
 
 pub overflow_sub-i : goal.overflow_sub-i
 overflow_sub-i c = omega (arith, c.loop-i-test.true)
 
 pub entry_local-l-requires : goal.entry_local-l-requires
-entry_local-l-requires c = (search rules, omega (arith, c.loop-i-test.true, c.loop-i.invariant.before, c.requires.1))
+entry_local-l-requires c = (search rules, omega (arith, c.loop-i-test.true, c.loop-i.invariant.before, c.requires.locals_bound))
 
 pub emit_drop_and_storage_dead-requires : goal.emit_drop_and_storage_dead-requires
-emit_drop_and_storage_dead-requires c = (c.requires.0, (omega (arith, c.requires.1.0, c.loop-i.invariant.left.3), c.loop-i.invariant.left.0, entry_named c.loop-i.invariant c.entry_local-l.ensures (c.requires.1.5 _ (omega (arith, c.requires.1, c.loop-i-test.true, c.loop-i.invariant.before)))))
+emit_drop_and_storage_dead-requires c = record { whole = c.requires.whole; locals_bound = (omega (arith, c.requires.locals_bound.0, c.loop-i.invariant.left.3), c.loop-i.invariant.left.0, entry_named c.loop-i.invariant c.entry_local-l.ensures (c.requires.locals_bound.5 _ (omega (arith, c.requires.locals_bound, c.loop-i-test.true, c.loop-i.invariant.before)))) }
 
 pub loop-i-smaller : goal.loop-i-smaller
 loop-i-smaller c = omega (arith, c.loop-i-test.true)
