@@ -7,10 +7,10 @@ use Rattle.body_leaving.proofs.Departing.{copy_leaves, no_room_leaves, drop_leav
 use Rattle.body_leaving.proofs.emit_drop_and_storage_dead.Goals as goal
 
 pub returns-then-is_copy : goal.returns-then-is_copy
-returns-then-is_copy c = copy_leaves _ _ _ _ _ c.requires.1.2 (sym (c.is_copy.ensures ∙ ap (is_copy _) c.local_word-word.ensures) ∙ c.if-is_copy.true) c.mark_dead.ensures
+returns-then-is_copy c = copy_leaves _ _ _ _ _ c.requires.locals_bound.2 (sym (c.is_copy.ensures ∙ ap (is_copy _) c.local_word-word.ensures) ∙ c.if-is_copy.true) c.mark_dead.ensures
 
 pub returns-in_default : goal.returns-in_default
-returns-in_default c = no_room_leaves _ _ _ _ _ c.requires.1.2 (sym (c.is_copy.ensures ∙ ap (is_copy _) c.local_word-word.ensures) ∙ c.if-is_copy.false) (rw c.in_default.is at c.new_basic_block.ensures)
+returns-in_default c = no_room_leaves _ _ _ _ _ c.requires.locals_bound.2 (sym (c.is_copy.ensures ∙ ap (is_copy _) c.local_word-word.ensures) ∙ c.if-is_copy.false) (rw c.in_default.is at c.new_basic_block.ensures)
 
 pub set_terminator-requires : goal.set_terminator-requires
 set_terminator-requires c = (search rules, omega (arith, c.requires.locals_bound, (made_block _ _ _ (rw c.in-Block.is at c.new_basic_block.ensures)).0))
@@ -19,4 +19,4 @@ pub mark_dead-requires-2 : goal.mark_dead-requires-2
 mark_dead-requires-2 c = next_below _ _ _ (rw c.in-Block.is at c.new_basic_block.ensures)
 
 pub returns : goal.returns
-returns c = drop_leaves _ _ _ _ _ c.requires.1.2 (sym (c.is_copy.ensures ∙ ap (is_copy _) c.local_word-word.ensures) ∙ c.if-is_copy.false) c.requires.1.1 (rw c.in-Block.is at c.new_basic_block.ensures) c.set_terminator.ensures c.mark_dead-2.ensures
+returns c = drop_leaves _ _ _ _ _ c.requires.locals_bound.2 (sym (c.is_copy.ensures ∙ ap (is_copy _) c.local_word-word.ensures) ∙ c.if-is_copy.false) c.requires.locals_bound.1 (rw c.in-Block.is at c.new_basic_block.ensures) c.set_terminator.ensures c.mark_dead-2.ensures

@@ -43,7 +43,7 @@ pub loop-i-smaller-then-statements-at : goal.loop-i-smaller-then-statements-at
 loop-i-smaller-then-statements-at c = omega (arith, c.loop-i-test.true)
 
 pub loop-i-preserved-then-statements-at : goal.loop-i-preserved-then-statements-at
-loop-i-preserved-then-statements-at c = going_more c.loop-i.invariant (rw (row_part statement_width c.args.statements.now c.loop-i.i) at c.put_statement-written.ensures) c.put_statement-written.auto.0 (line_here c.args.statements.now c.args.count c.args.block.0 c.loop-i.i c.loop-i-test.true c.if-statements-at.true)
+loop-i-preserved-then-statements-at c = going_more c.loop-i.invariant (rw (row_part statement_width c.args.statements.now c.loop-i.i) at c.put_statement-written.ensures) c.put_statement-written.auto.out (line_here c.args.statements.now c.args.count c.args.block.0 c.loop-i.i c.loop-i-test.true c.if-statements-at.true)
 
 pub loop-i-smaller : goal.loop-i-smaller
 loop-i-smaller c = omega (arith, c.loop-i-test.true)
@@ -52,7 +52,7 @@ pub loop-i-preserved : goal.loop-i-preserved
 loop-i-preserved c = going_on_lem c.loop-i.invariant (line_elsewhere c.args.statements.now c.args.count c.args.block.0 c.loop-i.i c.loop-i-test.true c.if-statements-at.false)
 
 pub shape_of-out : goal.shape_of-out
-shape_of-out c = omega (arith, c.loop-i.invariant.long, c.put-written.auto.0)
+shape_of-out c = omega (arith, c.loop-i.invariant.long, c.put-written.auto.out)
 
 pub returns : goal.returns
 returns c = and_then_lem c.put-written.ensures (going_end c.loop-i.invariant (lines_end c.args.statements.now c.args.count c.args.block.0 c.loop-i.i c.loop-i-test.false))
