@@ -118,7 +118,7 @@ module _ (image : List ℕ) where
 
   -- the bindings of a pattern, by its kind
   split_by : (k : PatKind) (p : ℕ) (row : PatRow) → (k ≡ PatKind.Slice → (t items : ℕ) → owned (rest_own image row.d t items) ≡ rest_bound? (tree? (tree image) row.d) (ty_of image t).shape t items) →
-      Split (bound_in image (Rattle.image.specs.Tree.node_by k (tree image) image (head_of p row) row)) (owned (node_by k image p row).own_val) (bound_in_row image (telling_of (node_by k image p row)))
+      Split (bound_in image (Rattle.image.specs.Tree.node_by k (tree image) image (head_of p row) row)) (owned (node_by k image p row).own) (bound_in_row image (telling_of (node_by k image p row)))
   unfolding bound_in Rattle.image.specs.Tree.node_by node_by telling_of owned numbers trees bound_in_all number_at
   split_by PatKind.Missing p row r = split_none refl
   split_by PatKind.Rest p row r = split_none refl

@@ -33,7 +33,7 @@ pub loop-b-preserved : goal.loop-b-preserved
 loop-b-preserved c = going_more c.loop-b.invariant c.put_block-written.ensures c.put_block-written.auto.out (records_more c.args.records c.args.counts.blocks (omega (arith, c.requires.1, c.well_formed.1.1.0)) (lines_of c.args.statements.now c.args.counts.statements) c.loop-b.b c.terminator_of-terminator.result c.loop-b-test.true c.terminator_of-terminator.ensures)
 
 pub shape_of-out : goal.shape_of-out
-shape_of-out c = omega (arith, c.loop-b.invariant.long, c.put-written.auto.0)
+shape_of-out c = omega (arith, c.loop-b.invariant.long, c.put-written.auto.out)
 
 pub returns : goal.returns
 returns c = and_then_lem c.put-written.ensures (going_end c.loop-b.invariant (records_end c.args.records c.args.counts.blocks (omega (arith, c.requires.1, c.well_formed.1.1.0)) (lines_of c.args.statements.now c.args.counts.statements) c.loop-b.b c.loop-b-test.false))

@@ -7,7 +7,7 @@ pub loop-left-init : goal.loop-left-init
 loop-left-init c = looks_begin _ _ _ c.requires.1
 
 pub offset_bounds-words-k : goal.offset_bounds-words-k
-offset_bounds-words-k c = omega (arith, first_words c.loop-left.invariant.listed c.loop-left-test.true, c.well-formed)
+offset_bounds-words-k c = omega (arith, first_words c.loop-left.invariant.listed c.loop-left-test.true, c.well_formed)
 
 pub bounds-words-k : goal.bounds-words-k
 bounds-words-k c = omega (arith, first_words c.loop-left.invariant.listed c.loop-left-test.true)
@@ -19,7 +19,7 @@ pub returns-then-binds_receiver : goal.returns-then-binds_receiver
 returns-then-binds_receiver c = looks_found _ _ _ c.loop-left.invariant c.loop-left-test.true c.binds_receiver.ensures c.if-binds_receiver.true
 
 pub overflow_add-k : goal.overflow_add-k
-overflow_add-k c = omega (arith, first_words c.loop-left.invariant.listed c.loop-left-test.true, c.well-formed)
+overflow_add-k c = omega (arith, first_words c.loop-left.invariant.listed c.loop-left-test.true, c.well_formed)
 
 pub overflow_sub-left : goal.overflow_sub-left
 overflow_sub-left c = omega (arith, c.loop-left-test.true)

@@ -6,7 +6,7 @@ pub loop-left-init : goal.loop-left-init
 loop-left-init c = names_begin _ _ c.requires.1
 
 pub offset_bounds-words-k : goal.offset_bounds-words-k
-offset_bounds-words-k c = omega (arith, in_list _ _ c.loop-left.invariant c.loop-left-test.true, c.well-formed)
+offset_bounds-words-k c = omega (arith, in_list _ _ c.loop-left.invariant c.loop-left-test.true, c.well_formed)
 
 pub bounds-words-k : goal.bounds-words-k
 bounds-words-k c = omega (arith, in_list _ _ c.loop-left.invariant c.loop-left-test.true)
@@ -15,10 +15,10 @@ pub returns-then-tables-words : goal.returns-then-tables-words
 returns-then-tables-words c = no_pattern_lem _ _ c.loop-left.invariant c.loop-left-test.true c.requires.0 c.if-tables-words.true
 
 pub overflow_add-k : goal.overflow_add-k
-overflow_add-k c = omega (arith, in_list _ _ c.loop-left.invariant c.loop-left-test.true, c.well-formed)
+overflow_add-k c = omega (arith, in_list _ _ c.loop-left.invariant c.loop-left-test.true, c.well_formed)
 
 pub offset_bounds-words-k-in-loop-left : goal.offset_bounds-words-k-in-loop-left
-offset_bounds-words-k-in-loop-left c = omega (arith, in_list _ _ c.loop-left.invariant c.loop-left-test.true, c.well-formed)
+offset_bounds-words-k-in-loop-left c = omega (arith, in_list _ _ c.loop-left.invariant c.loop-left-test.true, c.well_formed)
 
 pub bounds-words-k-in-loop-left : goal.bounds-words-k-in-loop-left
 bounds-words-k-in-loop-left c = omega (arith, in_list _ _ c.loop-left.invariant c.loop-left-test.true)
@@ -27,7 +27,7 @@ pub returns-then-tables-words-2 : goal.returns-then-tables-words-2
 returns-then-tables-words-2 c = no_type_lem _ _ c.loop-left.invariant c.loop-left-test.true c.requires.0 c.if-tables-words.false c.if-tables-words-2.true
 
 pub overflow_add-k-in-loop-left : goal.overflow_add-k-in-loop-left
-overflow_add-k-in-loop-left c = omega (arith, in_list _ _ c.loop-left.invariant c.loop-left-test.true, c.well-formed)
+overflow_add-k-in-loop-left c = omega (arith, in_list _ _ c.loop-left.invariant c.loop-left-test.true, c.well_formed)
 
 pub overflow_sub-left : goal.overflow_sub-left
 overflow_sub-left c = omega (arith, c.loop-left-test.true)

@@ -5,10 +5,10 @@ use Rattle.pattern_leaves.proofs.Defaults.{something_else}
 use Rattle.pattern_leaves.proofs.kinds.path_leaf.Goals as goal
 
 pub local_path-requires : goal.local_path-requires
-local_path-requires c = (path_binding _ _ c.requires.0.1 c.in-Local.is c.requires.0.2, c.requires.1.1)
+local_path-requires c = (path_binding _ _ c.requires.whole.1 c.in-Local.is c.requires.whole.2, c.requires.ready.1)
 
 pub constant_path-requires : goal.constant_path-requires
-constant_path-requires c = ((c.requires.0.0, path_operand _ _ c.requires.0.1 c.in-Constant.is, path_constant _ _ c.requires.0.1 c.in-Constant.is), c.requires.1)
+constant_path-requires c = record { whole = (c.requires.whole.0, path_operand _ _ c.requires.whole.1 c.in-Constant.is, path_constant _ _ c.requires.whole.1 c.in-Constant.is); ready = c.requires.ready }
 
 pub returns-in-Unresolved : goal.returns-in-Unresolved
 returns-in-Unresolved c = path_unresolved _ _ _ _ _ _ _ _ _ _ _ c.in-Unresolved.is
@@ -20,4 +20,4 @@ pub returns-in-Constant : goal.returns-in-Constant
 returns-in-Constant c = path_compared _ _ _ _ _ _ _ _ _ _ _ c.in-Constant.is c.constant_path.ensures
 
 pub returns-in_default : goal.returns-in_default
-returns-in_default c = path_other _ _ _ _ _ _ _ _ _ _ _ _ (something_else _ _ _ _ _ _ (opened c.in_default.in_default-own.keys4)) c.requires.1.1 c.other_path.ensures
+returns-in_default c = path_other _ _ _ _ _ _ _ _ _ _ _ _ (something_else _ _ _ _ _ _ c.in_default.in_default-own.keys4) c.requires.ready.1 c.other_path.ensures

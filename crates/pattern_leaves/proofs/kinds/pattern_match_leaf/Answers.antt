@@ -8,18 +8,18 @@ use Rattle.pattern_leaves.proofs.kinds.pattern_match_leaf.Goals as goal
 
 pub pattern_match_range-requires : goal.pattern_match_range-requires
 pattern_match_range-requires c =
-    let ends = range_holds c.args.image.now c.args.row (sym c.in-Range.is ∙ c.pat_kind.ensures) c.requires.0.3 refl in
-    ((c.requires.0.0, c.requires.0.1, c.requires.0.2, ends.0, ends.1), c.requires.1)
+    let ends = range_holds c.args.image.now c.args.row (sym c.in-Range.is ∙ c.pat_kind.ensures) c.requires.image_value.3 refl in
+    record { image_value = (c.requires.image_value.0, c.requires.image_value.1, c.requires.image_value.2, ends.0, ends.1); ready = c.requires.ready }
 
 pub path_leaf-requires : goal.path_leaf-requires
-path_leaf-requires c = ((c.requires.0.1, path_holds_lem c.args.image.now c.args.row (sym c.in-Path.is ∙ c.pat_kind.ensures) c.requires.0.3 refl c.path_kind.ensures, c.requires.0.4), c.requires.1)
+path_leaf-requires c = record { whole = (c.requires.image_value.1, path_holds_lem c.args.image.now c.args.row (sym c.in-Path.is ∙ c.pat_kind.ensures) c.requires.image_value.3 refl c.path_kind.ensures, c.requires.image_value.4); ready = c.requires.ready }
 
 pub pattern_match_lit-requires : goal.pattern_match_lit-requires
-pattern_match_lit-requires c = ((c.requires.0.0, c.requires.0.1, c.requires.0.2, literal_holds c.args.image.now c.args.row (sym c.in-Lit.is ∙ c.pat_kind.ensures) c.requires.0.3 refl), c.requires.1)
+pattern_match_lit-requires c = record { image_value = (c.requires.image_value.0, c.requires.image_value.1, c.requires.image_value.2, literal_holds c.args.image.now c.args.row (sym c.in-Lit.is ∙ c.pat_kind.ensures) c.requires.image_value.3 refl); ready = c.requires.ready }
 
 pub returns-in-Wild : goal.returns-in-Wild
 unfolding leaf_pattern
-returns-in-Wild c = leaf_passed c.args.image.now c.args.bindings.now _ _ c.args.mode c.args.p c.args.row _ _ c.args.place (sym c.in-Wild.is ∙ c.pat_kind.ensures) refl c.requires.1.1
+returns-in-Wild c = leaf_passed c.args.image.now c.args.bindings.now _ _ c.args.mode c.args.p c.args.row _ _ c.args.place (sym c.in-Wild.is ∙ c.pat_kind.ensures) refl c.requires.ready.1
 
 pub returns-in-Range : goal.returns-in-Range
 unfolding leaf_pattern

@@ -1,0 +1,14 @@
+use borrow.Author.Rules.{rules}
+use native.Mathlib.Omega.{arith}
+use borrow.Rule.Slice.PartMut.{mid_len}
+use Rattle.body_tables.specs.Layout.{statements_at, body_of}
+use Rattle.body_tables.proofs.Regions.{put_blocks}
+use Rattle.body_restoring.proofs.put_back.Goals as goal
+
+pub returns : goal.returns
+unfolding body_of
+returns c =
+    let start = c in
+    let call = c.store_at in
+    let w = c.args.body.now in
+    put_blocks w c.requires.0 call.ensures (omega (arith, call.auto, mid_len 0 statements_at w (omega (arith, c.requires.0))))

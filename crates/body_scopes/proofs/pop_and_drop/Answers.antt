@@ -1,0 +1,39 @@
+use borrow.Author.Rules.{rules}
+use Prim.Native.Nat.{◌-◌}
+use native.Mathlib.Omega.{arith}
+use native.Mathlib.Nat.{le_refl}
+use Rattle.body_scopes.proofs.Closing.{no_pop, pop_refused, pop_drops, scope_same}
+use Rattle.body_scopes.proofs.pop_and_drop.Goals as goal
+
+emit_drop_and_storage_dead_for_scope_requires :
+    tie.Need-emit-drop-and-storage-dead-for-scope-requires
+emit_drop_and_storage_dead_for_scope_requires c κs =
+    let first = c.before.before.before.before.before.before.before.before in
+    let counts = first.args.counts in
+    let named = first.requires.1.1 (counts.scopes - 1) (omega (arith, c.before.before.before.before.before.if1.false)) in
+    (first.requires.0.0, (first.requires.0.1, first.requires.0.4, omega (arith, named, c.before.scope-word.ensures), le_refl counts.entries, first.requires.0.3, first.requires.1.0))
+
+pub returns-then-counts-eq0 : goal.returns-then-counts-eq0
+returns-then-counts-eq0 c = no_pop _ _ _ _ c.if-counts-eq0.true
+
+pub emit_drop_and_storage_dead_for_scope-requires : goal.emit_drop_and_storage_dead_for_scope-requires
+emit_drop_and_storage_dead_for_scope-requires = emit_drop_and_storage_dead_for_scope_requires
+
+pub pop_scope-requires : goal.pop_scope-requires
+pop_scope-requires c =
+    let first = c in
+    let emitted = c.emit_drop_and_storage_dead_for_scope.ensures in
+    let L = rw c.in-At.is at emitted.left in
+    (omega (arith, L.4, c.if-counts-eq0.false), omega (arith, L.4, c.requires.0.2), omega (arith, L.5, c.requires.0.3), λ i h. omega (arith, scope_same emitted.beside i, c.requires.1.1 i (omega (arith, L.4)), L.5))
+
+pub returns-in-Refused : goal.returns-in-Refused
+returns-in-Refused c =
+    let first = c in
+    let named = c.requires.1.1 (c.args.counts.scopes - 1) (omega (arith, c.if-counts-eq0.false)) in
+    pop_refused _ _ _ _ _ (omega (arith, c.if-counts-eq0.false)) c.scope_word-start.ensures (omega (arith, named, c.scope_word-start.ensures)) (rw c.in-Refused.is at c.emit_drop_and_storage_dead_for_scope.ensures)
+
+pub returns-in-At : goal.returns-in-At
+returns-in-At c =
+    let first = c in
+    let named = c.requires.1.1 (c.args.counts.scopes - 1) (omega (arith, c.if-counts-eq0.false)) in
+    pop_drops _ _ _ _ _ (omega (arith, c.if-counts-eq0.false)) c.scope_word-start.ensures (omega (arith, named, c.scope_word-start.ensures)) (rw c.in-At.is at c.emit_drop_and_storage_dead_for_scope.ensures) c.pop_scope.ensures
