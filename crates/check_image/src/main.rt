@@ -4,10 +4,10 @@
 use image_report::report;
 use program_io::{Input, read_input};
 
-fn main() {
+fn main(rt: HostRuntime) {
     let mut buffer = [0u8; 65536];
-    match read_input(&mut buffer) {
+    match read_input(&rt, &mut rt.stdin(), &mut buffer) {
         Input::Failed => {}
-        Input::Bytes(n) => report(&buffer[..n]),
+        Input::Bytes(n) => report(&rt, &buffer[..n]),
     }
 }

@@ -1,35 +1,34 @@
 // Prints what reading an image answers, as one line on standard output.
 #![tactic(auto)]
 use image::Tables;
-use libc::STDOUT_FILENO;
 use program_io::{tell_write, write_output};
 use read_image::{Read, read_image};
 
 // A space, and a count: answers whether they were written.
-fn print_count(count: u16) -> bool {
-    io::write_all(STDOUT_FILENO, b" ") && io::print_decimal(STDOUT_FILENO, count as u64)
+fn print_count(rt: &impl Print, count: u16) -> bool {
+    print!(rt; " {count}").is_ok()
 }
 
 // `image` and the six counts: T V P B L D.
-fn print_counts(tables: Tables) -> bool {
-    io::write_all(STDOUT_FILENO, b"image")
-        && print_count(tables.types.count)
-        && print_count(tables.variants.count)
-        && print_count(tables.patterns.count)
-        && print_count(tables.bindings.count)
-        && print_count(tables.list.count)
-        && print_count(tables.bytes.count)
-        && io::write_all(STDOUT_FILENO, b"\n")
+fn print_counts(rt: &impl Print, tables: Tables) -> bool {
+    rt.write_all(b"image").is_ok()
+        && print_count(rt, tables.types.count)
+        && print_count(rt, tables.variants.count)
+        && print_count(rt, tables.patterns.count)
+        && print_count(rt, tables.bindings.count)
+        && print_count(rt, tables.list.count)
+        && print_count(rt, tables.bytes.count)
+        && rt.write_all(b"\n").is_ok()
 }
 
 // The counts of an image, or `refused` and the three numbers of the refusal.
-pub fn report(image: &[u8]) {
+pub fn report(rt: &(impl Print + Eprint), image: &[u8]) {
     match read_image(image) {
         Read::Image(tables) => {
-            if !print_counts(tables) {
-                tell_write();
+            if !print_counts(rt, tables) {
+                tell_write(rt);
             }
         }
-        Read::Refused => write_output(b"refused 1 65535 0\n"),
+        Read::Refused => write_output(rt, b"refused 1 65535 0\n"),
     }
 }

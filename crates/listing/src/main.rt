@@ -3,18 +3,29 @@
 #![tactic(auto)]
 use image_listing::list_image;
 use program_io::{Input, read_input, write_output};
+use std::io::Read;
 
 // Prints the listing of an image, or its refusal; the buffer is lent as room for the text, and one that does not fit is not printed.
-fn print_listing(image: &[u8], out: &mut [u8]) {
+fn print_listing(rt: &(impl Print + Eprint), image: &[u8], out: &mut [u8]) {
     let count = list_image(image, out);
-    write_output(&out[..count]);
+    write_output(rt, &out[..count]);
 }
 
-fn main() {
+// The input is read into the one buffer, and its listing printed by way of the other.
+fn run(
+    rt: &(impl Print + Eprint),
+    input: &mut impl Read,
+    buffer: &mut [u8],
+    out: &mut [u8; 524288],
+) {
+    match read_input(rt, input, buffer) {
+        Input::Failed => {}
+        Input::Bytes(n) => print_listing(rt, &buffer[..n], out),
+    }
+}
+
+fn main(rt: HostRuntime) {
     let mut buffer = [0u8; 65536];
     let mut out = [0u8; 524288];
-    match read_input(&mut buffer) {
-        Input::Failed => {}
-        Input::Bytes(n) => print_listing(&buffer[..n], &mut out),
-    }
+    run(&rt, &mut rt.stdin(), &mut buffer, &mut out);
 }

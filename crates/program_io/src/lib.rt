@@ -3,7 +3,7 @@
 ghost use Rattle.std.specs.Prelude.{length};
 ghost use Rattle.program_io.specs.Inputs.{InputFits};
 
-use libc::{STDERR_FILENO, STDIN_FILENO, STDOUT_FILENO};
+use std::io::Read;
 
 #[derive(Clone, Copy)]
 pub enum Input {
@@ -13,38 +13,36 @@ pub enum Input {
     Failed,
 }
 
-fn tell_read() {
-    io::write_all(STDERR_FILENO, b"standard input could not be read\n");
+fn tell_read(rt: &impl Eprint) {
+    let _ = eprintln!(rt; "standard input could not be read");
 }
 
 // Reads until the buffer is full or the input ends.
-pub fn read_input(buffer: &mut [u8]) -> Input
+pub fn read_input(rt: &impl Eprint, input: &mut impl Read, buffer: &mut [u8]) -> Input
     ensures { InputFits result (length buffer.old) }
 {
     let mut done = 0;
     while done < buffer.len() {
-        let got = libc::read(STDIN_FILENO, &mut buffer[done..]);
-        if got < 0 {
-            tell_read();
-            return Input::Failed;
+        match input.read(&mut buffer[done..]) {
+            Err(_) => {
+                tell_read(rt);
+                return Input::Failed;
+            }
+            Ok(0) => return Input::Bytes(done),
+            Ok(more) => done += more,
         }
-        let more = io::count(got, &buffer[done..]);
-        if more == 0 {
-            return Input::Bytes(done);
-        }
-        done += more;
     }
     Input::Bytes(done)
 }
 
 // A write failed.
-pub fn tell_write() {
-    io::write_all(STDERR_FILENO, b"standard output could not be written\n");
+pub fn tell_write(rt: &impl Eprint) {
+    let _ = eprintln!(rt; "standard output could not be written");
 }
 
 // Writes all bytes.
-pub fn write_output(bytes: &[u8]) {
-    if !io::write_all(STDOUT_FILENO, bytes) {
-        tell_write();
+pub fn write_output(rt: &(impl Print + Eprint), bytes: &[u8]) {
+    if rt.write_all(bytes).is_err() {
+        tell_write(rt);
     }
 }

@@ -2,7 +2,6 @@
 #![tactic(auto)]
 ghost use Rattle.std.specs.Prelude.{◌≡◌, ◌*◌, ◌≤◌, length};
 
-use libc::STDOUT_FILENO;
 use program_io::{tell_write, write_output};
 
 // The digit of the lower four bits.
@@ -27,28 +26,28 @@ fn put_hex(bytes: &[u8], count: usize, out: &mut [u8])
 }
 
 // A line: `image`, and the first bytes of an image in hexadecimal.
-pub fn print_image(image: &[u8], count: usize)
+pub fn print_image(rt: &(impl Print + Eprint), image: &[u8], count: usize)
     requires { (count ≤ 34321) × (length image.now ≡ 34321) }
 {
     let mut digits = [0u8; 68642];
     put_hex(image, count, &mut digits);
-    write_output(b"image ");
-    write_output(&digits[..2 * count]);
-    write_output(b"\n");
+    write_output(rt, b"image ");
+    write_output(rt, &digits[..2 * count]);
+    write_output(rt, b"\n");
 }
 
 // A space, and a number: answers whether they were written.
-fn print_number(number: u16) -> bool {
-    io::write_all(STDOUT_FILENO, b" ") && io::print_decimal(STDOUT_FILENO, number as u64)
+fn print_number(rt: &impl Print, number: u16) -> bool {
+    print!(rt; " {number}").is_ok()
 }
 
 // `refused`, the number, the position, and 0 as the reason.
-pub fn print_refusal(number: u16, position: u16) {
-    if !(io::write_all(STDOUT_FILENO, b"refused")
-        && print_number(number)
-        && print_number(position)
-        && io::write_all(STDOUT_FILENO, b" 0\n"))
+pub fn print_refusal(rt: &(impl Print + Eprint), number: u16, position: u16) {
+    if !(rt.write_all(b"refused").is_ok()
+        && print_number(rt, number)
+        && print_number(rt, position)
+        && rt.write_all(b" 0\n").is_ok())
     {
-        tell_write();
+        tell_write(rt);
     }
 }

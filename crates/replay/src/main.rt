@@ -7,48 +7,65 @@ use image_report::report;
 use listings::{print_listing, replay_params};
 use replay_fit::replay_fit;
 use replay_matches::replay_script;
+use std::io::Read;
 use stored_records::{Entry, next_entry, next_sort};
 
 // A record of this sort, of which the image has been read: answers whether it could be replayed.
-fn replay_record(sort: u8, image: &[u8], out: &mut [u8; 524288]) -> bool {
+fn replay_record(
+    rt: &(impl Print + Eprint),
+    input: &mut impl Read,
+    sort: u8,
+    image: &[u8],
+    out: &mut [u8; 524288],
+) -> bool {
     match sort {
         1 => {
-            report(image);
+            report(rt, image);
             true
         }
         2 => {
-            print_listing(image, out);
+            print_listing(rt, image, out);
             true
         }
         3 => {
-            replay_script(image);
+            replay_script(rt, input, image);
             true
         }
-        4 => replay_params(image, out),
-        5 => replay_fit(image),
+        4 => replay_params(rt, input, image, out),
+        5 => replay_fit(rt, input, image),
         _ => false,
     }
 }
 
 // The next record: answers whether there was one that could be replayed.
-fn next(buffer: &mut [u8], out: &mut [u8; 524288]) -> bool {
-    let sort = next_sort();
-    match next_entry(buffer) {
+fn next(
+    rt: &(impl Print + Eprint),
+    input: &mut impl Read,
+    buffer: &mut [u8],
+    out: &mut [u8; 524288],
+) -> bool {
+    let sort = next_sort(input);
+    match next_entry(input, buffer) {
         Entry::End => false,
-        Entry::Image(n) => replay_record(sort, &buffer[..n], out),
+        Entry::Image(n) => replay_record(rt, input, sort, &buffer[..n], out),
     }
 }
 
 // A proved loop has to end, so it counts its turns down, from a number that no list uses up.
-fn replay(buffer: &mut [u8], out: &mut [u8; 524288]) {
+fn replay(
+    rt: &(impl Print + Eprint),
+    input: &mut impl Read,
+    buffer: &mut [u8],
+    out: &mut [u8; 524288],
+) {
     let mut turns = u64::MAX;
-    while turns > 0 && next(buffer, out) {
+    while turns > 0 && next(rt, input, buffer, out) {
         turns -= 1;
     }
 }
 
-fn main() {
+fn main(rt: HostRuntime) {
     let mut buffer = [0u8; 131072];
     let mut out = [0u8; 524288];
-    replay(&mut buffer, &mut out);
+    replay(&rt, &mut rt.stdin(), &mut buffer, &mut out);
 }

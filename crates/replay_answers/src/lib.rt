@@ -6,106 +6,104 @@ ghost use Rattle.body_tables.specs.Layout.{body_words};
 use body_calls_spec::{DropCall, MergeCall, ScopeCall, TempCall};
 use body_tables::{BODY_WORDS, ENTRIES, LOCALS, SCOPES, STATEMENTS};
 use image::PatId;
-use libc::STDOUT_FILENO;
 use lower_spec::merging::OptBlock;
 use mir::{BasicBlockId, Counts};
 use refusal_numbers::{number_of, reason_of};
 use refusals::MirLowerError;
 
 // A number, and a space.
-pub fn print_number(number: u32) {
-    io::print_decimal(STDOUT_FILENO, number as u64);
-    io::write_all(STDOUT_FILENO, b" ");
+pub fn print_number(rt: &impl Print, number: u32) {
+    let _ = print!(rt; "{number} ");
 }
 
 // A refusal's number, pattern and reason: 65535 where there is no pattern.
-pub fn print_refusal(number: u16, p: PatId, reason: u16) {
-    io::write_all(STDOUT_FILENO, b"refused ");
-    print_number(number as u32);
-    print_number(p.0 as u32);
-    print_number(reason as u32);
+pub fn print_refusal(rt: &impl Print, number: u16, p: PatId, reason: u16) {
+    let _ = rt.write_all(b"refused ");
+    print_number(rt, number as u32);
+    print_number(rt, p.0 as u32);
+    print_number(rt, reason as u32);
 }
 
 // The three numbers of an error, at a pattern.
-pub fn print_error(e: MirLowerError, p: PatId) {
-    print_refusal(number_of(e), p, reason_of(e));
+pub fn print_error(rt: &impl Print, e: MirLowerError, p: PatId) {
+    print_refusal(rt, number_of(e), p, reason_of(e));
 }
 
-fn print_block(block: BasicBlockId) {
-    io::write_all(STDOUT_FILENO, b"block ");
-    print_number(block.0 as u32);
+fn print_block(rt: &impl Print, block: BasicBlockId) {
+    let _ = rt.write_all(b"block ");
+    print_number(rt, block.0 as u32);
 }
 
-fn print_opt_block(block: OptBlock) {
+fn print_opt_block(rt: &impl Print, block: OptBlock) {
     match block {
         OptBlock::None => {
-            io::write_all(STDOUT_FILENO, b"block - ");
+            let _ = rt.write_all(b"block - ");
         }
-        OptBlock::Some(b) => print_block(b),
+        OptBlock::Some(b) => print_block(rt, b),
     }
 }
 
 // The counts behind a call: those of its answer, or after a refusal those before.
-pub fn print_temp(answer: TempCall, before: Counts) -> Counts {
+pub fn print_temp(rt: &impl Print, answer: TempCall, before: Counts) -> Counts {
     match answer {
         TempCall::Local(counts, l) => {
-            io::write_all(STDOUT_FILENO, b"local ");
-            print_number(l.0 as u32);
+            let _ = rt.write_all(b"local ");
+            print_number(rt, l.0 as u32);
             return counts;
         }
-        TempCall::Refused(e) => print_error(e, PatId(65535)),
-        TempCall::BadCall => print_refusal(2, PatId(65535), 0),
-        TempCall::BadImage => print_refusal(1, PatId(65535), 0),
+        TempCall::Refused(e) => print_error(rt, e, PatId(65535)),
+        TempCall::BadCall => print_refusal(rt, 2, PatId(65535), 0),
+        TempCall::BadImage => print_refusal(rt, 1, PatId(65535), 0),
     }
     before
 }
 
-pub fn print_merge(answer: MergeCall, before: Counts) -> Counts {
+pub fn print_merge(rt: &impl Print, answer: MergeCall, before: Counts) -> Counts {
     match answer {
         MergeCall::At(counts, b) => {
-            print_opt_block(b);
+            print_opt_block(rt, b);
             return counts;
         }
-        MergeCall::Refused(e) => print_error(e, PatId(65535)),
-        MergeCall::BadCall => print_refusal(2, PatId(65535), 0),
-        MergeCall::BadImage => print_refusal(1, PatId(65535), 0),
+        MergeCall::Refused(e) => print_error(rt, e, PatId(65535)),
+        MergeCall::BadCall => print_refusal(rt, 2, PatId(65535), 0),
+        MergeCall::BadImage => print_refusal(rt, 1, PatId(65535), 0),
     }
     before
 }
 
-pub fn print_scope(answer: ScopeCall, before: Counts) -> Counts {
+pub fn print_scope(rt: &impl Print, answer: ScopeCall, before: Counts) -> Counts {
     match answer {
         ScopeCall::Now(counts) => {
-            io::write_all(STDOUT_FILENO, b"now ");
+            let _ = rt.write_all(b"now ");
             return counts;
         }
-        ScopeCall::Refused(e) => print_error(e, PatId(65535)),
-        ScopeCall::BadCall => print_refusal(2, PatId(65535), 0),
-        ScopeCall::BadImage => print_refusal(1, PatId(65535), 0),
+        ScopeCall::Refused(e) => print_error(rt, e, PatId(65535)),
+        ScopeCall::BadCall => print_refusal(rt, 2, PatId(65535), 0),
+        ScopeCall::BadImage => print_refusal(rt, 1, PatId(65535), 0),
     }
     before
 }
 
-pub fn print_drop(answer: DropCall, before: Counts) -> Counts {
+pub fn print_drop(rt: &impl Print, answer: DropCall, before: Counts) -> Counts {
     match answer {
         DropCall::At(counts, b) => {
-            print_block(b);
+            print_block(rt, b);
             return counts;
         }
-        DropCall::Refused(e) => print_error(e, PatId(65535)),
-        DropCall::BadCall => print_refusal(2, PatId(65535), 0),
-        DropCall::BadImage => print_refusal(1, PatId(65535), 0),
+        DropCall::Refused(e) => print_error(rt, e, PatId(65535)),
+        DropCall::BadCall => print_refusal(rt, 2, PatId(65535), 0),
+        DropCall::BadImage => print_refusal(rt, 1, PatId(65535), 0),
     }
     before
 }
 
 // The five counts.
-pub fn print_counts(counts: Counts) {
-    print_number(counts.blocks as u32);
-    print_number(counts.statements as u32);
-    print_number(counts.locals as u32);
-    print_number(counts.scopes as u32);
-    print_number(counts.entries as u32);
+pub fn print_counts(rt: &impl Print, counts: Counts) {
+    print_number(rt, counts.blocks as u32);
+    print_number(rt, counts.statements as u32);
+    print_number(rt, counts.locals as u32);
+    print_number(rt, counts.scopes as u32);
+    print_number(rt, counts.entries as u32);
 }
 
 // Modulo 2^32.
@@ -127,38 +125,38 @@ fn checksum(table: &[u16]) -> u32 {
 }
 
 // A table's checksum.
-pub fn print_sum(table: &[u16]) {
-    print_number(checksum(table));
+pub fn print_sum(rt: &impl Print, table: &[u16]) {
+    print_number(rt, checksum(table));
 }
 
 // The last table's, and the line's end.
-pub fn end_line(table: &[u16]) {
-    io::print_decimal(STDOUT_FILENO, checksum(table) as u64);
-    io::write_all(STDOUT_FILENO, b"\n");
+pub fn end_line(rt: &impl Print, table: &[u16]) {
+    let sum = checksum(table);
+    let _ = println!(rt; "{sum}");
 }
 
 // The checksums of a body's blocks, statements, locals and scopes.
-fn print_four(body: &[u16])
+fn print_four(rt: &impl Print, body: &[u16])
     requires { length body.now ≡ body_words }
 {
-    print_sum(&body[0..STATEMENTS]);
-    print_sum(&body[STATEMENTS..LOCALS]);
-    print_sum(&body[LOCALS..SCOPES]);
-    print_sum(&body[SCOPES..ENTRIES]);
+    print_sum(rt, &body[0..STATEMENTS]);
+    print_sum(rt, &body[STATEMENTS..LOCALS]);
+    print_sum(rt, &body[LOCALS..SCOPES]);
+    print_sum(rt, &body[SCOPES..ENTRIES]);
 }
 
 // The checksums of a body's five tables.
-pub fn print_sums(body: &[u16])
+pub fn print_sums(rt: &impl Print, body: &[u16])
     requires { length body.now ≡ body_words }
 {
-    print_four(body);
-    print_sum(&body[ENTRIES..BODY_WORDS]);
+    print_four(rt, body);
+    print_sum(rt, &body[ENTRIES..BODY_WORDS]);
 }
 
 // The same at the end of a line.
-pub fn end_sums(body: &[u16])
+pub fn end_sums(rt: &impl Print, body: &[u16])
     requires { length body.now ≡ body_words }
 {
-    print_four(body);
-    end_line(&body[ENTRIES..BODY_WORDS]);
+    print_four(rt, body);
+    end_line(rt, &body[ENTRIES..BODY_WORDS]);
 }

@@ -11,6 +11,7 @@ use mir::{BasicBlockId, Counts};
 use replay_answers::{print_drop, print_merge, print_scope, print_temp};
 
 pub fn call_temp(
+    rt: &impl Print,
     image: &[u8],
     body: &mut [u16; BODY_WORDS],
     counts: Counts,
@@ -18,10 +19,11 @@ pub fn call_temp(
     block: BasicBlockId,
 ) -> Counts {
     let answer = temp(image, body, counts, word, block);
-    print_temp(answer, counts)
+    print_temp(rt, answer, counts)
 }
 
 pub fn call_merge(
+    rt: &impl Print,
     image: &[u8],
     body: &mut [u16; BODY_WORDS],
     counts: Counts,
@@ -29,30 +31,42 @@ pub fn call_merge(
     y: OptBlock,
 ) -> Counts {
     let answer = merge_blocks(image, body, counts, x, y);
-    print_merge(answer, counts)
+    print_merge(rt, answer, counts)
 }
 
-pub fn call_push(image: &[u8], body: &mut [u16; BODY_WORDS], counts: Counts) -> Counts {
+pub fn call_push(
+    rt: &impl Print,
+    image: &[u8],
+    body: &mut [u16; BODY_WORDS],
+    counts: Counts,
+) -> Counts {
     let answer = push_drop_scope(image, body, counts);
-    print_scope(answer, counts)
+    print_scope(rt, answer, counts)
 }
 
-pub fn call_assume(image: &[u8], body: &mut [u16; BODY_WORDS], counts: Counts) -> Counts {
+pub fn call_assume(
+    rt: &impl Print,
+    image: &[u8],
+    body: &mut [u16; BODY_WORDS],
+    counts: Counts,
+) -> Counts {
     let answer = pop_assume_dropped(image, body, counts);
-    print_scope(answer, counts)
+    print_scope(rt, answer, counts)
 }
 
 pub fn call_pop(
+    rt: &impl Print,
     image: &[u8],
     body: &mut [u16; BODY_WORDS],
     counts: Counts,
     block: BasicBlockId,
 ) -> Counts {
     let answer = pop_and_drop(image, body, counts, block);
-    print_drop(answer, counts)
+    print_drop(rt, answer, counts)
 }
 
 pub fn call_until(
+    rt: &impl Print,
     image: &[u8],
     body: &mut [u16; BODY_WORDS],
     counts: Counts,
@@ -60,5 +74,5 @@ pub fn call_until(
     block: BasicBlockId,
 ) -> Counts {
     let answer = drop_until_scope(image, body, counts, i, block);
-    print_drop(answer, counts)
+    print_drop(rt, answer, counts)
 }

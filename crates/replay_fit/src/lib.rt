@@ -5,30 +5,35 @@ use fit::{FitCall, fit};
 use image::PatId;
 use place::LocalId;
 use program_io::write_output;
+use std::io::Read;
 use stored_records::{Words, next_words};
 
 // Prints the answer to a question; fewer than three words name nothing.
-fn print_fit(image: &[u8], words: &[u16]) {
+fn print_fit(rt: &(impl Print + Eprint), image: &[u8], words: &[u16]) {
     if words.len() < 3 {
-        write_output(b"refused 2 65535 0\n");
+        write_output(rt, b"refused 2 65535 0\n");
         return;
     }
     let root = LocalId(words[2]);
     match fit(image, &words[3..], root, words[1], PatId(words[0])) {
-        FitCall::Fits => write_output(b"fits\n"),
-        FitCall::DoesNot => write_output(b"does not fit\n"),
-        FitCall::BadCall => write_output(b"refused 2 65535 0\n"),
-        FitCall::BadImage => write_output(b"refused 1 65535 0\n"),
+        FitCall::Fits => write_output(rt, b"fits\n"),
+        FitCall::DoesNot => write_output(rt, b"does not fit\n"),
+        FitCall::BadCall => write_output(rt, b"refused 2 65535 0\n"),
+        FitCall::BadImage => write_output(rt, b"refused 1 65535 0\n"),
     }
 }
 
 // The question on this image, whose words come next: answers whether they fitted.
-pub fn replay_fit(image: &[u8]) -> bool {
+pub fn replay_fit(
+    rt: &(impl Print + Eprint),
+    input: &mut impl Read,
+    image: &[u8],
+) -> bool {
     let mut words = [0u16; 4096];
-    match next_words(&mut words) {
+    match next_words(input, &mut words) {
         Words::End => false,
         Words::Some(k) => {
-            print_fit(image, &words[..k]);
+            print_fit(rt, image, &words[..k]);
             true
         }
     }

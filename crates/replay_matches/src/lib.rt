@@ -10,10 +10,13 @@ use commands::run_command;
 use mir::Counts;
 use pattern_entering::VISIT_WORDS;
 use replay_commands::next_command;
+use std::io::Read;
 use stored_records::next_number;
 
 // The commands of a script, as many as the next number says.
 fn script(
+    rt: &impl Print,
+    input: &mut impl Read,
     image: &[u8],
     bindings: &mut [u16; 256],
     body: &mut [u16; BODY_WORDS],
@@ -27,19 +30,27 @@ fn script(
         scopes: 0,
         entries: 0,
     };
-    let mut left = next_number();
+    let mut left = next_number(input);
     while left > 0 {
-        let next = next_command();
-        counts = run_command(image, bindings, body, visits, counts, handed, next);
+        let next = next_command(input);
+        counts = run_command(rt, image, bindings, body, visits, counts, handed, next);
         left -= 1;
     }
 }
 
 // The script on this image, whose commands come next, from tables of zeros on.
-pub fn replay_script(image: &[u8]) {
+pub fn replay_script(rt: &impl Print, input: &mut impl Read, image: &[u8]) {
     let mut bindings = [0u16; 256];
     let mut body = [0u16; BODY_WORDS];
     let mut visits = [0u16; VISIT_WORDS];
     let mut handed = [0u16; 35];
-    script(image, &mut bindings, &mut body, &mut visits, &mut handed);
+    script(
+        rt,
+        input,
+        image,
+        &mut bindings,
+        &mut body,
+        &mut visits,
+        &mut handed,
+    );
 }

@@ -12,6 +12,7 @@ use replay_commands::call_words::place_of;
 use self_param_call::match_self_param;
 
 pub fn call_match(
+    rt: &impl Print,
     image: &[u8],
     bindings: &[u16],
     body: &mut [u16; BODY_WORDS],
@@ -26,10 +27,11 @@ pub fn call_match(
     let answer = pattern_match(
         image, bindings, body, visits, counts, p, current, els, place,
     );
-    print_match(answer, counts)
+    print_match(rt, answer, counts)
 }
 
 pub fn call_assignment(
+    rt: &impl Print,
     image: &[u8],
     bindings: &[u16],
     body: &mut [u16; BODY_WORDS],
@@ -41,10 +43,11 @@ pub fn call_assignment(
 ) -> Counts {
     let place = place_of(handed);
     let answer = pattern_match_assignment(image, bindings, body, visits, counts, p, current, place);
-    print_match(answer, counts)
+    print_match(rt, answer, counts)
 }
 
 pub fn call_self(
+    rt: &impl Print,
     image: &[u8],
     bindings: &[u16],
     body: &mut [u16; BODY_WORDS],
@@ -54,5 +57,5 @@ pub fn call_self(
     l: LocalId,
 ) -> Counts {
     let answer = match_self_param(image, bindings, body, counts, b, current, l);
-    print_match(answer, counts)
+    print_match(rt, answer, counts)
 }

@@ -3,31 +3,37 @@
 mod readings; // readings.rt: the calls of a record
 
 use readings::replay_reading;
+use std::io::Read;
 use stored_records::{Entry, next_entry, next_sort};
 
 // A record of this sort, of which the sheet has been read: answers whether it could be replayed.
-fn replay_record(sort: u8, sheet: &[u8]) -> bool {
-    sort == 6 && replay_reading(sheet)
+fn replay_record(
+    rt: &(impl Print + Eprint),
+    input: &mut impl Read,
+    sort: u8,
+    sheet: &[u8],
+) -> bool {
+    sort == 6 && replay_reading(rt, input, sheet)
 }
 
 // The next record: answers whether there was one that could be replayed.
-fn next(buffer: &mut [u8]) -> bool {
-    let sort = next_sort();
-    match next_entry(buffer) {
+fn next(rt: &(impl Print + Eprint), input: &mut impl Read, buffer: &mut [u8]) -> bool {
+    let sort = next_sort(input);
+    match next_entry(input, buffer) {
         Entry::End => false,
-        Entry::Image(n) => replay_record(sort, &buffer[..n]),
+        Entry::Image(n) => replay_record(rt, input, sort, &buffer[..n]),
     }
 }
 
 // A proved loop has to end, so it counts its turns down, from a number that no list uses up.
-fn replay(buffer: &mut [u8]) {
+fn replay(rt: &(impl Print + Eprint), input: &mut impl Read, buffer: &mut [u8]) {
     let mut turns = u64::MAX;
-    while turns > 0 && next(buffer) {
+    while turns > 0 && next(rt, input, buffer) {
         turns -= 1;
     }
 }
 
-fn main() {
+fn main(rt: HostRuntime) {
     let mut buffer = [0u8; 131072];
-    replay(&mut buffer);
+    replay(&rt, &mut rt.stdin(), &mut buffer);
 }

@@ -3,17 +3,18 @@
 use draft_tables::DRAFT_WORDS;
 use image::word_at;
 use image_writing::IMAGE_BYTES;
-use libc::STDIN_FILENO;
 use node_rows::{MAKING_WORDS, NODE_WORDS};
 use node_typing::WAITING_WORDS;
 use reading_call::read_pattern;
 use reading_lines::{print_image, print_refusal};
 use reading_typed::PatternRead;
 use spelled_names::NAME_BYTES;
+use std::io::Read;
 use stored_records::{Entry, next_bytes, next_number};
 
 // A call is made, and its answer printed.
 fn print_reading(
+    rt: &(impl Print + Eprint),
     text: &[u8],
     sheet: &[u8],
     names: &[u8],
@@ -29,20 +30,26 @@ fn print_reading(
     match read_pattern(
         text, sheet, names, expected, spelled, nodes, stack, waiting, makings, draft, image,
     ) {
-        PatternRead::Image(count) => print_image(image, count),
-        PatternRead::RefusedAt(number, position) => print_refusal(number, position),
+        PatternRead::Image(count) => print_image(rt, image, count),
+        PatternRead::RefusedAt(number, position) => print_refusal(rt, number, position),
     }
 }
 
 // The next word, big-endian, or 0 where the list has ended.
-fn next_word() -> u16 {
+fn next_word(input: &mut impl Read) -> u16 {
     let mut bytes = [0u8; 2];
-    io::read_full(STDIN_FILENO, &mut bytes);
+    let _ = input.read_exact(&mut bytes);
     word_at(&bytes, 0)
 }
 
 // So many texts, with their expected types: answers whether they fitted. The tables that reading takes are made once.
-fn replay_texts(sheet: &[u8], names: &[u8], many: u32) -> bool {
+fn replay_texts(
+    rt: &(impl Print + Eprint),
+    input: &mut impl Read,
+    sheet: &[u8],
+    names: &[u8],
+    many: u32,
+) -> bool {
     let mut text = [0u8; 32768];
     let mut spelled = [0u8; NAME_BYTES];
     let mut nodes = [0u16; NODE_WORDS];
@@ -53,11 +60,12 @@ fn replay_texts(sheet: &[u8], names: &[u8], many: u32) -> bool {
     let mut image = [0u8; IMAGE_BYTES];
     let mut done = 0;
     while done < many {
-        let expected = next_word();
-        let Entry::Image(n) = next_bytes(&mut text) else {
+        let expected = next_word(input);
+        let Entry::Image(n) = next_bytes(input, &mut text) else {
             return false;
         };
         print_reading(
+            rt,
             &text[..n],
             sheet,
             names,
@@ -76,10 +84,17 @@ fn replay_texts(sheet: &[u8], names: &[u8], many: u32) -> bool {
 }
 
 // The calls on this sheet, the rest of which comes next: answers whether they fitted.
-pub fn replay_reading(sheet: &[u8]) -> bool {
+pub fn replay_reading(
+    rt: &(impl Print + Eprint),
+    input: &mut impl Read,
+    sheet: &[u8],
+) -> bool {
     let mut names = [0u8; 32768];
-    match next_bytes(&mut names) {
+    match next_bytes(input, &mut names) {
         Entry::End => false,
-        Entry::Image(n) => replay_texts(sheet, &names[..n], next_number()),
+        Entry::Image(n) => {
+            let many = next_number(input);
+            replay_texts(rt, input, sheet, &names[..n], many)
+        }
     }
 }

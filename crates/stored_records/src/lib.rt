@@ -1,11 +1,11 @@
-// A stored list of records, read from standard input. A record is a byte, its sort, and an image; what a sort has besides stands behind it. An image is two numbers of four
+// A stored list of records, taken from a reader. A record is a byte, its sort, and an image; what a sort has besides stands behind it. An image is two numbers of four
 // bytes, big-endian, and then as many bytes as the first says: it is these bytes, and behind them as many zeros as the second says.
 #![tactic(auto)]
 ghost use Rattle.std.specs.Prelude.{◌+◌, ◌*◌, ◌≤◌, ◌<◌, length};
 ghost use Rattle.stored_records.specs.Entries.{Fits, ReadWithin};
 
 use image::word_at;
-use libc::STDIN_FILENO;
+use std::io::Read;
 
 #[derive(Clone, Copy)]
 pub enum Entry {
@@ -16,16 +16,16 @@ pub enum Entry {
 }
 
 // The sort of the next record, or 0 where the list has ended.
-pub fn next_sort() -> u8 {
+pub fn next_sort(input: &mut impl Read) -> u8 {
     let mut sort = [0u8; 1];
-    io::read_full(STDIN_FILENO, &mut sort);
+    let _ = input.read_exact(&mut sort);
     sort[0]
 }
 
 // The next number of four bytes, big-endian, or 0 where the list has ended.
-pub fn next_number() -> u32 {
+pub fn next_number(input: &mut impl Read) -> u32 {
     let mut head = [0u8; 4];
-    io::read_full(STDIN_FILENO, &mut head);
+    let _ = input.read_exact(&mut head);
     let high = word_at(&head, 0) as u32;
     let low = word_at(&head, 2) as u32;
     high * 65536 + low
@@ -52,7 +52,12 @@ fn words_of(bytes: &[u8], words: &mut [u16], count: usize)
 }
 
 // So many words, where they fit.
-fn read_words(bytes: &mut [u8], words: &mut [u16], count: usize) -> Words
+fn read_words(
+    input: &mut impl Read,
+    bytes: &mut [u8],
+    words: &mut [u16],
+    count: usize,
+) -> Words
     requires { 2 * length words.old ≤ length bytes.old }
     ensures { ReadWithin result (length words.old) }
 {
@@ -60,8 +65,7 @@ fn read_words(bytes: &mut [u8], words: &mut [u16], count: usize) -> Words
         return Words::End;
     }
     let end = 2 * count;
-    let got = io::read_full(STDIN_FILENO, &mut bytes[..end]);
-    if got < end {
+    if input.read_exact(&mut bytes[..end]).is_err() {
         return Words::End;
     }
     words_of(bytes, words, count);
@@ -69,13 +73,13 @@ fn read_words(bytes: &mut [u8], words: &mut [u16], count: usize) -> Words
 }
 
 // A number of four bytes, big-endian, and as many words of two bytes, big-endian.
-pub fn next_words(words: &mut [u16]) -> Words
+pub fn next_words(input: &mut impl Read, words: &mut [u16]) -> Words
     requires { length words.old ≤ 4096 }
     ensures { ReadWithin result (length words.old) }
 {
     let mut bytes = [0u8; 8192];
-    let count = next_number() as usize;
-    read_words(&mut bytes, words, count)
+    let count = next_number(input) as usize;
+    read_words(input, &mut bytes, words, count)
 }
 
 fn clear(bytes: &mut [u8]) {
@@ -87,7 +91,7 @@ fn clear(bytes: &mut [u8]) {
 }
 
 // An image of n bytes and z zeros.
-fn read_entry(buffer: &mut [u8], n: usize, z: usize) -> Entry
+fn read_entry(input: &mut impl Read, buffer: &mut [u8], n: usize, z: usize) -> Entry
     requires { (n < 4294967296) × (z < 4294967296) }
     ensures { Fits result (length buffer.old) }
 {
@@ -95,8 +99,7 @@ fn read_entry(buffer: &mut [u8], n: usize, z: usize) -> Entry
     if buffer.len() < end {
         return Entry::End;
     }
-    let got = io::read_full(STDIN_FILENO, &mut buffer[..n]);
-    if got < n {
+    if input.read_exact(&mut buffer[..n]).is_err() {
         return Entry::End;
     }
     clear(&mut buffer[n..end]);
@@ -104,18 +107,18 @@ fn read_entry(buffer: &mut [u8], n: usize, z: usize) -> Entry
 }
 
 // The image of the record whose sort was read.
-pub fn next_entry(buffer: &mut [u8]) -> Entry
+pub fn next_entry(input: &mut impl Read, buffer: &mut [u8]) -> Entry
     ensures { Fits result (length buffer.old) }
 {
-    let n = next_number() as usize;
-    let z = next_number() as usize;
-    read_entry(buffer, n, z)
+    let n = next_number(input) as usize;
+    let z = next_number(input) as usize;
+    read_entry(input, buffer, n, z)
 }
 
 // A number of four bytes, big-endian, and as many bytes.
-pub fn next_bytes(buffer: &mut [u8]) -> Entry
+pub fn next_bytes(input: &mut impl Read, buffer: &mut [u8]) -> Entry
     ensures { Fits result (length buffer.old) }
 {
-    let n = next_number() as usize;
-    read_entry(buffer, n, 0)
+    let n = next_number(input) as usize;
+    read_entry(input, buffer, n, 0)
 }

@@ -22,4 +22,4 @@ pub returns : goal.returns
 returns c =
     let first = c in
     let args = c.args in
-    until_drops _ _ _ _ _ _ c.if-counts-i.false c.scope_start-start.ensures (start_below (body_of args.body.now).scopes args.counts args.i _ c.requires.1.1 c.scope_start-start.ensures) c.emit_drop_and_storage_dead_for_scope.ensures
+    until_drops _ _ _ _ _ _ c.if-counts-i.false c.scope_start-start.ensures (start_below (body_of args.body.now).scopes args.counts args.i _ c.requires.entries_named.1 c.scope_start-start.ensures) c.emit_drop_and_storage_dead_for_scope.ensures

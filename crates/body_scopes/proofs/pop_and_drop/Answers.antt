@@ -24,16 +24,16 @@ pop_scope-requires c =
     let first = c in
     let emitted = c.emit_drop_and_storage_dead_for_scope.ensures in
     let L = rw c.in-At.is at emitted.left in
-    (omega (arith, L.4, c.if-counts-eq0.false), omega (arith, L.4, c.requires.0.2), omega (arith, L.5, c.requires.0.3), λ i h. omega (arith, scope_same emitted.beside i, c.requires.1.1 i (omega (arith, L.4)), L.5))
+    (omega (arith, L.4, c.if-counts-eq0.false), omega (arith, L.4, c.requires.whole.2), omega (arith, L.5, c.requires.whole.3), λ i h. omega (arith, scope_same emitted.beside i, c.requires.entries_named.1 i (omega (arith, L.4)), L.5))
 
 pub returns-in-Refused : goal.returns-in-Refused
 returns-in-Refused c =
     let first = c in
-    let named = c.requires.1.1 (c.args.counts.scopes - 1) (omega (arith, c.if-counts-eq0.false)) in
+    let named = c.requires.entries_named.1 (c.args.counts.scopes - 1) (omega (arith, c.if-counts-eq0.false)) in
     pop_refused _ _ _ _ _ (omega (arith, c.if-counts-eq0.false)) c.scope_word-start.ensures (omega (arith, named, c.scope_word-start.ensures)) (rw c.in-Refused.is at c.emit_drop_and_storage_dead_for_scope.ensures)
 
 pub returns-in-At : goal.returns-in-At
 returns-in-At c =
     let first = c in
-    let named = c.requires.1.1 (c.args.counts.scopes - 1) (omega (arith, c.if-counts-eq0.false)) in
+    let named = c.requires.entries_named.1 (c.args.counts.scopes - 1) (omega (arith, c.if-counts-eq0.false)) in
     pop_drops _ _ _ _ _ (omega (arith, c.if-counts-eq0.false)) c.scope_word-start.ensures (omega (arith, named, c.scope_word-start.ensures)) (rw c.in-At.is at c.emit_drop_and_storage_dead_for_scope.ensures) c.pop_scope.ensures

@@ -21,7 +21,7 @@ pub returns-then-leads_to : goal.returns-then-leads_to
 returns-then-leads_to c = (try_found c.loop-t.invariant (omega (arith, c.loop-t-test.true, c.requires.1.type_count_lem)) (sym c.if-leads_to.true ∙ c.leads_to.ensures), omega (arith, c.loop-t-test.true, c.requires.1.type_count_lem))
 
 pub overflow_add-t : goal.overflow_add-t
-overflow_add-t c = omega (arith, c.loop-t-test.true, c.well-formed)
+overflow_add-t c = omega (arith, c.loop-t-test.true, c.well_formed)
 
 pub loop-t-smaller : goal.loop-t-smaller
 loop-t-smaller c = omega (arith, c.loop-t-test.true)
