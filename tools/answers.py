@@ -286,7 +286,7 @@ def turn(names, key, crate, folder, path):
         if block is final[0]:
             continue
         code = [l for l in block.split("\n") if not l.startswith("--")]
-        if re.match(r"(?:(?:pub|abbrev|unfoldable)\s+)*\S+ : tie\.", code[0]):
+        if re.match(r"\s*(?:(?:pub|abbrev|unfoldable)\s+)*\S+ :\s+tie\.", "\n".join(code)):
             it = split(block)
             declared[it[1]] = it
         else:

@@ -5,19 +5,15 @@ use native.Mathlib.Nat.{le_refl}
 use Rattle.body_scopes.proofs.Closing.{no_pop, pop_refused, pop_drops, scope_same}
 use Rattle.body_scopes.proofs.pop_and_drop.Goals as goal
 
-emit_drop_and_storage_dead_for_scope_requires :
-    tie.Need-emit-drop-and-storage-dead-for-scope-requires
-emit_drop_and_storage_dead_for_scope_requires c κs =
-    let first = c.before.before.before.before.before.before.before.before in
-    let counts = first.args.counts in
-    let named = first.requires.1.1 (counts.scopes - 1) (omega (arith, c.before.before.before.before.before.if1.false)) in
-    (first.requires.0.0, (first.requires.0.1, first.requires.0.4, omega (arith, named, c.before.scope-word.ensures), le_refl counts.entries, first.requires.0.3, first.requires.1.0))
-
 pub returns-then-counts-eq0 : goal.returns-then-counts-eq0
 returns-then-counts-eq0 c = no_pop _ _ _ _ c.if-counts-eq0.true
 
 pub emit_drop_and_storage_dead_for_scope-requires : goal.emit_drop_and_storage_dead_for_scope-requires
-emit_drop_and_storage_dead_for_scope-requires = emit_drop_and_storage_dead_for_scope_requires
+emit_drop_and_storage_dead_for_scope-requires c =
+    let first = c in
+    let counts = c.args.counts in
+    let named = c.requires.entries_named.1 (counts.scopes - 1) (omega (arith, c.if-counts-eq0.false)) in
+    record { whole = c.requires.whole.0; locals_bound = (c.requires.whole.1, c.requires.whole.4, omega (arith, named, c.scope_word-start.ensures), le_refl counts.entries, c.requires.whole.3, c.requires.entries_named.0) }
 
 pub pop_scope-requires : goal.pop_scope-requires
 pop_scope-requires c =
