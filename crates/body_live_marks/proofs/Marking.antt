@@ -1,11 +1,13 @@
 -- Live marks, by the ways through the code. Assumes nothing.
-use mathlib.Core.Path.{◌≡◌, refl, subst}
+use mathlib.Core.Path.{◌≡◌, refl, ap, subst}
 use mathlib.Core.Logic.{inl}
 use mathlib.Core.Bool.{Bool, true, false, cond}
+use mathlib.Core.List.{List}
 use Prim.Native.Nat.{ℕ}
 use borrow.Author.Tests.{eq-eqb, ne_eqb}
 use lib.ListN.{take}
 use Rattle.refusals.specs.declared.MirLowerError.{MirLowerError}
+use Rattle.refusals.specs.Refusals.{done, stopped, and_then}
 use Rattle.image.specs.Lists.{member}
 use Rattle.place.specs.declared.LocalId.{LocalId}
 use Rattle.mir.specs.declared.BasicBlockId.{BasicBlockId}
@@ -21,7 +23,7 @@ use Rattle.state.specs.declared.Stepped.{Stepped}
 use Rattle.state.proofs.RowLengths.{live_length}
 use Rattle.state.proofs.Answering.{scope_count, then, stops, no_step, refuses}
 use Rattle.state.proofs.Calls.{counted_counts, counted_result}
-use Rattle.lower_spec.specs.Temps.{is_held, record_unless, mark_live, push_storage_live_for_local}
+use Rattle.lower_spec.specs.Temps.{is_held, record_unless, mark_live, push_storage_live_for_local, binding_local, push_storage_live}
 use Rattle.body_tables.specs.Layout.{with_statements, with_entries}
 use Rattle.body_tables.specs.Promises.{Adds}
 use Rattle.body_tables.proofs.Building.{entry_made, statement_made}
@@ -75,3 +77,16 @@ pub mark_looked : (b₀ : Body) (c : Counts) (l : LocalId) (block : BasicBlockId
 unfolding is_held decode
 mark_looked b₀ c l block held r {b = b} is M current R =
     subst (λ (h : Bool). Answers b₀ c current b (stepped_counts r) (stepped_result r b) (mark_live h (decode b₀ c) l block)) is (M current R)
+
+-- `push_storage_live`
+module _ (b₀ : Body) (c : Counts) (bindings : List ℕ) (k : ℕ) (block : BasicBlockId) where
+  -- the binding has no local
+  pub binding_refused : {e : MirLowerError} → stopped e ≡ binding_local bindings k → Adds (λ st. push_storage_live st bindings k block) c b₀ (Stepped.Refused e) b₀
+  unfolding push_storage_live
+  binding_refused {e = e} h current R = refuses e (ap (λ r. and_then r (λ l. push_storage_live_for_local (decode b₀ c) l block)) h)
+
+  -- the binding's local is marked
+  pub binding_marked : {l : LocalId} {b : Body} (r : Stepped) → done l ≡ binding_local bindings k → Adds (λ st. push_storage_live_for_local st l block) c b₀ r b →
+      Adds (λ st. push_storage_live st bindings k block) c b₀ r b
+  unfolding push_storage_live
+  binding_marked r h M current R = rw (← h) (M current R)

@@ -2,17 +2,19 @@
 // table as it then is; below the counts nothing is changed.
 #![tactic(auto)]
 
-ghost use Rattle.std.specs.Prelude.{◌≡◌, cond};
+ghost use Rattle.std.specs.Prelude.{◌≡◌, ◌<◌, cond, length};
 ghost use Rattle.mir.specs.declared.scopes.Counted.{Counted};
 ghost use Rattle.mir.specs.Scopes.{new_entry, entries_after};
-ghost use Rattle.lower_spec.specs.Temps.{mark_live, push_storage_live_for_local};
+ghost use Rattle.lower_spec.specs.Temps.{mark_live, push_storage_live_for_local, push_storage_live};
 ghost use Rattle.body_tables.specs.Layout.{body_of, with_entries};
 ghost use Rattle.body_tables.specs.Promises.{Adds};
 
-use body_locals::is_held;
+use body_locals::{binding_local, is_held};
 use body_scope_tables::push_entry;
 use body_tables::BODY_WORDS;
 use body_tables::statements::push_live;
+use image::BindingId;
+use lower_spec::temps::BoundLocal;
 use mir::scopes::Counted;
 use mir::{BasicBlockId, Counts};
 use place::LocalId;
@@ -62,4 +64,21 @@ pub fn push_storage_live_for_local(
 {
     let held = is_held(body, counts, l);
     mark_live(body, counts, l, block, held)
+}
+
+// A binding's local, live from the end of a block on.
+pub fn push_storage_live(
+    bindings: &[u16],
+    body: &mut [u16; BODY_WORDS],
+    counts: Counts,
+    b: BindingId,
+    block: BasicBlockId,
+) -> Stepped
+    requires { b.0 < length bindings.now }
+    ensures { Adds (λ st. push_storage_live st bindings.now b.0 block) counts (body_of body.old) result (body_of body.new) }
+{
+    match binding_local(bindings, b) {
+        BoundLocal::Refused(e) => Stepped::Refused(e),
+        BoundLocal::Local(l) => push_storage_live_for_local(body, counts, l, block),
+    }
 }

@@ -1,6 +1,6 @@
 // The kinds of document 01's section "The image", by name. A number that is no kind is `Unknown`.
 ghost use Rattle.std.specs.Prelude.{◌≡◌};
-ghost use Rattle.image.specs.Kinds.{type_kind, adt_kind, pat_kind, path_kind, operand_kind, binding_mode};
+ghost use Rattle.image.specs.Kinds.{type_kind, adt_kind, pat_kind, path_kind, operand_kind, binding_mode, binding_annotation};
 
 #[derive(Clone, Copy)]
 pub enum TypeKind {
@@ -180,5 +180,16 @@ pub fn binding_mode(mode: u16) -> BindingMode
         1 => BindingMode::Ref,
         2 => BindingMode::RefMut,
         _ => BindingMode::Unknown,
+    }
+}
+
+pub fn binding_annotation(annotation: u16) -> BindingAnnotation
+    ensures { result ≡ binding_annotation annotation }
+{
+    match annotation {
+        0 => BindingAnnotation::Unannotated,
+        1 => BindingAnnotation::Mutable,
+        2 => BindingAnnotation::Other,
+        _ => BindingAnnotation::Unknown,
     }
 }

@@ -44,6 +44,10 @@ temp image st word block =
 unfoldable pub binding_local : List ℕ → ℕ → Result LocalId
 binding_local locals b = cond (eqb (get_or locals b 65535) 65535) (stopped MirLowerError.InaccessibleLocal) (done (record { 0 = get_or locals b 65535 }))
 
+-- a binding's local, live from the end of a block on
+unfoldable pub push_storage_live : State → List ℕ → ℕ → BasicBlockId → Result State
+push_storage_live st locals b block = and_then (binding_local locals b) (λ l. push_storage_live_for_local st l block)
+
 -- the local of a test of an enum: a temporary of its own, of type i128 (word 258)
 abbrev pub discr_temp_place : List ℕ → State → BasicBlockId → Result State
 discr_temp_place image st block = temp image st 258 block

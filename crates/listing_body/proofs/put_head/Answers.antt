@@ -6,7 +6,7 @@ use Rattle.listing_text.proofs.Pieces.{and_then_lem, two_then}
 use Rattle.listing_body.proofs.put_head.Goals as goal
 
 pub shape_of-out : goal.shape_of-out
-shape_of-out c = omega (arith, c.put_numbered-first.auto.out, c.put-middle.auto.out, c.put_else-second.auto.out, c.put.auto.0)
+shape_of-out c = omega (arith, c.put_numbered-first.auto.out, c.put-middle.auto.out, c.put_else-second.auto.out, c.put.auto.out)
 
 pub returns : goal.returns
 unfolding then_word else_word newline
