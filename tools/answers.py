@@ -344,57 +344,59 @@ def measured(body, params, root):
 
 def turn_cycle(names, base, crate, folder, path):
     """The proof of a cycle of calls: its measures and invariants, and the answers of all its functions."""
-    texts = []
     parts = os.path.join(folder, "Proof")
     files = [path] + [os.path.join(parts, f) for f in sorted(os.listdir(parts))] if os.path.isdir(parts) else [path]
-    for file in files:
-        with open(file, encoding="utf-8") as it:
-            texts.append(it.read())
-    lines = [l for t in texts for l in t.split("\n") if not re.match(r"mod \S+$", l)]
-    uses = []
-    for l in lines:
-        if l.startswith("use ") and l not in uses:
-            uses.append(l)
-    lts = {}
-    for u in uses:
-        it = re.match(r"use Rattle\.(\S+?)\.proofs\.(\S+)\.(Lts-\S+) as (\S+)$", u)
-        if it:
-            lts[it.group(4)] = f"Rattle-{it.group(1)}-proofs.{it.group(2)}.{it.group(3)}"
-    blocks = [b for t in texts for b in blocks_of("\n".join(l for l in t.split("\n") if not l.startswith("use ") and not re.match(r"mod \S+$", l)))]
-    declared, own, final, loops = {}, [], None, {}
+    uses, declared, own, final, loops = [], {}, [], None, {}
     invariants, answers, doubts = [], [], []
-    for block in blocks:
-        code = "\n".join(l for l in block.split("\n") if not l.startswith("--")).strip("\n")
-        if not code.strip():
-            continue
-        head = re.match(r"(?:(?:pub|abbrev|unfoldable)\s+)*(\S+) :\s*(.*)", code)
-        if not head:
-            raise Left("no signature: " + code[:60])
-        name = head.group(1)
-        clause = re.search(r"(?m)^" + re.escape(name) + r"(?=\s)", code)
-        kind = " ".join(code[head.start(2) : clause.start() if clause and clause.start() > head.start(2) else len(code)].split())
-        if "→ statement M" in kind:
-            final = code
-        elif re.match(r"Measures ", kind):
-            _, _, _, _, params, body = split(block)
-            function = name[len("μ-") :].replace("-", "_")
-            key = next((k for k in lts.values() if k.split(".Lts-")[1] == function), None)
-            if not key or key not in names:
-                raise Left(f"no names for the measure of {function}: {key}")
-            mine = [v for f, v in names[key]["params"].items() if f.split("::")[-1] == function]
-            every = [v for k in lts.values() if k in names for f, v in names[k]["params"].items() if f.split("::")[-1] == function]
-            if not (mine or every):
-                raise Left("no parameters of " + function)
-            invariants.append(f"abbrev pub decreases-{function} : goal.decreases-{function}\ndecreases-{function} l ={measured(body, (mine or every)[0], params[-1])}")
-        elif re.match(r"\S+\.(invariant|decreases)-loop", kind):
-            it = re.match(r"(\S+)\.(invariant|decreases)-(\S+)", kind)
-            loops[name] = (lts[it.group(1)], f"tie.{it.group(2)}-{it.group(3)}", split(block))
-        elif re.search(r"\S+\.Need-", kind):
-            declared[name] = split(block)
-        elif kind.startswith("ℕ → In ") or kind.endswith(".Claims") or re.search(r"ℕ → \S+\.Claims", kind):
-            continue
-        else:
-            own.append(block)
+    lts = {}
+    for file in files:
+        module = "" if file == path else os.path.basename(file)[: -len(".antt")] + "."
+        with open(file, encoding="utf-8") as it:
+            lines = [l for l in it.read().split("\n") if not re.match(r"(?:pub )?mod \S+$", l)]
+        here = {}
+        for l in lines:
+            if l.startswith("use "):
+                it = re.match(r"use Rattle\.(\S+?)\.proofs\.(\S+)\.(Lts-\S+) as (\S+)$", l)
+                if it:
+                    here[it.group(4)] = f"Rattle-{it.group(1)}-proofs.{it.group(2)}.{it.group(3)}"
+                if l not in uses:
+                    uses.append(l)
+        lts.update({a: k for a, k in here.items() if not module or a not in lts})
+        for block in blocks_of("\n".join(l for l in lines if not l.startswith("use "))):
+            code = "\n".join(l for l in block.split("\n") if not l.startswith("--")).strip("\n")
+            if not code.strip():
+                continue
+            head = re.match(r"(?:(?:pub|abbrev|unfoldable)\s+)*(\S+) :\s*(.*)", code)
+            if not head:
+                raise Left("no signature: " + code[:60])
+            name = head.group(1)
+            clause = re.search(r"(?m)^" + re.escape(name) + r"(?=\s)", code)
+            kind = " ".join(code[head.start(2) : clause.start() if clause and clause.start() > head.start(2) else len(code)].split())
+            if "→ statement M" in kind:
+                final = code
+            elif re.match(r"Measures ", kind):
+                _, _, _, _, params, body = split(block)
+                function = name[len("μ-") :].replace("-", "_")
+                tail = "Lts-" + function.replace("::", "-")
+                key = next((k for k in here.values() if k.endswith("." + tail)), None) or next((k for k in names if k.endswith("." + tail)), None)
+                if not key or key not in names:
+                    raise Left(f"no names for the measure of {function}: {key}")
+                last = function.split("::")[-1]
+                every = [v for k in names for f, v in (names[k].get("params", {}) if isinstance(names[k], dict) else {}).items() if f.split("::")[-1] == last]
+                if not every:
+                    raise Left("no parameters of " + function)
+                invariants.append(f"abbrev pub decreases-{function} : goal.decreases-{function}\ndecreases-{function} l ={measured(body, every[0], params[-1])}")
+            elif re.match(r"\S+\.(invariant|decreases)-loop", kind):
+                it = re.match(r"(\S+)\.(invariant|decreases)-(\S+)", kind)
+                loops[module + name] = (here.get(it.group(1)) or lts[it.group(1)], f"tie.{it.group(2)}-{it.group(3)}", split(block))
+                loops.setdefault(name, loops[module + name])
+            elif re.search(r"\S+\.Need-", kind):
+                declared[module + name] = split(block)
+                declared.setdefault(name, declared[module + name])
+            elif kind.startswith("ℕ → In ") or kind.endswith(".Claims"):
+                continue
+            else:
+                own.append(block)
     if not final:
         raise Left("no last line")
     order = []

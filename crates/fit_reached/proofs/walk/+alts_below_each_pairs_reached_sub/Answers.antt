@@ -29,10 +29,10 @@ pub alts-loop-left-init : goal.alts-loop-left-init
 alts-loop-left-init t c = (refl, omega arith, refl)
 
 pub alts-list_at-q-requires : goal.alts-list_at-q-requires
-alts-list_at-q-requires t c = (c.requires.0.whole, omega (arith, c.requires.0.whole.list_count_lem, c.well-formed.1.0, c.requires.1.within, c.loop-left.invariant.1, c.loop-left.invariant.2, c.loop-left-test.true))
+alts-list_at-q-requires t c = (c.requires.0.whole, omega (arith, c.requires.0.whole.list_count_lem, c.well_formed.1.0, c.requires.1.within, c.loop-left.invariant.1, c.loop-left.invariant.2, c.loop-left-test.true))
 
 pub alts-overflow_add-i : goal.alts-overflow_add-i
-alts-overflow_add-i t c = omega (arith, c.requires.0.whole.list_count_lem, c.well-formed.1.0, c.requires.1.within, c.loop-left.invariant.1, c.loop-left.invariant.2, c.loop-left-test.true)
+alts-overflow_add-i t c = omega (arith, c.requires.0.whole.list_count_lem, c.well_formed.1.0, c.requires.1.within, c.loop-left.invariant.1, c.loop-left.invariant.2, c.loop-left-test.true)
 
 pub alts-overflow_sub-left : goal.alts-overflow_sub-left
 alts-overflow_sub-left t c = omega (arith, c.loop-left-test.true)
@@ -68,7 +68,7 @@ pub below-pairs-requires : goal.below-pairs-requires
 below-pairs-requires t c = (omega (arith, c.decreases), (c.requires.0.parent, record_pairs (node_is PatKind.Record c.in-Record.is c.requires.0), c.requires.1))
 
 pub below-overflow_add-row : goal.below-overflow_add-row
-below-overflow_add-row t c = omega (arith, slice_within (node_is PatKind.Slice c.in-Slice.is c.requires.0), c.requires.0.parent.whole.list_count_lem, c.well-formed.1.0)
+below-overflow_add-row t c = omega (arith, slice_within (node_is PatKind.Slice c.in-Slice.is c.requires.0), c.requires.0.parent.whole.list_count_lem, c.well_formed.1.0)
 
 pub below-each-requires-in-Slice : goal.below-each-requires-in-Slice
 below-each-requires-in-Slice t c = (omega (arith, c.decreases), (c.requires.0.parent, slice_items_lem (node_is PatKind.Slice c.in-Slice.is c.requires.0), c.requires.1))
@@ -119,10 +119,10 @@ pub each-loop-left-init : goal.each-loop-left-init
 each-loop-left-init t c = (refl, omega arith, refl)
 
 pub each-list_at-q-requires : goal.each-list_at-q-requires
-each-list_at-q-requires t c = (c.requires.0.whole, omega (arith, c.requires.0.whole.list_count_lem, c.well-formed.1.0, c.requires.1.within, c.loop-left.invariant.1, c.loop-left.invariant.2, c.loop-left-test.true))
+each-list_at-q-requires t c = (c.requires.0.whole, omega (arith, c.requires.0.whole.list_count_lem, c.well_formed.1.0, c.requires.1.within, c.loop-left.invariant.1, c.loop-left.invariant.2, c.loop-left-test.true))
 
 pub each-overflow_add-i : goal.each-overflow_add-i
-each-overflow_add-i t c = omega (arith, c.requires.0.whole.list_count_lem, c.well-formed.1.0, c.requires.1.within, c.loop-left.invariant.1, c.loop-left.invariant.2, c.loop-left-test.true)
+each-overflow_add-i t c = omega (arith, c.requires.0.whole.list_count_lem, c.well_formed.1.0, c.requires.1.within, c.loop-left.invariant.1, c.loop-left.invariant.2, c.loop-left-test.true)
 
 pub each-overflow_sub-left : goal.each-overflow_sub-left
 each-overflow_sub-left t c = omega (arith, c.loop-left-test.true)
@@ -154,13 +154,13 @@ pub pairs-loop-left-init : goal.pairs-loop-left-init
 pairs-loop-left-init t c = (refl, omega arith, refl)
 
 pub pairs-overflow_add-i : goal.pairs-overflow_add-i
-pairs-overflow_add-i t c = omega (arith, c.requires.0.whole.list_count_lem, c.well-formed.1.0, c.requires.1.within, c.loop-left.invariant.1, c.loop-left.invariant.2, c.loop-left-test.true)
+pairs-overflow_add-i t c = omega (arith, c.requires.0.whole.list_count_lem, c.well_formed.1.0, c.requires.1.within, c.loop-left.invariant.1, c.loop-left.invariant.2, c.loop-left-test.true)
 
 pub pairs-list_at-q-requires : goal.pairs-list_at-q-requires
-pairs-list_at-q-requires t c = (c.requires.0.whole, omega (arith, c.requires.0.whole.list_count_lem, c.well-formed.1.0, c.requires.1.within, c.loop-left.invariant.1, c.loop-left.invariant.2, c.loop-left-test.true))
+pairs-list_at-q-requires t c = (c.requires.0.whole, omega (arith, c.requires.0.whole.list_count_lem, c.well_formed.1.0, c.requires.1.within, c.loop-left.invariant.1, c.loop-left.invariant.2, c.loop-left-test.true))
 
 pub pairs-overflow_add-i-in-loop-left : goal.pairs-overflow_add-i-in-loop-left
-pairs-overflow_add-i-in-loop-left t c = omega (arith, c.requires.0.whole.list_count_lem, c.well-formed.1.0, c.requires.1.within, c.loop-left.invariant.1, c.loop-left.invariant.2, c.loop-left-test.true)
+pairs-overflow_add-i-in-loop-left t c = omega (arith, c.requires.0.whole.list_count_lem, c.well_formed.1.0, c.requires.1.within, c.loop-left.invariant.1, c.loop-left.invariant.2, c.loop-left-test.true)
 
 pub pairs-overflow_sub-left : goal.pairs-overflow_sub-left
 pairs-overflow_sub-left t c = omega (arith, c.loop-left-test.true)

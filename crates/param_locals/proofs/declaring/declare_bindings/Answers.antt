@@ -17,7 +17,7 @@ pub returns-in-Refused : goal.returns-in-Refused
 returns-in-Refused c = binding_stops c.loop-left.invariant c.loop-left-test.true (rw c.in-Refused.is at c.declare_binding.ensures)
 
 pub overflow_add-b : goal.overflow_add-b
-overflow_add-b c = omega (arith, c.loop-left.invariant.ends, c.loop-left-test.true, c.requires.0.binding_count_lem, c.well-formed)
+overflow_add-b c = omega (arith, c.loop-left.invariant.ends, c.loop-left-test.true, c.requires.0.binding_count_lem, c.well_formed)
 
 pub overflow_sub-left : goal.overflow_sub-left
 overflow_sub-left c = omega (arith, c.loop-left-test.true)

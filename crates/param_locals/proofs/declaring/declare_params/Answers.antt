@@ -9,16 +9,16 @@ pub loop-left-init : goal.loop-left-init
 loop-left-init c = params_begin _ c.requires.0 c.requires.1
 
 pub offset_bounds-words-k : goal.offset_bounds-words-k
-offset_bounds-words-k c = omega (arith, first_words c.loop-left.invariant.listed c.loop-left-test.true, c.well-formed)
+offset_bounds-words-k c = omega (arith, first_words c.loop-left.invariant.listed c.loop-left-test.true, c.well_formed)
 
 pub bounds-words-k : goal.bounds-words-k
 bounds-words-k c = omega (arith, first_words c.loop-left.invariant.listed c.loop-left-test.true)
 
 pub overflow_add-k : goal.overflow_add-k
-overflow_add-k c = omega (arith, first_words c.loop-left.invariant.listed c.loop-left-test.true, c.well-formed)
+overflow_add-k c = omega (arith, first_words c.loop-left.invariant.listed c.loop-left-test.true, c.well_formed)
 
 pub offset_bounds-words-k-in-loop-left : goal.offset_bounds-words-k-in-loop-left
-offset_bounds-words-k-in-loop-left c = omega (arith, first_words c.loop-left.invariant.listed c.loop-left-test.true, c.well-formed)
+offset_bounds-words-k-in-loop-left c = omega (arith, first_words c.loop-left.invariant.listed c.loop-left-test.true, c.well_formed)
 
 pub bounds-words-k-in-loop-left : goal.bounds-words-k-in-loop-left
 bounds-words-k-in-loop-left c = omega (arith, first_words c.loop-left.invariant.listed c.loop-left-test.true)
@@ -33,7 +33,7 @@ pub returns-in-Refused : goal.returns-in-Refused
 returns-in-Refused c = param_stops c.loop-left.invariant c.loop-left-test.true (rw c.in-Refused.is at c.declare_param.ensures)
 
 pub overflow_add-k-in-loop-left : goal.overflow_add-k-in-loop-left
-overflow_add-k-in-loop-left c = omega (arith, first_words c.loop-left.invariant.listed c.loop-left-test.true, c.well-formed)
+overflow_add-k-in-loop-left c = omega (arith, first_words c.loop-left.invariant.listed c.loop-left-test.true, c.well_formed)
 
 pub overflow_sub-left : goal.overflow_sub-left
 overflow_sub-left c = omega (arith, c.loop-left-test.true)

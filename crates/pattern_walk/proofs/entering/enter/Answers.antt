@@ -21,7 +21,7 @@ pub deref_place-behind-requires : goal.deref_place-behind-requires
 deref_place-behind-requires c = tt
 
 pub returns-then-not-behind : goal.returns-then-not-behind
-returns-then-not-behind c = enter_full c.loop-behind.invariant c.pat_at-row.result c.deref_place-behind.result c.requires.0 c.requires.2 c.pat_at-row.ensures c.visit.ensures c.deref_place-behind.ensures (c.if-not-behind.true)
+returns-then-not-behind c = enter_full c.loop-behind.invariant c.pat_at-row.result c.deref_place-behind.result c.requires.0 c.requires.2 c.pat_at-row.ensures c.visit.ensures c.deref_place-behind.ensures ((not-true (_) c.if-not-behind.true))
 
 pub passes_on-requires : goal.passes_on-requires
 passes_on-requires c = tt
