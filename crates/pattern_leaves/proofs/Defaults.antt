@@ -70,12 +70,12 @@ no_variant PathKind.Unknown h = refl
 
 -- `path_leaf`
 module _ (image bindings : List ℕ) (p ty b : ℕ) where
-  pub something_else : (kind : PathKind) → OneOf (1 ∷ 4 ∷ 5 ∷ []) (Declared.tag_of path-kind.the_type kind) → path_pattern other image bindings p ty ≡ path_leaf kind image bindings p ty b
+  pub something_else : (kind : PathKind) → OneOf (4 ∷ 5 ∷ []) (Declared.tag_of path-kind.the_type kind) → path_pattern other image bindings p ty ≡ path_leaf kind image bindings p ty b
   unfolding path_leaf
-  something_else PathKind.Unresolved h = absurd (miss (1 ∷ 4 ∷ 5 ∷ []) 0 tt h)
-  something_else PathKind.Variant h = refl
-  something_else PathKind.Local h = absurd (miss (1 ∷ 4 ∷ 5 ∷ []) 2 tt h)
-  something_else PathKind.Constant h = absurd (miss (1 ∷ 4 ∷ 5 ∷ []) 3 tt h)
+  something_else PathKind.Unresolved h = absurd (miss (4 ∷ 5 ∷ []) 0 tt h)
+  something_else PathKind.Variant h = absurd (miss (4 ∷ 5 ∷ []) 1 tt h)
+  something_else PathKind.Local h = absurd (miss (4 ∷ 5 ∷ []) 2 tt h)
+  something_else PathKind.Constant h = absurd (miss (4 ∷ 5 ∷ []) 3 tt h)
   something_else PathKind.Other h = refl
   something_else PathKind.Unknown h = refl
 

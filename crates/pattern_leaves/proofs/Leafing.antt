@@ -61,10 +61,14 @@ module _ (image bindings : List ℕ) (t : Body) (c : Counts) (mode : MatchingMod
   abbrev Path : PathKind → Lowered → Body → Type 0
   Path kind = Lowers (λ ctx. path_leaf kind image bindings p.0 ty b mode ctx current els place) c current els t
 
-  -- a path that names nothing
+  -- a path that names nothing, or a variant
   pub path_unresolved : {kind : PathKind} → kind ≡ PathKind.Unresolved → Path kind (Lowered.Refused MirLowerError.UnresolvedName p) t
   unfolding path_leaf path_pattern
   path_unresolved is = lowers_refuses (λ ctx. rw is refl)
+
+  pub path_variant : {kind : PathKind} → kind ≡ PathKind.Variant → Path kind (Lowered.Refused MirLowerError.IncompletePattern p) t
+  unfolding path_leaf
+  path_variant is = lowers_refuses (λ ctx. rw is refl)
 
   -- a local
   pub path_local : {kind : PathKind} {r : Lowered} {t' : Body} → kind ≡ PathKind.Local → Lowers (λ ctx. local_path bindings p.0 b mode ctx current els place) c current els t r t' → Path kind r t'

@@ -66,6 +66,7 @@ fn path_leaf(
 {
     match kind {
         PathKind::Unresolved => Lowered::Refused(MirLowerError::UnresolvedName, p),
+        PathKind::Variant => Lowered::Refused(MirLowerError::IncompletePattern, p),
         PathKind::Local => local_path(
             bindings,
             body,

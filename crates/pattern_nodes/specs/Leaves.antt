@@ -44,7 +44,7 @@ is_leaf PatKind.Unknown path = true
 -- a path by its kind; one that names a variant is not asked about
 unfoldable pub path_leaf : PathKind → List ℕ → List ℕ → ℕ → ℕ → ℕ → Lowering
 path_leaf PathKind.Unresolved image bindings p ty b = path_pattern unresolved image bindings p ty
-path_leaf PathKind.Variant image bindings p ty b = path_pattern other image bindings p ty
+path_leaf PathKind.Variant image bindings p ty b = refusing MirLowerError.IncompletePattern p
 path_leaf PathKind.Local image bindings p ty b = path_pattern (local b) image bindings p ty
 path_leaf PathKind.Constant image bindings p ty b = path_pattern (constant (operand_of image b)) image bindings p ty
 path_leaf PathKind.Other image bindings p ty b = path_pattern other image bindings p ty
