@@ -325,8 +325,11 @@ def turn(names, key, crate, folder, path):
     base = f"Rattle.{crate}.proofs.{module}"
     keep = [u for u in uses if not re.search(r"\.(Tie|Lts|Reads|Statement)( as \S+|\.\{statement\})?$", u)]
     if invariants:
+        stated = "\n".join(invariants)
+        called = lambda b: re.escape(re.match(r"(?:--[^\n]*\n)*(?:(?:pub|abbrev|unfoldable) )*([^ ]+)", b).group(1))
+        named = [b for b in own if re.search(r"(?<![\w.-])" + called(b) + r"(?![\w-])", stated)]
         with open(os.path.join(folder, "Invariants.antt"), "w", encoding="utf-8") as it:
-            it.write("\n".join([*keep, f"use {base}.Given as goal"]) + "\n\n" + "\n\n".join(invariants) + "\n")
+            it.write("\n".join([*keep, f"use {base}.Given as goal"]) + "\n\n" + "\n\n".join([*named, *invariants]) + "\n")
     if answers:
         with open(os.path.join(folder, "Answers.antt"), "w", encoding="utf-8") as it:
             it.write(mended("\n".join([*keep, f"use {base}.Goals as goal"]) + "\n\n" + "\n\n".join([*own, *answers]) + "\n"))

@@ -47,7 +47,7 @@ crossing_path {place} {t} p zero u k r holds s b e f = let same : t ≡ u = cc i
 crossing_path {C} {scene} {place} {t} p (suc n) u k r holds s b e f =
     let (x, q, rest) = behind_first scene.image n t u b in
     stepped p (project place ProjectionElem.Deref) (λ place'. derefed p place' k n) e (λ place' e₁ e₂.
-    crossing_path p n u k r holds (stands_as (deref_type scene.image t x q) (stands_onward ProjectionElem.Deref place' holds tt s e₁)) rest e₂
+    crossing_path {place = place'} p n u k r holds (stands_as (deref_type scene.image t x q) (stands_onward ProjectionElem.Deref place' holds tt s e₁)) rest e₂
     (λ place'' s' path e₃. f place'' s' (path ∙ ap (crossed_path n) (path_onward place ProjectionElem.Deref place' tt s.elements e₁)) e₃))
 
 -- a Tuple that is not refused stands on a tuple

@@ -173,4 +173,4 @@ crossing {place} {t} p zero u k r holds s b e f = let same : t ≡ u = cc in f p
 crossing {C} {scene} {place} {t} p (suc n) u k r holds s b e f =
     let (x, q, rest) = behind_first scene.image n t u b in
     stepped p (project place ProjectionElem.Deref) (λ place'. derefed p place' k n) e (λ place' e₁ e₂.
-    crossing p n u k r holds (stands_as (deref_type scene.image t x q) (stands_onward ProjectionElem.Deref place' holds tt s e₁)) rest e₂ f)
+    crossing {place = place'} p n u k r holds (stands_as (deref_type scene.image t x q) (stands_onward ProjectionElem.Deref place' holds tt s e₁)) rest e₂ f)

@@ -21,7 +21,7 @@ use Rattle.literal_bounds.specs.Bounds.{node_fits, tree_fits, parts_fit}
 
 -- a number whose upper part is small
 both_small : (v j k : ℕ) → v / 2 ^ k < 2 ^ j → v < 2 ^ (j + k)
-both_small v j k h = subst (λ (m : ℕ). v < m) (sym (pow.pow_add 2 j k)) ((div-lt_iff_lt-mul (pow.pow_pos k)).0 h)
+both_small v j k h = subst (λ (m : ℕ). v < m) (sym (pow.pow-add 2 j k)) ((div-lt_iff_lt-mul (pow.pow_pos k)).0 h)
 
 -- a value that is not "over 16 bytes"
 value_fits_lem : (v : ℕ) (minus : Bool) → not (over minus (in_halves v) && true) ≡ true → ltb v (2 ^ 128) ≡ true

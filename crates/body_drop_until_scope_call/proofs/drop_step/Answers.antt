@@ -10,29 +10,29 @@ use Rattle.body_drop_until_scope_call.proofs.Answering.{stays_open}
 use Rattle.body_drop_until_scope_call.proofs.drop_step.Goals as goal
 
 pub clear_above-requires : goal.clear_above-requires
-clear_above-requires c = few_counts _ _ c.requires.0.1
+clear_above-requires c = few_counts _ _ c.requires.whole.1
 
 pub block_row-row-requires : goal.block_row-row-requires
-block_row-row-requires c = (search rules, omega (arith, c.requires.0.2, c.requires.0.1.block_count_lem))
+block_row-row-requires c = (search rules, omega (arith, c.requires.whole.2, c.requires.whole.1.block_count_lem))
 
 pub drop_until_scope-requires : goal.drop_until_scope-requires
 drop_until_scope-requires c =
     let start = c in
-    let S = c.requires.0.1 in
+    let S = c.requires.whole.1 in
     let C = clears S c.clear_above.ensures in
-    ((c.requires.0.0, S.local_count, S.scope_count, S.entry_count, c.requires.0.2), (still_entries c.requires.1.0 C, still_scopes c.requires.1.1 C))
+    record { whole = (c.requires.whole.0, S.local_count, S.scope_count, S.entry_count, c.requires.whole.2); entries_named = (still_entries c.requires.entries_named.0 C, still_scopes c.requires.entries_named.1 C) }
 
 pub put_back-requires : goal.put_back-requires
-put_back-requires c = (search rules, omega (arith, c.requires.0.2, c.requires.0.1.block_count_lem))
+put_back-requires c = (search rules, omega (arith, c.requires.whole.2, c.requires.whole.1.block_count_lem))
 
 pub clear_above-requires-in-Refused : goal.clear_above-requires-in-Refused
-clear_above-requires-in-Refused c = few_counts _ _ c.requires.0.1
+clear_above-requires-in-Refused c = few_counts _ _ c.requires.whole.1
 
 pub returns-in-At : goal.returns-in-At
-returns-in-At c = dropped (λ st. drop_until_scope _ st _ _) (clears c.requires.0.1 c.clear_above.ensures) (rw c.in-At.is at (stays_open c.drop_until_scope.result c.drop_until_scope.ensures))
+returns-in-At c = dropped (λ st. drop_until_scope _ st _ _) (clears c.requires.whole.1 c.clear_above.ensures) (rw c.in-At.is at (stays_open c.drop_until_scope.result c.drop_until_scope.ensures))
 
 pub returns-in-Refused : goal.returns-in-Refused
 returns-in-Refused c =
     let start = c in
-    let S = c.requires.0.1 in
-    not_dropped (λ st. drop_until_scope _ st _ _) (clears S c.clear_above.ensures) S (rw c.in-Refused.is at (stays_open c.drop_until_scope.result c.drop_until_scope.ensures)) c.requires.0.2 c.block_row-row.ensures c.put_back.ensures c.clear_above-in-Refused.ensures (lengths_of _ (search rules)).blocks
+    let S = c.requires.whole.1 in
+    not_dropped (λ st. drop_until_scope _ st _ _) (clears S c.clear_above.ensures) S (rw c.in-Refused.is at (stays_open c.drop_until_scope.result c.drop_until_scope.ensures)) c.requires.whole.2 c.block_row-row.ensures c.put_back.ensures c.clear_above-in-Refused.ensures (lengths_of _ (search rules)).blocks

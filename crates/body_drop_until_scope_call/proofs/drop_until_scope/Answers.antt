@@ -14,7 +14,7 @@ returns-then-counts-block c = bad_number _ _ _ (sym c.in-Image.is ∙ c.open.ens
 pub drop_step-requires : goal.drop_step-requires
 drop_step-requires c =
     let T = taken _ _ _ (sym c.in-Image.is ∙ c.open.ensures.answer) (rw c.in-Image.is at c.open.ensures.lengths) in
-    ((T.whole, taken_sized _ _ _ T, c.if-counts-block.false), (taken_entries _ _ T, taken_scopes _ _ T))
+    record { whole = (T.whole, taken_sized _ _ _ T, c.if-counts-block.false); entries_named = (taken_entries _ _ T, taken_scopes _ _ T) }
 
 pub returns-in-BadImage : goal.returns-in-BadImage
 unfolding drop_until_scope_call

@@ -9,29 +9,29 @@ use Rattle.body_opening.proofs.Dropping.{dropped, not_dropped}
 use Rattle.body_pop_and_drop_call.proofs.pop_step.Goals as goal
 
 pub clear_above-requires : goal.clear_above-requires
-clear_above-requires c = few_counts _ _ c.requires.0.1
+clear_above-requires c = few_counts _ _ c.requires.whole.1
 
 pub block_row-row-requires : goal.block_row-row-requires
-block_row-row-requires c = (search rules, omega (arith, c.requires.0.2, c.requires.0.1.block_count_lem))
+block_row-row-requires c = (search rules, omega (arith, c.requires.whole.2, c.requires.whole.1.block_count_lem))
 
 pub pop_and_drop-requires : goal.pop_and_drop-requires
 pop_and_drop-requires c =
     let start = c in
-    let S = c.requires.0.1 in
+    let S = c.requires.whole.1 in
     let C = clears S c.clear_above.ensures in
-    ((c.requires.0.0, S.local_count, S.scope_count, S.entry_count, c.requires.0.2), (still_entries c.requires.1.0 C, still_scopes c.requires.1.1 C))
+    record { whole = (c.requires.whole.0, S.local_count, S.scope_count, S.entry_count, c.requires.whole.2); entries_named = (still_entries c.requires.entries_named.0 C, still_scopes c.requires.entries_named.1 C) }
 
 pub put_back-requires : goal.put_back-requires
-put_back-requires c = (search rules, omega (arith, c.requires.0.2, c.requires.0.1.block_count_lem))
+put_back-requires c = (search rules, omega (arith, c.requires.whole.2, c.requires.whole.1.block_count_lem))
 
 pub clear_above-requires-in-Refused : goal.clear_above-requires-in-Refused
-clear_above-requires-in-Refused c = few_counts _ _ c.requires.0.1
+clear_above-requires-in-Refused c = few_counts _ _ c.requires.whole.1
 
 pub returns-in-At : goal.returns-in-At
-returns-in-At c = dropped (λ st. pop_and_drop _ st _) (clears c.requires.0.1 c.clear_above.ensures) (rw c.in-At.is at c.pop_and_drop.ensures)
+returns-in-At c = dropped (λ st. pop_and_drop _ st _) (clears c.requires.whole.1 c.clear_above.ensures) (rw c.in-At.is at c.pop_and_drop.ensures)
 
 pub returns-in-Refused : goal.returns-in-Refused
 returns-in-Refused c =
     let start = c in
-    let S = c.requires.0.1 in
-    not_dropped (λ st. pop_and_drop _ st _) (clears S c.clear_above.ensures) S (rw c.in-Refused.is at c.pop_and_drop.ensures) c.requires.0.2 c.block_row-row.ensures c.put_back.ensures c.clear_above-in-Refused.ensures (lengths_of _ (search rules)).blocks
+    let S = c.requires.whole.1 in
+    not_dropped (λ st. pop_and_drop _ st _) (clears S c.clear_above.ensures) S (rw c.in-Refused.is at c.pop_and_drop.ensures) c.requires.whole.2 c.block_row-row.ensures c.put_back.ensures c.clear_above-in-Refused.ensures (lengths_of _ (search rules)).blocks

@@ -9,6 +9,10 @@ use Rattle.image.proofs.Bools.{below_false, below_next}
 use Rattle.name_tables.specs.Names.{name_row_at, name_row_holds, row_count}
 use Rattle.name_rules.proofs.name_rows_hold.Given as goal
 
+-- the row i holds
+abbrev tried : List ℕ → List ℕ → ℕ → Bool
+tried sheet names i = name_row_holds sheet names (name_row_at names i)
+
 abbrev pub invariant-loop-i : goal.invariant-loop-i
 invariant-loop-i l = (l.i ≤ l.count) × (all_below (tried l.sheet l.names) l.i ≡ true)
 

@@ -56,19 +56,19 @@ use Rattle.pattern_walk_laws.proofs.Variants.{fields_unit, fields_tuple, fields_
 use Rattle.pattern_walk.proofs.+pattern_match_adt_pattern_match_tuple_like_pattern_matching_variant_pattern_match_inner_pattern_matching_variant_fields_alt_alts_bound_slice.Goals as goal
 
 pub adt::pattern_match_adt-loop-i-init : goal.adt::pattern_match_adt-loop-i-init
-adt::pattern_match_adt-loop-i-init t c = arguments_begin c.args.row _ _ _ _ _ _ _ _ _ _ _ _ _ _ c.requires.0
+adt::pattern_match_adt-loop-i-init t c = arguments_begin c.args.row _ _ _ _ _ _ _ _ _ _ _ _ _ _ c.requires.walkable
 
 pub adt::pattern_match_adt-returns-then-place-ge16 : goal.adt::pattern_match_adt-returns-then-place-ge16
 adt::pattern_match_adt-returns-then-place-ge16 t c = c.loop-i.invariant.rest (argument_full c.args.row c.args.image.now c.args.bindings.now c.args.p c.args.from c.args.fields c.args.count c.args.mode c.args.place c.loop-i.i _ _ _ _ _ c.loop-i-test.true refl (no_room c.args.place _ c.if-place-ge16.true))
 
 pub adt::pattern_match_adt-argument_pat-q-requires : goal.adt::pattern_match_adt-argument_pat-q-requires
-adt::pattern_match_adt-argument_pat-q-requires t c = (c.requires.0.image_valid, c.requires.0.whole, argument_lies c.args.image.now c.args.p.0 c.args.from c.args.fields c.args.count c.loop-i.i c.loop-i-test.true c.args.row c.requires.1.1)
+adt::pattern_match_adt-argument_pat-q-requires t c = (c.requires.walkable.image_valid, c.requires.walkable.whole, argument_lies c.args.image.now c.args.p.0 c.args.from c.args.fields c.args.count c.loop-i.i c.loop-i-test.true c.args.row c.requires.p_bound.1)
 
 pub adt::pattern_match_adt-nothing_to_do-requires : goal.adt::pattern_match_adt-nothing_to_do-requires
-adt::pattern_match_adt-nothing_to_do-requires t c = (c.requires.0.image_valid, c.requires.0.whole, omega (arith, c.argument_pat-q.ensures, c.requires.1.0, c.requires.1.1.below c.loop-i.i c.loop-i-test.true))
+adt::pattern_match_adt-nothing_to_do-requires t c = (c.requires.walkable.image_valid, c.requires.walkable.whole, omega (arith, c.argument_pat-q.ensures, c.requires.p_bound.0, c.requires.p_bound.1.below c.loop-i.i c.loop-i-test.true))
 
 pub adt::pattern_match_adt-visit-requires : goal.adt::pattern_match_adt-visit-requires
-adt::pattern_match_adt-visit-requires t c = (search rules, asks_visit c.loop-i.invariant.walkable (omega (arith, c.argument_pat-q.ensures, c.requires.1.0, c.requires.1.1.below c.loop-i.i c.loop-i-test.true)))
+adt::pattern_match_adt-visit-requires t c = (search rules, asks_visit c.loop-i.invariant.walkable (omega (arith, c.argument_pat-q.ensures, c.requires.p_bound.0, c.requires.p_bound.1.below c.loop-i.i c.loop-i-test.true)))
 
 pub adt::pattern_match_adt-overflow_add-i : goal.adt::pattern_match_adt-overflow_add-i
 adt::pattern_match_adt-overflow_add-i t c = omega (arith, c.loop-i-test.true, c.ranges.count)
@@ -80,21 +80,21 @@ pub adt::pattern_match_adt-loop-i-preserved-then-nothing_to_do : goal.adt::patte
 adt::pattern_match_adt-loop-i-preserved-then-nothing_to_do t c =
     let q = c.argument_pat-q.result in
     let there = some_room c.args.place _ (omega (arith, c.if-place-ge16.false)) in
-    let below : c.argument_pat-q.result.0 < pattern_count c.args.image.now = omega (arith, c.argument_pat-q.ensures, c.requires.1.0, c.requires.1.1.below c.loop-i.i c.loop-i-test.true) in
+    let below : c.argument_pat-q.result.0 < pattern_count c.args.image.now = omega (arith, c.argument_pat-q.ensures, c.requires.p_bound.0, c.requires.p_bound.1.below c.loop-i.i c.loop-i-test.true) in
     arguments_again c.loop-i.invariant c.loop-i-test.true refl there q c.argument_pat-q.ensures
-    (idle_walks c.args.image.now c.args.bindings.now q c.args.mode _ _ _ _ _ c.requires.0.image_valid below c.loop-i.invariant.walkable.begins c.visit.ensures (sym c.nothing_to_do.ensures ∙ c.if-nothing_to_do.true) _)
+    (idle_walks c.args.image.now c.args.bindings.now q c.args.mode _ _ _ _ _ c.requires.walkable.image_valid below c.loop-i.invariant.walkable.begins c.visit.ensures (sym c.nothing_to_do.ensures ∙ c.if-nothing_to_do.true) _)
 
 pub adt::pattern_match_adt-argument_elem-requires : goal.adt::pattern_match_adt-argument_elem-requires
-adt::pattern_match_adt-argument_elem-requires t c = (c.requires.0.image_valid, c.requires.0.whole, argument_at c.args.image.now c.args.p.0 c.args.from c.args.fields c.args.count c.loop-i.i c.loop-i-test.true c.args.row c.requires.1.1)
+adt::pattern_match_adt-argument_elem-requires t c = (c.requires.walkable.image_valid, c.requires.walkable.whole, argument_at c.args.image.now c.args.p.0 c.args.from c.args.fields c.args.count c.loop-i.i c.loop-i-test.true c.args.row c.requires.p_bound.1)
 
 pub adt::pattern_match_adt-project-onward-requires : goal.adt::pattern_match_adt-project-onward-requires
 adt::pattern_match_adt-project-onward-requires t c = argument_fits _ _ _ _ _ c.argument_elem.ensures
 
 pub adt::pattern_match_adt-pattern_match_inner-walked-requires : goal.adt::pattern_match_adt-pattern_match_inner-walked-requires
 adt::pattern_match_adt-pattern_match_inner-walked-requires t c =
-    let below = c.requires.1.1.below c.loop-i.i c.loop-i-test.true in
+    let below = c.requires.p_bound.1.below c.loop-i.i c.loop-i-test.true in
     let room = room_taken _ _ c.project-onward.ensures (omega (arith, c.if-place-ge16.false)) in
-    (omega (arith, c.decreases, c.argument_pat-q.ensures, below), (walkable_at c.loop-i.invariant.walkable (projected_reaches _ _ c.project-onward.ensures room), omega (arith, c.argument_pat-q.ensures, below, c.requires.1.0)))
+    (omega (arith, c.decreases, c.argument_pat-q.ensures, below), (walkable_at c.loop-i.invariant.walkable (projected_reaches _ _ c.project-onward.ensures room), omega (arith, c.argument_pat-q.ensures, below, c.requires.p_bound.0)))
 
 pub adt::pattern_match_adt-returns-in_default : goal.adt::pattern_match_adt-returns-in_default
 adt::pattern_match_adt-returns-in_default t c =
@@ -125,70 +125,70 @@ pub adt::pattern_match_tuple_like-least-requires : goal.adt::pattern_match_tuple
 adt::pattern_match_tuple_like-least-requires t c = tt
 
 pub adt::pattern_match_tuple_like-pattern_match_adt-in_front-requires : goal.adt::pattern_match_tuple_like-pattern_match_adt-in_front-requires
-adt::pattern_match_tuple_like-pattern_match_adt-in_front-requires t c = (omega (arith, c.decreases), (c.requires.0, (c.requires.1.0, rw c.least.ensures (fields_there_lem c.args.image.now c.args.p.0 c.args.from c.args.count c.requires.1.1 c.args.fields c.ellipsis_at-before.result c.if-count-before.false))))
+adt::pattern_match_tuple_like-pattern_match_adt-in_front-requires t c = (omega (arith, c.decreases), (c.requires.walkable, (c.requires.p_bound.0, rw c.least.ensures (fields_there_lem c.args.image.now c.args.p.0 c.args.from c.args.count c.requires.p_bound.1 c.args.fields c.ellipsis_at-before.result c.if-count-before.false))))
 
 pub adt::pattern_match_tuple_like-returns-in_default : goal.adt::pattern_match_tuple_like-returns-in_default
 adt::pattern_match_tuple_like-returns-in_default t c = rw c.in_default.is (tuple_like_first c.args.image.now c.args.bindings.now c.args.p c.args.mode c.args.counts c.args.current c.args.els c.args.place _ _ c.args.from c.args.count c.args.ellipsis c.args.fields c.ellipsis_at-before.result c.ellipsis_at-before.ensures c.if-count-before.false c.least.result c.least.ensures (rw c.in_default.is at c.pattern_match_adt-in_front.ensures))
 
 pub adt::pattern_match_tuple_like-returns-then-count-before-2 : goal.adt::pattern_match_tuple_like-returns-then-count-before-2
-adt::pattern_match_tuple_like-returns-then-count-before-2 t c = tuple_like_none_behind c.args.image.now c.args.bindings.now c.args.p c.args.mode c.args.counts c.args.current c.args.els c.args.place _ _ c.args.from c.args.count c.args.ellipsis c.args.fields c.ellipsis_at-before.result c.ellipsis_at-before.ensures c.if-count-before.false c.least.result c.least.ensures c.requires.0.ready (rw c.in-Done.is at c.pattern_match_adt-in_front.ensures) c.if-count-before-2.true
+adt::pattern_match_tuple_like-returns-then-count-before-2 t c = tuple_like_none_behind c.args.image.now c.args.bindings.now c.args.p c.args.mode c.args.counts c.args.current c.args.els c.args.place _ _ c.args.from c.args.count c.args.ellipsis c.args.fields c.ellipsis_at-before.result c.ellipsis_at-before.ensures c.if-count-before.false c.least.result c.least.ensures c.requires.walkable.ready (rw c.in-Done.is at c.pattern_match_adt-in_front.ensures) c.if-count-before-2.true
 
 pub adt::pattern_match_tuple_like-overflow_add-from : goal.adt::pattern_match_tuple_like-overflow_add-from
-adt::pattern_match_tuple_like-overflow_add-from t c = omega (arith, items_few c.args.image.now c.args.p.0 c.args.from c.args.count c.requires.1.1 c.requires.0.image_valid)
+adt::pattern_match_tuple_like-overflow_add-from t c = omega (arith, items_few c.args.image.now c.args.p.0 c.args.from c.args.count c.requires.p_bound.1 c.requires.walkable.image_valid)
 
 pub adt::pattern_match_tuple_like-least-requires-2 : goal.adt::pattern_match_tuple_like-least-requires-2
 adt::pattern_match_tuple_like-least-requires-2 t c = tt
 
 pub adt::pattern_match_tuple_like-pattern_match_adt-requires : goal.adt::pattern_match_tuple_like-pattern_match_adt-requires
-adt::pattern_match_tuple_like-pattern_match_adt-requires t c = (omega (arith, c.decreases), (walkable_after c.requires.0 (rw c.in-Done.is at c.pattern_match_adt-in_front.ensures), (c.requires.1.0, rw c.least-2.ensures (last_fields_there c.args.image.now c.args.p.0 c.args.from c.args.count c.requires.1.1 c.args.fields c.ellipsis_at-before.result c.if-count-before.false))))
+adt::pattern_match_tuple_like-pattern_match_adt-requires t c = (omega (arith, c.decreases), (walkable_after c.requires.walkable (rw c.in-Done.is at c.pattern_match_adt-in_front.ensures), (c.requires.p_bound.0, rw c.least-2.ensures (last_fields_there c.args.image.now c.args.p.0 c.args.from c.args.count c.requires.p_bound.1 c.args.fields c.ellipsis_at-before.result c.if-count-before.false))))
 
 pub adt::pattern_match_tuple_like-returns : goal.adt::pattern_match_tuple_like-returns
-adt::pattern_match_tuple_like-returns t c = tuple_like_then c.args.image.now c.args.bindings.now c.args.p c.args.mode c.args.counts c.args.current c.args.els c.args.place _ _ c.args.from c.args.count c.args.ellipsis c.args.fields c.ellipsis_at-before.result c.ellipsis_at-before.ensures c.if-count-before.false c.least.result c.least.ensures c.least-2.result c.requires.0.ready (rw c.in-Done.is at c.pattern_match_adt-in_front.ensures) c.least-2.ensures c.pattern_match_adt.ensures
+adt::pattern_match_tuple_like-returns t c = tuple_like_then c.args.image.now c.args.bindings.now c.args.p c.args.mode c.args.counts c.args.current c.args.els c.args.place _ _ c.args.from c.args.count c.args.ellipsis c.args.fields c.ellipsis_at-before.result c.ellipsis_at-before.ensures c.if-count-before.false c.least.result c.least.ensures c.least-2.result c.requires.walkable.ready (rw c.in-Done.is at c.pattern_match_adt-in_front.ensures) c.least-2.ensures c.pattern_match_adt.ensures
 
 pub adt::pattern_matching_variant-variant_at-fields-requires : goal.adt::pattern_matching_variant-variant_at-fields-requires
-adt::pattern_matching_variant-variant_at-fields-requires t c = asks_variant c.requires.0 c.requires.1.1
+adt::pattern_matching_variant-variant_at-fields-requires t c = asks_variant c.requires.walkable c.requires.p_bound.1
 
 pub adt::pattern_matching_variant-place_ty-requires : goal.adt::pattern_matching_variant-place_ty-requires
-adt::pattern_matching_variant-place_ty-requires t c = asks_type c.requires.0
+adt::pattern_matching_variant-place_ty-requires t c = asks_type c.requires.walkable
 
 pub adt::pattern_matching_variant-adt_at-requires : goal.adt::pattern_matching_variant-adt_at-requires
-adt::pattern_matching_variant-adt_at-requires t c = (c.requires.0.image_valid, c.requires.0.whole, c.place_ty.ensures.1)
+adt::pattern_matching_variant-adt_at-requires t c = (c.requires.walkable.image_valid, c.requires.walkable.whole, c.place_ty.ensures.1)
 
 pub adt::pattern_matching_variant-pattern_matching_variant_fields-requires : goal.adt::pattern_matching_variant-pattern_matching_variant_fields-requires
-adt::pattern_matching_variant-pattern_matching_variant_fields-requires t c = (omega (arith, c.decreases), (c.requires.0, (c.requires.1.0, c.requires.1.2)))
+adt::pattern_matching_variant-pattern_matching_variant_fields-requires t c = (omega (arith, c.decreases), (c.requires.walkable, (c.requires.p_bound.0, c.requires.p_bound.2)))
 
 pub adt::pattern_matching_variant-enum_test-tested-requires : goal.adt::pattern_matching_variant-enum_test-tested-requires
-adt::pattern_matching_variant-enum_test-tested-requires t c = ((c.requires.0.image_valid, c.requires.0.whole, c.requires.1.1), (c.requires.0.ready, c.requires.0.begins))
+adt::pattern_matching_variant-enum_test-tested-requires t c = record { image_value = (c.requires.walkable.image_valid, c.requires.walkable.whole, c.requires.p_bound.1); ready = (c.requires.walkable.ready, c.requires.walkable.begins) }
 
 pub adt::pattern_matching_variant-returns-in_default : goal.adt::pattern_matching_variant-returns-in_default
-adt::pattern_matching_variant-returns-in_default t c = rw c.in_default.is (variant_enum c.args.image.now c.args.bindings.now c.args.p c.args.mode c.args.counts c.args.current c.args.els c.args.place _ _ c.args.v c.args.shape c.requires.0.placed c.place_ty.ensures.0 (rw c.in-Enum.is at c.adt_at.ensures) (enum_refused c.args.image.now c.args.bindings.now c.args.p c.args.mode c.args.counts c.args.current c.args.els c.args.place _ _ c.args.v c.args.shape (rw c.in_default.is at c.enum_test-tested.ensures)))
+adt::pattern_matching_variant-returns-in_default t c = rw c.in_default.is (variant_enum c.args.image.now c.args.bindings.now c.args.p c.args.mode c.args.counts c.args.current c.args.els c.args.place _ _ c.args.v c.args.shape c.requires.walkable.placed c.place_ty.ensures.0 (rw c.in-Enum.is at c.adt_at.ensures) (enum_refused c.args.image.now c.args.bindings.now c.args.p c.args.mode c.args.counts c.args.current c.args.els c.args.place _ _ c.args.v c.args.shape (rw c.in_default.is at c.enum_test-tested.ensures)))
 
 pub adt::pattern_matching_variant-project-chosen-requires : goal.adt::pattern_matching_variant-project-chosen-requires
 adt::pattern_matching_variant-project-chosen-requires t c = tt
 
 pub adt::pattern_matching_variant-returns-then-not-chosen : goal.adt::pattern_matching_variant-returns-then-not-chosen
-adt::pattern_matching_variant-returns-then-not-chosen t c = variant_enum c.args.image.now c.args.bindings.now c.args.p c.args.mode c.args.counts c.args.current c.args.els c.args.place _ _ c.args.v c.args.shape c.requires.0.placed c.place_ty.ensures.0 (rw c.in-Enum.is at c.adt_at.ensures) (enum_full c.args.image.now c.args.bindings.now c.args.p c.args.mode c.args.counts c.args.current c.args.els c.args.place _ _ c.args.v c.args.shape c.requires.0.ready (rw c.in-Done.is at c.enum_test-tested.ensures) c.project-chosen.result c.project-chosen.ensures (c.if-not-chosen.true))
+adt::pattern_matching_variant-returns-then-not-chosen t c = variant_enum c.args.image.now c.args.bindings.now c.args.p c.args.mode c.args.counts c.args.current c.args.els c.args.place _ _ c.args.v c.args.shape c.requires.walkable.placed c.place_ty.ensures.0 (rw c.in-Enum.is at c.adt_at.ensures) (enum_full c.args.image.now c.args.bindings.now c.args.p c.args.mode c.args.counts c.args.current c.args.els c.args.place _ _ c.args.v c.args.shape c.requires.walkable.ready (rw c.in-Done.is at c.enum_test-tested.ensures) c.project-chosen.result c.project-chosen.ensures ((not-true (_) c.if-not-chosen.true)))
 
 pub adt::pattern_matching_variant-pattern_matching_variant_fields-requires-in-Enum : goal.adt::pattern_matching_variant-pattern_matching_variant_fields-requires-in-Enum
-adt::pattern_matching_variant-pattern_matching_variant_fields-requires-in-Enum t c = (omega (arith, c.decreases), (walkable_at (walkable_behind c.requires.0 (rw c.in-Done.is at c.enum_test-tested.ensures)) (projected_reaches _ _ c.project-chosen.ensures (c.if-not-chosen.false)), (c.requires.1.0, c.requires.1.2)))
+adt::pattern_matching_variant-pattern_matching_variant_fields-requires-in-Enum t c = (omega (arith, c.decreases), (walkable_at (walkable_behind c.requires.walkable (rw c.in-Done.is at c.enum_test-tested.ensures)) (projected_reaches _ _ c.project-chosen.ensures ((not-false (_) c.if-not-chosen.false))), (c.requires.p_bound.0, c.requires.p_bound.2)))
 
 pub adt::pattern_matching_variant-returns-in-Refused : goal.adt::pattern_matching_variant-returns-in-Refused
-adt::pattern_matching_variant-returns-in-Refused t c = variant_refused c.args.image.now c.args.bindings.now c.args.p c.args.mode c.args.counts c.args.current c.args.els c.args.place _ _ c.args.v c.args.shape c.requires.0.placed c.place_ty.ensures.0 (rw c.in-Refused.is at c.adt_at.ensures)
+adt::pattern_matching_variant-returns-in-Refused t c = variant_refused c.args.image.now c.args.bindings.now c.args.p c.args.mode c.args.counts c.args.current c.args.els c.args.place _ _ c.args.v c.args.shape c.requires.walkable.placed c.place_ty.ensures.0 (rw c.in-Refused.is at c.adt_at.ensures)
 
 pub adt::pattern_matching_variant-returns-in-Struct : goal.adt::pattern_matching_variant-returns-in-Struct
-adt::pattern_matching_variant-returns-in-Struct t c = variant_struct c.args.image.now c.args.bindings.now c.args.p c.args.mode c.args.counts c.args.current c.args.els c.args.place _ _ c.args.v c.args.shape c.requires.0.placed c.place_ty.ensures.0 c.variant_at-fields.result.count (rw c.in-Struct.is at c.adt_at.ensures) (ap (λ (r : VariantRow). r.count) c.variant_at-fields.ensures ∙ variant_count_lem c.args.image.now c.args.v) c.pattern_matching_variant_fields.ensures
+adt::pattern_matching_variant-returns-in-Struct t c = variant_struct c.args.image.now c.args.bindings.now c.args.p c.args.mode c.args.counts c.args.current c.args.els c.args.place _ _ c.args.v c.args.shape c.requires.walkable.placed c.place_ty.ensures.0 c.variant_at-fields.result.count (rw c.in-Struct.is at c.adt_at.ensures) (ap (λ (r : VariantRow). r.count) c.variant_at-fields.ensures ∙ variant_count_lem c.args.image.now c.args.v) c.pattern_matching_variant_fields.ensures
 
 pub adt::pattern_matching_variant-returns-else-not-chosen : goal.adt::pattern_matching_variant-returns-else-not-chosen
-adt::pattern_matching_variant-returns-else-not-chosen t c = variant_enum c.args.image.now c.args.bindings.now c.args.p c.args.mode c.args.counts c.args.current c.args.els c.args.place _ _ c.args.v c.args.shape c.requires.0.placed c.place_ty.ensures.0 (rw c.in-Enum.is at c.adt_at.ensures) (enum_fields c.args.image.now c.args.bindings.now c.args.p c.args.mode c.args.counts c.args.current c.args.els c.args.place _ _ c.args.v c.args.shape c.requires.0.ready (rw c.in-Done.is at c.enum_test-tested.ensures) c.project-chosen.result c.project-chosen.ensures c.variant_at-fields.result.count (c.if-not-chosen.false) (ap (λ (r : VariantRow). r.count) c.variant_at-fields.ensures ∙ variant_count_lem c.args.image.now c.args.v) c.pattern_matching_variant_fields-in-Enum.ensures)
+adt::pattern_matching_variant-returns-else-not-chosen t c = variant_enum c.args.image.now c.args.bindings.now c.args.p c.args.mode c.args.counts c.args.current c.args.els c.args.place _ _ c.args.v c.args.shape c.requires.walkable.placed c.place_ty.ensures.0 (rw c.in-Enum.is at c.adt_at.ensures) (enum_fields c.args.image.now c.args.bindings.now c.args.p c.args.mode c.args.counts c.args.current c.args.els c.args.place _ _ c.args.v c.args.shape c.requires.walkable.ready (rw c.in-Done.is at c.enum_test-tested.ensures) c.project-chosen.result c.project-chosen.ensures c.variant_at-fields.result.count ((not-false (_) c.if-not-chosen.false)) (ap (λ (r : VariantRow). r.count) c.variant_at-fields.ensures ∙ variant_count_lem c.args.image.now c.args.v) c.pattern_matching_variant_fields-in-Enum.ensures)
 
 pub pattern_match_inner-enter-entered-requires : goal.pattern_match_inner-enter-entered-requires
-pattern_match_inner-enter-entered-requires t c = (c.requires.0.image_valid, c.requires.0.whole, c.requires.1)
+pattern_match_inner-enter-entered-requires t c = (c.requires.walkable.image_valid, c.requires.walkable.whole, c.requires.p_bound)
 
 pub pattern_match_inner-returns-then-not-entered : goal.pattern_match_inner-returns-then-not-entered
-pattern_match_inner-returns-then-not-entered t c = c.enter-entered.ensures.stops (c.if-not-entered.true) c.args.bindings.now c.args.counts c.args.current c.args.els _
+pattern_match_inner-returns-then-not-entered t c = c.enter-entered.ensures.stops ((not-true (_) c.if-not-entered.true)) c.args.bindings.now c.args.counts c.args.current c.args.els _
 
 pub pattern_match_inner-pat_at-row-requires : goal.pattern_match_inner-pat_at-row-requires
-pattern_match_inner-pat_at-row-requires t c = asks_row c.requires.0 (omega (arith, c.enter-entered.ensures.below, c.requires.1))
+pattern_match_inner-pat_at-row-requires t c = asks_row c.requires.walkable (omega (arith, c.enter-entered.ensures.below, c.requires.p_bound))
 
 pub pattern_match_inner-pat_kind-requires : goal.pattern_match_inner-pat_kind-requires
 pattern_match_inner-pat_kind-requires t c = tt
@@ -201,12 +201,12 @@ pattern_match_inner-is_leaf-requires t c = tt
 
 pub pattern_match_inner-pattern_match_leaf-requires : goal.pattern_match_inner-pattern_match_leaf-requires
 pattern_match_inner-pattern_match_leaf-requires t c =
-    let W = c.requires.0 in
-    let there = entered_there c.enter-entered.ensures c.requires.1 in
-    ((W.image_valid, W.whole, row_typed c.args.image.now _ _ W.image_valid there c.pat_at-row.ensures, row_shape c.args.image.now _ _ W.image_valid there c.pat_at-row.ensures, W.locals_of_bindings), (W.ready, W.begins))
+    let W = c.requires.walkable in
+    let there = entered_there c.enter-entered.ensures c.requires.p_bound in
+    record { image_value = (W.image_valid, W.whole, row_typed c.args.image.now _ _ W.image_valid there c.pat_at-row.ensures, row_shape c.args.image.now _ _ W.image_valid there c.pat_at-row.ensures, W.locals_of_bindings); ready = (W.ready, W.begins) }
 
 pub pattern_match_inner-returns-then-is_leaf : goal.pattern_match_inner-returns-then-is_leaf
-pattern_match_inner-returns-then-is_leaf t c = entered_leaf c.enter-entered.ensures (c.if-not-entered.false) c.pat_at-row.result c.pat_at-row.ensures c.args.bindings.now c.args.counts c.args.current c.args.els _ (sym (c.is_IsLeaf.ensures ∙ ap₂ is_leaf c.pat_kind.ensures c.path_kind.ensures) ∙ c.if-is_leaf.true) c.pattern_match_leaf.ensures
+pattern_match_inner-returns-then-is_leaf t c = entered_leaf c.enter-entered.ensures ((not-false (_) c.if-not-entered.false)) c.pat_at-row.result c.pat_at-row.ensures c.args.bindings.now c.args.counts c.args.current c.args.els _ (sym (c.is_IsLeaf.ensures ∙ ap₂ is_leaf c.pat_kind.ensures c.path_kind.ensures) ∙ c.if-is_leaf.true) c.pattern_match_leaf.ensures
 
 pub pattern_match_inner-pat_kind-requires-2 : goal.pattern_match_inner-pat_kind-requires-2
 pattern_match_inner-pat_kind-requires-2 t c = tt
@@ -215,10 +215,10 @@ pub pattern_match_inner-compound_kind-requires : goal.pattern_match_inner-compou
 pattern_match_inner-compound_kind-requires t c = tt
 
 pub pattern_match_inner-place_ty-requires : goal.pattern_match_inner-place_ty-requires
-pattern_match_inner-place_ty-requires t c = asks_type (entered_walkable c.enter-entered.ensures (c.if-not-entered.false) c.requires.0)
+pattern_match_inner-place_ty-requires t c = asks_type (entered_walkable c.enter-entered.ensures ((not-false (_) c.if-not-entered.false)) c.requires.walkable)
 
 pub pattern_match_inner-tuple_at-requires : goal.pattern_match_inner-tuple_at-requires
-pattern_match_inner-tuple_at-requires t c = ((entered_walkable c.enter-entered.ensures (c.if-not-entered.false) c.requires.0).image_valid, (entered_walkable c.enter-entered.ensures (c.if-not-entered.false) c.requires.0).whole, c.place_ty.ensures.1)
+pattern_match_inner-tuple_at-requires t c = ((entered_walkable c.enter-entered.ensures ((not-false (_) c.if-not-entered.false)) c.requires.walkable).image_valid, (entered_walkable c.enter-entered.ensures ((not-false (_) c.if-not-entered.false)) c.requires.walkable).whole, c.place_ty.ensures.1)
 
 pub pattern_match_inner-pattern_match_tuple_like-requires : goal.pattern_match_inner-pattern_match_tuple_like-requires
 pattern_match_inner-pattern_match_tuple_like-requires t c = (omega (arith, c.decreases, c.enter-entered.ensures.below), ((entered_walkable c.enter-entered.ensures (c.if-not-entered.false) c.requires.0), (((entered_there c.enter-entered.ensures c.requires.1)), tuple_there c.args.image.now c.enter-entered.result.p.0 c.pat_at-row.result (entered_walkable c.enter-entered.ensures (c.if-not-entered.false) c.requires.0).image_valid ((entered_there c.enter-entered.ensures c.requires.1)) c.pat_at-row.ensures (tuple_kind (pat_kind c.pat_at-row.result.kind) (sym (c.compound_kind.ensures ∙ ap compound_kind c.pat_kind-2.ensures) ∙ c.in-Tuple.is)))))
@@ -235,16 +235,16 @@ pattern_match_inner-bound-requires t c =
     (omega (arith, c.decreases, c.enter-entered.ensures.below), ((entered_walkable c.enter-entered.ensures (c.if-not-entered.false) c.requires.0), (((entered_there c.enter-entered.ensures c.requires.1)), b.0, b.1)))
 
 pub pattern_match_inner-place_ty-requires-in-Ref : goal.pattern_match_inner-place_ty-requires-in-Ref
-pattern_match_inner-place_ty-requires-in-Ref t c = asks_type (entered_walkable c.enter-entered.ensures (c.if-not-entered.false) c.requires.0)
+pattern_match_inner-place_ty-requires-in-Ref t c = asks_type (entered_walkable c.enter-entered.ensures ((not-false (_) c.if-not-entered.false)) c.requires.walkable)
 
 pub pattern_match_inner-reference_at-requires : goal.pattern_match_inner-reference_at-requires
-pattern_match_inner-reference_at-requires t c = ((entered_walkable c.enter-entered.ensures (c.if-not-entered.false) c.requires.0).image_valid, (entered_walkable c.enter-entered.ensures (c.if-not-entered.false) c.requires.0).whole, c.place_ty-in-Ref.ensures.1)
+pattern_match_inner-reference_at-requires t c = ((entered_walkable c.enter-entered.ensures ((not-false (_) c.if-not-entered.false)) c.requires.walkable).image_valid, (entered_walkable c.enter-entered.ensures ((not-false (_) c.if-not-entered.false)) c.requires.walkable).whole, c.place_ty-in-Ref.ensures.1)
 
 pub pattern_match_inner-project-referent-requires : goal.pattern_match_inner-project-referent-requires
 pattern_match_inner-project-referent-requires t c = tt
 
 pub pattern_match_inner-returns-then-not-referent : goal.pattern_match_inner-returns-then-not-referent
-pattern_match_inner-returns-then-not-referent t c = c.enter-entered.ensures.goes (c.if-not-entered.false) c.pat_at-row.result c.pat_at-row.ensures c.args.bindings.now c.args.counts c.args.current c.args.els _ (kind_ref c.args.image.now c.args.bindings.now c.enter-entered.result.p c.pat_at-row.result c.args.mode c.args.counts c.args.current c.args.els c.enter-entered.result.place _ _ (sym (c.compound_kind.ensures ∙ ap compound_kind c.pat_kind-2.ensures) ∙ c.in-Ref.is) (ref_stops c.args.image.now c.enter-entered.result.p (pattern_match_inner c.args.image.now c.args.bindings.now (tree c.args.image.now c.pat_at-row.result.a)) c.args.mode c.args.counts c.args.current c.args.els c.enter-entered.result.place _ _ (entered_walkable c.enter-entered.ensures (c.if-not-entered.false) c.requires.0).placed c.place_ty-in-Ref.ensures.0 (rw c.in-Reference.is at c.reference_at.ensures) c.project-referent.ensures (c.if-not-referent.true)))
+pattern_match_inner-returns-then-not-referent t c = c.enter-entered.ensures.goes ((not-false (_) c.if-not-entered.false)) c.pat_at-row.result c.pat_at-row.ensures c.args.bindings.now c.args.counts c.args.current c.args.els _ (kind_ref c.args.image.now c.args.bindings.now c.enter-entered.result.p c.pat_at-row.result c.args.mode c.args.counts c.args.current c.args.els c.enter-entered.result.place _ _ (sym (c.compound_kind.ensures ∙ ap compound_kind c.pat_kind-2.ensures) ∙ c.in-Ref.is) (ref_stops c.args.image.now c.enter-entered.result.p (pattern_match_inner c.args.image.now c.args.bindings.now (tree c.args.image.now c.pat_at-row.result.a)) c.args.mode c.args.counts c.args.current c.args.els c.enter-entered.result.place _ _ (entered_walkable c.enter-entered.ensures ((not-false (_) c.if-not-entered.false)) c.requires.walkable).placed c.place_ty-in-Ref.ensures.0 (rw c.in-Reference.is at c.reference_at.ensures) c.project-referent.ensures ((not-true (_) c.if-not-referent.true))))
 
 pub pattern_match_inner-pattern_match_inner-requires : goal.pattern_match_inner-pattern_match_inner-requires
 pattern_match_inner-pattern_match_inner-requires t c =
@@ -255,54 +255,54 @@ pub pattern_match_inner-variant_word-v-requires : goal.pattern_match_inner-varia
 pattern_match_inner-variant_word-v-requires t c = tt
 
 pub pattern_match_inner-returns-then-v : goal.pattern_match_inner-returns-then-v
-pattern_match_inner-returns-then-v t c = c.enter-entered.ensures.goes (c.if-not-entered.false) c.pat_at-row.result c.pat_at-row.ensures c.args.bindings.now c.args.counts c.args.current c.args.els _ (kind_variant c.args.image.now c.args.bindings.now c.enter-entered.result.p c.pat_at-row.result c.args.mode c.args.counts c.args.current c.args.els c.enter-entered.result.place _ _ (entered_walkable c.enter-entered.ensures (c.if-not-entered.false) c.requires.0).image_valid ((entered_there c.enter-entered.ensures c.requires.1)) c.pat_at-row.ensures ((sym (c.is_IsLeaf.ensures ∙ ap₂ is_leaf c.pat_kind.ensures c.path_kind.ensures) ∙ c.if-is_leaf.false)) (sym (c.compound_kind.ensures ∙ ap compound_kind c.pat_kind-2.ensures) ∙ c.in-Variant.is) (variant_none c.args.image.now c.args.bindings.now c.enter-entered.result.p c.args.mode c.args.counts c.args.current c.args.els c.enter-entered.result.place _ _ _ _ (sym c.variant_word-v.ensures ∙ c.if-v.true)))
+pattern_match_inner-returns-then-v t c = c.enter-entered.ensures.goes ((not-false (_) c.if-not-entered.false)) c.pat_at-row.result c.pat_at-row.ensures c.args.bindings.now c.args.counts c.args.current c.args.els _ (kind_variant c.args.image.now c.args.bindings.now c.enter-entered.result.p c.pat_at-row.result c.args.mode c.args.counts c.args.current c.args.els c.enter-entered.result.place _ _ (entered_walkable c.enter-entered.ensures ((not-false (_) c.if-not-entered.false)) c.requires.walkable).image_valid ((entered_there c.enter-entered.ensures c.requires.p_bound)) c.pat_at-row.ensures ((sym (c.is_IsLeaf.ensures ∙ ap₂ is_leaf c.pat_kind.ensures c.path_kind.ensures) ∙ c.if-is_leaf.false)) (sym (c.compound_kind.ensures ∙ ap compound_kind c.pat_kind-2.ensures) ∙ c.in-Variant.is) (variant_none c.args.image.now c.args.bindings.now c.enter-entered.result.p c.args.mode c.args.counts c.args.current c.args.els c.enter-entered.result.place _ _ _ _ (sym c.variant_word-v.ensures ∙ c.if-v.true)))
 
 pub pattern_match_inner-variant_shape-requires : goal.pattern_match_inner-variant_shape-requires
 pattern_match_inner-variant_shape-requires t c = tt
 
 pub pattern_match_inner-pattern_matching_variant-requires : goal.pattern_match_inner-pattern_matching_variant-requires
 pattern_match_inner-pattern_matching_variant-requires t c =
-    let n = names_variant c.args.image.now c.enter-entered.result.p.0 c.pat_at-row.result (entered_walkable c.enter-entered.ensures (c.if-not-entered.false) c.requires.0).image_valid ((entered_there c.enter-entered.ensures c.requires.1)) c.pat_at-row.ensures ((sym (c.is_IsLeaf.ensures ∙ ap₂ is_leaf c.pat_kind.ensures c.path_kind.ensures) ∙ c.if-is_leaf.false)) (sym (c.compound_kind.ensures ∙ ap compound_kind c.pat_kind-2.ensures) ∙ c.in-Variant.is) in
+    let n = names_variant c.args.image.now c.enter-entered.result.p.0 c.pat_at-row.result (entered_walkable c.enter-entered.ensures ((not-false (_) c.if-not-entered.false)) c.requires.walkable).image_valid ((entered_there c.enter-entered.ensures c.requires.p_bound)) c.pat_at-row.ensures ((sym (c.is_IsLeaf.ensures ∙ ap₂ is_leaf c.pat_kind.ensures c.path_kind.ensures) ∙ c.if-is_leaf.false)) (sym (c.compound_kind.ensures ∙ ap compound_kind c.pat_kind-2.ensures) ∙ c.in-Variant.is) in
     (omega (arith, c.decreases, c.enter-entered.ensures.below), ((entered_walkable c.enter-entered.ensures (c.if-not-entered.false) c.requires.0), (((entered_there c.enter-entered.ensures c.requires.1)), rw c.variant_word-v.ensures (variant_there c.args.image.now _ _ n (λ q. c.if-v.false (c.variant_word-v.ensures ∙ q))), rw c.variant_shape.ensures n.shape)))
 
 pub pattern_match_inner-returns-in-Refused : goal.pattern_match_inner-returns-in-Refused
-pattern_match_inner-returns-in-Refused t c = c.enter-entered.ensures.goes (c.if-not-entered.false) c.pat_at-row.result c.pat_at-row.ensures c.args.bindings.now c.args.counts c.args.current c.args.els _ (kind_no_tuple c.args.image.now c.args.bindings.now c.enter-entered.result.p c.pat_at-row.result c.args.mode c.args.counts c.args.current c.args.els c.enter-entered.result.place _ _ (sym (c.compound_kind.ensures ∙ ap compound_kind c.pat_kind-2.ensures) ∙ c.in-Tuple.is) (entered_walkable c.enter-entered.ensures (c.if-not-entered.false) c.requires.0).placed c.place_ty.ensures.0 (rw c.in-Refused.is at c.tuple_at.ensures))
+pattern_match_inner-returns-in-Refused t c = c.enter-entered.ensures.goes ((not-false (_) c.if-not-entered.false)) c.pat_at-row.result c.pat_at-row.ensures c.args.bindings.now c.args.counts c.args.current c.args.els _ (kind_no_tuple c.args.image.now c.args.bindings.now c.enter-entered.result.p c.pat_at-row.result c.args.mode c.args.counts c.args.current c.args.els c.enter-entered.result.place _ _ (sym (c.compound_kind.ensures ∙ ap compound_kind c.pat_kind-2.ensures) ∙ c.in-Tuple.is) (entered_walkable c.enter-entered.ensures ((not-false (_) c.if-not-entered.false)) c.requires.walkable).placed c.place_ty.ensures.0 (rw c.in-Refused.is at c.tuple_at.ensures))
 
 pub pattern_match_inner-returns-in-Fields : goal.pattern_match_inner-returns-in-Fields
-pattern_match_inner-returns-in-Fields t c = c.enter-entered.ensures.goes (c.if-not-entered.false) c.pat_at-row.result c.pat_at-row.ensures c.args.bindings.now c.args.counts c.args.current c.args.els _ (kind_tuple c.args.image.now c.args.bindings.now c.enter-entered.result.p c.pat_at-row.result c.args.mode c.args.counts c.args.current c.args.els c.enter-entered.result.place _ _ (sym (c.compound_kind.ensures ∙ ap compound_kind c.pat_kind-2.ensures) ∙ c.in-Tuple.is) (entered_walkable c.enter-entered.ensures (c.if-not-entered.false) c.requires.0).placed c.place_ty.ensures.0 (rw c.in-Fields.is at c.tuple_at.ensures) c.pattern_match_tuple_like.ensures)
+pattern_match_inner-returns-in-Fields t c = c.enter-entered.ensures.goes ((not-false (_) c.if-not-entered.false)) c.pat_at-row.result c.pat_at-row.ensures c.args.bindings.now c.args.counts c.args.current c.args.els _ (kind_tuple c.args.image.now c.args.bindings.now c.enter-entered.result.p c.pat_at-row.result c.args.mode c.args.counts c.args.current c.args.els c.enter-entered.result.place _ _ (sym (c.compound_kind.ensures ∙ ap compound_kind c.pat_kind-2.ensures) ∙ c.in-Tuple.is) (entered_walkable c.enter-entered.ensures ((not-false (_) c.if-not-entered.false)) c.requires.walkable).placed c.place_ty.ensures.0 (rw c.in-Fields.is at c.tuple_at.ensures) c.pattern_match_tuple_like.ensures)
 
 pub pattern_match_inner-returns-in-Or : goal.pattern_match_inner-returns-in-Or
-pattern_match_inner-returns-in-Or t c = c.enter-entered.ensures.goes (c.if-not-entered.false) c.pat_at-row.result c.pat_at-row.ensures c.args.bindings.now c.args.counts c.args.current c.args.els _ (kind_or c.args.image.now c.args.bindings.now c.enter-entered.result.p c.pat_at-row.result c.args.mode c.args.counts c.args.current c.args.els c.enter-entered.result.place _ _ (sym (c.compound_kind.ensures ∙ ap compound_kind c.pat_kind-2.ensures) ∙ c.in-Or.is) c.alts.ensures)
+pattern_match_inner-returns-in-Or t c = c.enter-entered.ensures.goes ((not-false (_) c.if-not-entered.false)) c.pat_at-row.result c.pat_at-row.ensures c.args.bindings.now c.args.counts c.args.current c.args.els _ (kind_or c.args.image.now c.args.bindings.now c.enter-entered.result.p c.pat_at-row.result c.args.mode c.args.counts c.args.current c.args.els c.enter-entered.result.place _ _ (sym (c.compound_kind.ensures ∙ ap compound_kind c.pat_kind-2.ensures) ∙ c.in-Or.is) c.alts.ensures)
 
 pub pattern_match_inner-returns-in-Slice : goal.pattern_match_inner-returns-in-Slice
-pattern_match_inner-returns-in-Slice t c = c.enter-entered.ensures.goes (c.if-not-entered.false) c.pat_at-row.result c.pat_at-row.ensures c.args.bindings.now c.args.counts c.args.current c.args.els _ (kind_slice c.args.image.now c.args.bindings.now c.enter-entered.result.p c.pat_at-row.result c.args.mode c.args.counts c.args.current c.args.els c.enter-entered.result.place _ _ (sym (c.compound_kind.ensures ∙ ap compound_kind c.pat_kind-2.ensures) ∙ c.in-Slice.is) c.slice.ensures)
+pattern_match_inner-returns-in-Slice t c = c.enter-entered.ensures.goes ((not-false (_) c.if-not-entered.false)) c.pat_at-row.result c.pat_at-row.ensures c.args.bindings.now c.args.counts c.args.current c.args.els _ (kind_slice c.args.image.now c.args.bindings.now c.enter-entered.result.p c.pat_at-row.result c.args.mode c.args.counts c.args.current c.args.els c.enter-entered.result.place _ _ (sym (c.compound_kind.ensures ∙ ap compound_kind c.pat_kind-2.ensures) ∙ c.in-Slice.is) c.slice.ensures)
 
 pub pattern_match_inner-returns-in-Bind : goal.pattern_match_inner-returns-in-Bind
-pattern_match_inner-returns-in-Bind t c = c.enter-entered.ensures.goes (c.if-not-entered.false) c.pat_at-row.result c.pat_at-row.ensures c.args.bindings.now c.args.counts c.args.current c.args.els _ (kind_bind c.args.image.now c.args.bindings.now c.enter-entered.result.p c.pat_at-row.result c.args.mode c.args.counts c.args.current c.args.els c.enter-entered.result.place _ _ (sym (c.compound_kind.ensures ∙ ap compound_kind c.pat_kind-2.ensures) ∙ c.in-Bind.is) c.bound.ensures)
+pattern_match_inner-returns-in-Bind t c = c.enter-entered.ensures.goes ((not-false (_) c.if-not-entered.false)) c.pat_at-row.result c.pat_at-row.ensures c.args.bindings.now c.args.counts c.args.current c.args.els _ (kind_bind c.args.image.now c.args.bindings.now c.enter-entered.result.p c.pat_at-row.result c.args.mode c.args.counts c.args.current c.args.els c.enter-entered.result.place _ _ (sym (c.compound_kind.ensures ∙ ap compound_kind c.pat_kind-2.ensures) ∙ c.in-Bind.is) c.bound.ensures)
 
 pub pattern_match_inner-returns-in-Refused-reference_at : goal.pattern_match_inner-returns-in-Refused-reference_at
-pattern_match_inner-returns-in-Refused-reference_at t c = c.enter-entered.ensures.goes (c.if-not-entered.false) c.pat_at-row.result c.pat_at-row.ensures c.args.bindings.now c.args.counts c.args.current c.args.els _ (kind_ref c.args.image.now c.args.bindings.now c.enter-entered.result.p c.pat_at-row.result c.args.mode c.args.counts c.args.current c.args.els c.enter-entered.result.place _ _ (sym (c.compound_kind.ensures ∙ ap compound_kind c.pat_kind-2.ensures) ∙ c.in-Ref.is) (ref_refused c.args.image.now c.enter-entered.result.p (pattern_match_inner c.args.image.now c.args.bindings.now (tree c.args.image.now c.pat_at-row.result.a)) c.args.mode c.args.counts c.args.current c.args.els c.enter-entered.result.place _ _ (entered_walkable c.enter-entered.ensures (c.if-not-entered.false) c.requires.0).placed c.place_ty-in-Ref.ensures.0 (rw c.in-Refused-reference_at.is at c.reference_at.ensures)))
+pattern_match_inner-returns-in-Refused-reference_at t c = c.enter-entered.ensures.goes ((not-false (_) c.if-not-entered.false)) c.pat_at-row.result c.pat_at-row.ensures c.args.bindings.now c.args.counts c.args.current c.args.els _ (kind_ref c.args.image.now c.args.bindings.now c.enter-entered.result.p c.pat_at-row.result c.args.mode c.args.counts c.args.current c.args.els c.enter-entered.result.place _ _ (sym (c.compound_kind.ensures ∙ ap compound_kind c.pat_kind-2.ensures) ∙ c.in-Ref.is) (ref_refused c.args.image.now c.enter-entered.result.p (pattern_match_inner c.args.image.now c.args.bindings.now (tree c.args.image.now c.pat_at-row.result.a)) c.args.mode c.args.counts c.args.current c.args.els c.enter-entered.result.place _ _ (entered_walkable c.enter-entered.ensures ((not-false (_) c.if-not-entered.false)) c.requires.walkable).placed c.place_ty-in-Ref.ensures.0 (rw c.in-Refused-reference_at.is at c.reference_at.ensures)))
 
 pub pattern_match_inner-returns-else-not-referent : goal.pattern_match_inner-returns-else-not-referent
-pattern_match_inner-returns-else-not-referent t c = c.enter-entered.ensures.goes (c.if-not-entered.false) c.pat_at-row.result c.pat_at-row.ensures c.args.bindings.now c.args.counts c.args.current c.args.els _ (kind_ref c.args.image.now c.args.bindings.now c.enter-entered.result.p c.pat_at-row.result c.args.mode c.args.counts c.args.current c.args.els c.enter-entered.result.place _ _ (sym (c.compound_kind.ensures ∙ ap compound_kind c.pat_kind-2.ensures) ∙ c.in-Ref.is) (ref_goes c.args.image.now c.enter-entered.result.p (pattern_match_inner c.args.image.now c.args.bindings.now (tree c.args.image.now c.pat_at-row.result.a)) c.args.mode c.args.counts c.args.current c.args.els c.enter-entered.result.place _ _ (entered_walkable c.enter-entered.ensures (c.if-not-entered.false) c.requires.0).placed c.place_ty-in-Ref.ensures.0 (rw c.in-Reference.is at c.reference_at.ensures) c.project-referent.ensures (c.if-not-referent.false) c.pattern_match_inner.ensures))
+pattern_match_inner-returns-else-not-referent t c = c.enter-entered.ensures.goes ((not-false (_) c.if-not-entered.false)) c.pat_at-row.result c.pat_at-row.ensures c.args.bindings.now c.args.counts c.args.current c.args.els _ (kind_ref c.args.image.now c.args.bindings.now c.enter-entered.result.p c.pat_at-row.result c.args.mode c.args.counts c.args.current c.args.els c.enter-entered.result.place _ _ (sym (c.compound_kind.ensures ∙ ap compound_kind c.pat_kind-2.ensures) ∙ c.in-Ref.is) (ref_goes c.args.image.now c.enter-entered.result.p (pattern_match_inner c.args.image.now c.args.bindings.now (tree c.args.image.now c.pat_at-row.result.a)) c.args.mode c.args.counts c.args.current c.args.els c.enter-entered.result.place _ _ (entered_walkable c.enter-entered.ensures ((not-false (_) c.if-not-entered.false)) c.requires.walkable).placed c.place_ty-in-Ref.ensures.0 (rw c.in-Reference.is at c.reference_at.ensures) c.project-referent.ensures ((not-false (_) c.if-not-referent.false)) c.pattern_match_inner.ensures))
 
 pub pattern_match_inner-returns-else-v : goal.pattern_match_inner-returns-else-v
-pattern_match_inner-returns-else-v t c = c.enter-entered.ensures.goes (c.if-not-entered.false) c.pat_at-row.result c.pat_at-row.ensures c.args.bindings.now c.args.counts c.args.current c.args.els _ (kind_variant c.args.image.now c.args.bindings.now c.enter-entered.result.p c.pat_at-row.result c.args.mode c.args.counts c.args.current c.args.els c.enter-entered.result.place _ _ (entered_walkable c.enter-entered.ensures (c.if-not-entered.false) c.requires.0).image_valid ((entered_there c.enter-entered.ensures c.requires.1)) c.pat_at-row.ensures ((sym (c.is_IsLeaf.ensures ∙ ap₂ is_leaf c.pat_kind.ensures c.path_kind.ensures) ∙ c.if-is_leaf.false)) (sym (c.compound_kind.ensures ∙ ap compound_kind c.pat_kind-2.ensures) ∙ c.in-Variant.is) (variant_some c.args.image.now c.args.bindings.now c.enter-entered.result.p c.args.mode c.args.counts c.args.current c.args.els c.enter-entered.result.place _ _ _ _ (λ q. c.if-v.false (c.variant_word-v.ensures ∙ q)) (rw (c.variant_word-v.ensures, c.variant_shape.ensures) at c.pattern_matching_variant.ensures)))
+pattern_match_inner-returns-else-v t c = c.enter-entered.ensures.goes ((not-false (_) c.if-not-entered.false)) c.pat_at-row.result c.pat_at-row.ensures c.args.bindings.now c.args.counts c.args.current c.args.els _ (kind_variant c.args.image.now c.args.bindings.now c.enter-entered.result.p c.pat_at-row.result c.args.mode c.args.counts c.args.current c.args.els c.enter-entered.result.place _ _ (entered_walkable c.enter-entered.ensures ((not-false (_) c.if-not-entered.false)) c.requires.walkable).image_valid ((entered_there c.enter-entered.ensures c.requires.p_bound)) c.pat_at-row.ensures ((sym (c.is_IsLeaf.ensures ∙ ap₂ is_leaf c.pat_kind.ensures c.path_kind.ensures) ∙ c.if-is_leaf.false)) (sym (c.compound_kind.ensures ∙ ap compound_kind c.pat_kind-2.ensures) ∙ c.in-Variant.is) (variant_some c.args.image.now c.args.bindings.now c.enter-entered.result.p c.args.mode c.args.counts c.args.current c.args.els c.enter-entered.result.place _ _ _ _ (λ q. c.if-v.false (c.variant_word-v.ensures ∙ q)) (rw (c.variant_word-v.ensures, c.variant_shape.ensures) at c.pattern_matching_variant.ensures)))
 
 pub pattern_matching_variant_fields-pattern_match_tuple_like-requires : goal.pattern_matching_variant_fields-pattern_match_tuple_like-requires
-pattern_matching_variant_fields-pattern_match_tuple_like-requires t c = (omega (arith, c.decreases), (c.requires.0, (c.requires.1.0, rw c.in-Tuple.is at c.requires.1.1)))
+pattern_matching_variant_fields-pattern_match_tuple_like-requires t c = (omega (arith, c.decreases), (c.requires.walkable, (c.requires.p_bound.0, rw c.in-Tuple.is at c.requires.p_bound.1)))
 
 pub pattern_matching_variant_fields-fields_there-requires : goal.pattern_matching_variant_fields-fields_there-requires
-pattern_matching_variant_fields-fields_there-requires t c = (c.requires.0.image_valid, c.requires.0.whole, (rw c.in-Record.is at c.requires.1.1).lies)
+pattern_matching_variant_fields-fields_there-requires t c = (c.requires.walkable.image_valid, c.requires.walkable.whole, (rw c.in-Record.is at c.requires.p_bound.1).lies)
 
 pub pattern_matching_variant_fields-returns-then-not-fields_there : goal.pattern_matching_variant_fields-returns-then-not-fields_there
 pattern_matching_variant_fields-returns-then-not-fields_there t c = rw c.in-Record.is (fields_absent c.args.image.now c.args.bindings.now c.args.p c.args.mode c.args.counts c.args.current c.args.els c.args.place _ _ c.args.fields _ _ (sym c.fields_there.ensures ∙ c.if-not-fields_there.true))
 
 pub pattern_matching_variant_fields-pattern_match_adt-requires : goal.pattern_matching_variant_fields-pattern_match_adt-requires
-pattern_matching_variant_fields-pattern_match_adt-requires t c = (omega (arith, c.decreases), (c.requires.0, (c.requires.1.0, record_fields_lem _ _ _ _ (rw c.in-Record.is at c.requires.1.1) c.args.fields)))
+pattern_matching_variant_fields-pattern_match_adt-requires t c = (omega (arith, c.decreases), (c.requires.walkable, (c.requires.p_bound.0, record_fields_lem _ _ _ _ (rw c.in-Record.is at c.requires.p_bound.1) c.args.fields)))
 
 pub pattern_matching_variant_fields-returns-in-Unit : goal.pattern_matching_variant_fields-returns-in-Unit
-pattern_matching_variant_fields-returns-in-Unit t c = rw c.in-Unit.is (fields_unit c.args.image.now c.args.bindings.now c.args.p c.args.mode c.args.counts c.args.current c.args.els c.args.place _ _ c.args.fields c.requires.0.begins)
+pattern_matching_variant_fields-returns-in-Unit t c = rw c.in-Unit.is (fields_unit c.args.image.now c.args.bindings.now c.args.p c.args.mode c.args.counts c.args.current c.args.els c.args.place _ _ c.args.fields c.requires.walkable.begins)
 
 pub pattern_matching_variant_fields-returns-in-Tuple : goal.pattern_matching_variant_fields-returns-in-Tuple
 pattern_matching_variant_fields-returns-in-Tuple t c = rw c.in-Tuple.is (fields_tuple c.args.image.now c.args.bindings.now c.args.p c.args.mode c.args.counts c.args.current c.args.els c.args.place _ _ c.args.fields _ _ _ c.pattern_match_tuple_like.ensures)
@@ -311,7 +311,7 @@ pub pattern_matching_variant_fields-returns-else-not-fields_there : goal.pattern
 pattern_matching_variant_fields-returns-else-not-fields_there t c = rw c.in-Record.is (fields_record c.args.image.now c.args.bindings.now c.args.p c.args.mode c.args.counts c.args.current c.args.els c.args.place _ _ c.args.fields _ _ (omega (arith, c.ranges.fields)) (sym c.fields_there.ensures ∙ c.if-not-fields_there.false) c.pattern_match_adt.ensures)
 
 pub sub::alt-pattern_match_inner-tested-requires : goal.sub::alt-pattern_match_inner-tested-requires
-sub::alt-pattern_match_inner-tested-requires t c = (omega (arith, c.decreases), (c.requires.0, c.requires.1))
+sub::alt-pattern_match_inner-tested-requires t c = (omega (arith, c.decreases), (c.requires.walkable, c.requires.q_bound))
 
 pub sub::alt-returns-in_default : goal.sub::alt-returns-in_default
 sub::alt-returns-in_default t c = rw c.told-body.given.1 (alternative_stops (pattern_match_inner c.args.image.now c.args.bindings.now (tree c.args.image.now c.args.q.0)) c.args.mode c.args.counts c.args.current c.args.place _ _ (rw c.told-body.given.1 at c.pattern_match_inner-tested.ensures))
@@ -320,27 +320,27 @@ pub sub::alt-is_check-requires : goal.sub::alt-is_check-requires
 sub::alt-is_check-requires t c = tt
 
 pub sub::alt-returns-then-is_check : goal.sub::alt-returns-then-is_check
-sub::alt-returns-then-is_check t c = alternative_tested (pattern_match_inner c.args.image.now c.args.bindings.now (tree c.args.image.now c.args.q.0)) c.args.mode c.args.counts c.args.current c.args.place _ _ c.requires.0.ready (rw c.in-Done.is at c.pattern_match_inner-tested.ensures) (sym c.is_check.ensures ∙ c.if-is_check.true)
+sub::alt-returns-then-is_check t c = alternative_tested (pattern_match_inner c.args.image.now c.args.bindings.now (tree c.args.image.now c.args.q.0)) c.args.mode c.args.counts c.args.current c.args.place _ _ c.requires.walkable.ready (rw c.in-Done.is at c.pattern_match_inner-tested.ensures) (sym c.is_check.ensures ∙ c.if-is_check.true)
 
 pub sub::alt-nothing_to_do-requires : goal.sub::alt-nothing_to_do-requires
-sub::alt-nothing_to_do-requires t c = (c.requires.0.image_valid, c.requires.0.whole, c.requires.1)
+sub::alt-nothing_to_do-requires t c = (c.requires.walkable.image_valid, c.requires.walkable.whole, c.requires.q_bound)
 
 pub sub::alt-visit-requires : goal.sub::alt-visit-requires
-sub::alt-visit-requires t c = (search rules, asks_visit (walkable_sure (walkable_after c.requires.0 (rw c.in-Done.is at c.pattern_match_inner-tested.ensures))) c.requires.1)
+sub::alt-visit-requires t c = (search rules, asks_visit (walkable_sure (walkable_after c.requires.walkable (rw c.in-Done.is at c.pattern_match_inner-tested.ensures))) c.requires.q_bound)
 
 pub sub::alt-returns-then-nothing_to_do : goal.sub::alt-returns-then-nothing_to_do
 sub::alt-returns-then-nothing_to_do t c =
-    alternative_again (pattern_match_inner c.args.image.now c.args.bindings.now (tree c.args.image.now c.args.q.0)) c.args.mode c.args.counts c.args.current c.args.place _ _ c.requires.0.ready (rw c.in-Done.is at c.pattern_match_inner-tested.ensures) (sym c.is_check.ensures ∙ c.if-is_check.false)
-    (idle_walks c.args.image.now c.args.bindings.now c.args.q c.args.mode _ _ _ _ _ c.requires.0.image_valid c.requires.1 (walkable_sure (walkable_after c.requires.0 (rw c.in-Done.is at c.pattern_match_inner-tested.ensures))).begins c.visit.ensures (sym c.nothing_to_do.ensures ∙ c.if-nothing_to_do.true) _)
+    alternative_again (pattern_match_inner c.args.image.now c.args.bindings.now (tree c.args.image.now c.args.q.0)) c.args.mode c.args.counts c.args.current c.args.place _ _ c.requires.walkable.ready (rw c.in-Done.is at c.pattern_match_inner-tested.ensures) (sym c.is_check.ensures ∙ c.if-is_check.false)
+    (idle_walks c.args.image.now c.args.bindings.now c.args.q c.args.mode _ _ _ _ _ c.requires.walkable.image_valid c.requires.q_bound (walkable_sure (walkable_after c.requires.walkable (rw c.in-Done.is at c.pattern_match_inner-tested.ensures))).begins c.visit.ensures (sym c.nothing_to_do.ensures ∙ c.if-nothing_to_do.true) _)
 
 pub sub::alt-pattern_match_inner-again-requires : goal.sub::alt-pattern_match_inner-again-requires
-sub::alt-pattern_match_inner-again-requires t c = (omega (arith, c.decreases), ((walkable_sure (walkable_after c.requires.0 (rw c.in-Done.is at c.pattern_match_inner-tested.ensures))), c.requires.1))
+sub::alt-pattern_match_inner-again-requires t c = (omega (arith, c.decreases), ((walkable_sure (walkable_after c.requires.walkable (rw c.in-Done.is at c.pattern_match_inner-tested.ensures))), c.requires.q_bound))
 
 pub sub::alt-with_else-requires : goal.sub::alt-with_else-requires
 sub::alt-with_else-requires t c = tt
 
 pub sub::alt-returns : goal.sub::alt-returns
-sub::alt-returns t c = again_ends (pattern_match_inner c.args.image.now c.args.bindings.now (tree c.args.image.now c.args.q.0)) c.args.mode c.args.counts c.args.current c.args.place _ _ c.requires.0.ready (rw c.in-Done.is at c.pattern_match_inner-tested.ensures) (sym c.is_check.ensures ∙ c.if-is_check.false) c.pattern_match_inner-again.ensures c.with_else.ensures
+sub::alt-returns t c = again_ends (pattern_match_inner c.args.image.now c.args.bindings.now (tree c.args.image.now c.args.q.0)) c.args.mode c.args.counts c.args.current c.args.place _ _ c.requires.walkable.ready (rw c.in-Done.is at c.pattern_match_inner-tested.ensures) (sym c.is_check.ensures ∙ c.if-is_check.false) c.pattern_match_inner-again.ensures c.with_else.ensures
 
 pub sub::alts-new_basic_block-requires : goal.sub::alts-new_basic_block-requires
 sub::alts-new_basic_block-requires t c = tt
@@ -350,26 +350,26 @@ sub::alts-returns-in_default t c = or_full c.args.image.now c.args.bindings.now 
 
 pub sub::alts-loop-i-init : goal.sub::alts-loop-i-init
 sub::alts-loop-i-init t c =
-    let k = walkable_block c.requires.0 (rw c.in-Block.is at c.new_basic_block.ensures) in
+    let k = walkable_block c.requires.walkable (rw c.in-Block.is at c.new_basic_block.ensures) in
     alternatives_begin c.args.image.now _ _ _ _ _ _ _ _ _ _ _ _ _ k.0 k.1
 
 pub sub::alts-overflow_add-from : goal.sub::alts-overflow_add-from
-sub::alts-overflow_add-from t c = omega (arith, items_few c.args.image.now c.args.p.0 c.args.from c.args.count c.requires.1.1 c.requires.0.image_valid, c.loop-i-test.true)
+sub::alts-overflow_add-from t c = omega (arith, items_few c.args.image.now c.args.p.0 c.args.from c.args.count c.requires.p_bound.1 c.requires.walkable.image_valid, c.loop-i-test.true)
 
 pub sub::alts-list_at-requires : goal.sub::alts-list_at-requires
-sub::alts-list_at-requires t c = asks_word c.requires.0 (item_lies c.args.image.now c.args.p.0 c.args.from c.args.count c.requires.1.1 c.loop-i.i c.loop-i-test.true)
+sub::alts-list_at-requires t c = asks_word c.requires.walkable (item_lies c.args.image.now c.args.p.0 c.args.from c.args.count c.requires.p_bound.1 c.loop-i.i c.loop-i-test.true)
 
 pub sub::alts-alt-tried-requires : goal.sub::alts-alt-tried-requires
-sub::alts-alt-tried-requires t c = (omega (arith, c.decreases, c.list_at.ensures, item_below c.args.image.now c.args.p.0 c.args.from c.args.count c.requires.1.1 c.loop-i.i c.loop-i-test.true), (walkable_sure c.loop-i.invariant.walkable, omega (arith, c.list_at.ensures, item_below c.args.image.now c.args.p.0 c.args.from c.args.count c.requires.1.1 c.loop-i.i c.loop-i-test.true, c.requires.1.0)))
+sub::alts-alt-tried-requires t c = (omega (arith, c.decreases, c.list_at.ensures, item_below c.args.image.now c.args.p.0 c.args.from c.args.count c.requires.p_bound.1 c.loop-i.i c.loop-i-test.true), (walkable_sure c.loop-i.invariant.walkable, omega (arith, c.list_at.ensures, item_below c.args.image.now c.args.p.0 c.args.from c.args.count c.requires.p_bound.1 c.loop-i.i c.loop-i-test.true, c.requires.p_bound.0)))
 
 pub sub::alts-returns-in_default-tried : goal.sub::alts-returns-in_default-tried
-sub::alts-returns-in_default-tried t c = rw c.in_default-tried.is (or_goes c.args.image.now c.args.bindings.now c.args.p c.args.from c.args.count c.args.mode c.args.counts c.args.current c.args.els c.args.place _ _ c.requires.0.begins (rw c.in-Block.is at c.new_basic_block.ensures) (c.loop-i.invariant.rest (alternatives_stop c.args.image.now c.args.bindings.now c.args.p c.args.from c.args.count c.args.mode _ c.args.els c.args.place c.loop-i.i c.loop-i.c c.loop-i.here _ _ c.loop-i-test.true (record { 0 = c.list_at.result }) c.list_at.ensures (rw c.in_default-tried.is at c.alt-tried.ensures))))
+sub::alts-returns-in_default-tried t c = rw c.in_default-tried.is (or_goes c.args.image.now c.args.bindings.now c.args.p c.args.from c.args.count c.args.mode c.args.counts c.args.current c.args.els c.args.place _ _ c.requires.walkable.begins (rw c.in-Block.is at c.new_basic_block.ensures) (c.loop-i.invariant.rest (alternatives_stop c.args.image.now c.args.bindings.now c.args.p c.args.from c.args.count c.args.mode _ c.args.els c.args.place c.loop-i.i c.loop-i.c c.loop-i.here _ _ c.loop-i-test.true (record { 0 = c.list_at.result }) c.list_at.ensures (rw c.in_default-tried.is at c.alt-tried.ensures))))
 
 pub sub::alts-set_goto-requires : goal.sub::alts-set_goto-requires
 sub::alts-set_goto-requires t c = (search rules, asks_goto (walkable_after (walkable_sure c.loop-i.invariant.walkable) (rw c.in-Done.is at c.alt-tried.ensures)))
 
 pub sub::alts-returns-in_default-other : goal.sub::alts-returns-in_default-other
-sub::alts-returns-in_default-other t c = or_goes c.args.image.now c.args.bindings.now c.args.p c.args.from c.args.count c.args.mode c.args.counts c.args.current c.args.els c.args.place _ _ c.requires.0.begins (rw c.in-Block.is at c.new_basic_block.ensures) (c.loop-i.invariant.rest (alternatives_sure c.args.image.now c.args.bindings.now c.args.p c.args.from c.args.count c.args.mode _ c.args.els c.args.place c.loop-i.i c.loop-i.c c.loop-i.here _ _ c.loop-i-test.true (record { 0 = c.list_at.result }) c.list_at.ensures c.loop-i.invariant.walkable.begins c.loop-i.invariant.inside c.loop-i.invariant.walkable.ready (rw (c.in-Done.is, c.in_default-other.is) at c.alt-tried.ensures) c.set_goto.ensures))
+sub::alts-returns-in_default-other t c = or_goes c.args.image.now c.args.bindings.now c.args.p c.args.from c.args.count c.args.mode c.args.counts c.args.current c.args.els c.args.place _ _ c.requires.walkable.begins (rw c.in-Block.is at c.new_basic_block.ensures) (c.loop-i.invariant.rest (alternatives_sure c.args.image.now c.args.bindings.now c.args.p c.args.from c.args.count c.args.mode _ c.args.els c.args.place c.loop-i.i c.loop-i.c c.loop-i.here _ _ c.loop-i-test.true (record { 0 = c.list_at.result }) c.list_at.ensures c.loop-i.invariant.walkable.begins c.loop-i.invariant.inside c.loop-i.invariant.walkable.ready (rw (c.in-Done.is, c.in_default-other.is) at c.alt-tried.ensures) c.set_goto.ensures))
 
 pub sub::alts-overflow_add-i : goal.sub::alts-overflow_add-i
 sub::alts-overflow_add-i t c = omega (arith, c.loop-i-test.true, c.ranges.count)
@@ -384,73 +384,73 @@ pub sub::alts-alternatives_end-requires : goal.sub::alts-alternatives_end-requir
 sub::alts-alternatives_end-requires t c = (c.loop-i.invariant.walkable.ready.block_count_lem, c.loop-i.invariant.walkable.begins, c.loop-i.invariant.inside)
 
 pub sub::alts-returns : goal.sub::alts-returns
-sub::alts-returns t c = or_goes c.args.image.now c.args.bindings.now c.args.p c.args.from c.args.count c.args.mode c.args.counts c.args.current c.args.els c.args.place _ _ c.requires.0.begins (rw c.in-Block.is at c.new_basic_block.ensures) (c.loop-i.invariant.rest (alternatives_over c.args.image.now c.args.bindings.now c.args.p c.args.from c.args.count c.args.mode _ c.args.els c.args.place c.loop-i.i c.loop-i.c c.loop-i.here _ _ c.loop-i-test.false c.alternatives_end.ensures))
+sub::alts-returns t c = or_goes c.args.image.now c.args.bindings.now c.args.p c.args.from c.args.count c.args.mode c.args.counts c.args.current c.args.els c.args.place _ _ c.requires.walkable.begins (rw c.in-Block.is at c.new_basic_block.ensures) (c.loop-i.invariant.rest (alternatives_over c.args.image.now c.args.bindings.now c.args.p c.args.from c.args.count c.args.mode _ c.args.els c.args.place c.loop-i.i c.loop-i.c c.loop-i.here _ _ c.loop-i-test.false c.alternatives_end.ensures))
 
 pub sub::bound-binding_mode-how-requires : goal.sub::bound-binding_mode-how-requires
 sub::bound-binding_mode-how-requires t c = tt
 
 pub sub::bound-bind-requires : goal.sub::bound-bind-requires
-sub::bound-bind-requires t c = asks_bind c.requires.0 c.requires.1.1
+sub::bound-bind-requires t c = asks_bind c.requires.walkable c.requires.p_bound.1
 
 pub sub::bound-returns-then-row-eq65535 : goal.sub::bound-returns-then-row-eq65535
 sub::bound-returns-then-row-eq65535 t c = bind_alone c.args.image.now c.args.bindings.now c.args.p c.args.row.a c.args.row.b _ c.args.mode c.args.counts c.args.current c.args.els c.args.place c.if-row-eq65535.true (rw c.binding_mode-how.ensures at c.bind.ensures)
 
 pub sub::bound-pattern_match_inner-below-requires : goal.sub::bound-pattern_match_inner-below-requires
-sub::bound-pattern_match_inner-below-requires t c = (omega (arith, c.decreases, subpattern_there _ _ c.requires.1.2 c.if-row-eq65535.false), (c.requires.0, omega (arith, subpattern_there _ _ c.requires.1.2 c.if-row-eq65535.false, c.requires.1.0)))
+sub::bound-pattern_match_inner-below-requires t c = (omega (arith, c.decreases, subpattern_there _ _ c.requires.p_bound.2 c.if-row-eq65535.false), (c.requires.walkable, omega (arith, subpattern_there _ _ c.requires.p_bound.2 c.if-row-eq65535.false, c.requires.p_bound.0)))
 
 pub sub::bound-returns-in_default : goal.sub::bound-returns-in_default
 sub::bound-returns-in_default t c = rw c.in_default.is (bind_stops c.args.image.now c.args.bindings.now c.args.p c.args.row.a c.args.row.b _ c.args.mode c.args.counts c.args.current c.args.els c.args.place c.if-row-eq65535.false (rw c.in_default.is at c.pattern_match_inner-below.ensures))
 
 pub sub::bound-bind-requires-2 : goal.sub::bound-bind-requires-2
-sub::bound-bind-requires-2 t c = asks_bind (walkable_after c.requires.0 (rw c.in-Done.is at c.pattern_match_inner-below.ensures)) c.requires.1.1
+sub::bound-bind-requires-2 t c = asks_bind (walkable_after c.requires.walkable (rw c.in-Done.is at c.pattern_match_inner-below.ensures)) c.requires.p_bound.1
 
 pub sub::bound-returns : goal.sub::bound-returns
-sub::bound-returns t c = bind_then c.args.image.now c.args.bindings.now c.args.p c.args.row.a c.args.row.b _ c.args.mode c.args.counts c.args.current c.args.els c.args.place c.if-row-eq65535.false c.requires.0.ready (rw c.in-Done.is at c.pattern_match_inner-below.ensures) (rw c.binding_mode-how.ensures at c.bind-2.ensures)
+sub::bound-returns t c = bind_then c.args.image.now c.args.bindings.now c.args.p c.args.row.a c.args.row.b _ c.args.mode c.args.counts c.args.current c.args.els c.args.place c.if-row-eq65535.false c.requires.walkable.ready (rw c.in-Done.is at c.pattern_match_inner-below.ensures) (rw c.binding_mode-how.ensures at c.bind-2.ensures)
 
 pub sub::slice-overflow_add-row : goal.sub::slice-overflow_add-row
-sub::slice-overflow_add-row t c = omega (arith, back_few c.args.image.now c.args.p.0 c.args.row.d c.args.row.a c.args.row.b c.args.row.c c.requires.1.2 c.requires.0.image_valid)
+sub::slice-overflow_add-row t c = omega (arith, back_few c.args.image.now c.args.p.0 c.args.row.d c.args.row.a c.args.row.b c.args.row.c c.requires.p_bound.2 c.requires.walkable.image_valid)
 
 pub sub::slice-slice_test-tested-requires : goal.sub::slice-slice_test-tested-requires
-sub::slice-slice_test-tested-requires t c = ((c.requires.0.whole, c.requires.1.1), (c.requires.0.ready, c.requires.0.begins))
+sub::slice-slice_test-tested-requires t c = record { whole = (c.requires.walkable.whole, c.requires.p_bound.1); ready = (c.requires.walkable.ready, c.requires.walkable.begins) }
 
 pub sub::slice-returns-in_default : goal.sub::slice-returns-in_default
 sub::slice-returns-in_default t c = rw c.told-body.given.1 (slice_stops c.args.image.now c.args.bindings.now c.args.p c.args.row.d c.args.row.a c.args.row.b c.args.row.c c.args.mode c.args.counts c.args.current c.args.els c.args.place c.args.row.ty _ refl (rw c.told-body.given.1 at c.slice_test-tested.ensures))
 
 pub sub::slice-pattern_match_adt-in_front-requires : goal.sub::slice-pattern_match_adt-in_front-requires
-sub::slice-pattern_match_adt-in_front-requires t c = (omega (arith, c.decreases), (walkable_behind c.requires.0 (rw c.in-Done.is at c.slice_test-tested.ensures), (c.requires.1.0, c.requires.1.2.in_front)))
+sub::slice-pattern_match_adt-in_front-requires t c = (omega (arith, c.decreases), (walkable_behind c.requires.walkable (rw c.in-Done.is at c.slice_test-tested.ensures), (c.requires.p_bound.0, c.requires.p_bound.2.in_front)))
 
 pub sub::slice-returns-in_default-in_front : goal.sub::slice-returns-in_default-in_front
-sub::slice-returns-in_default-in_front t c = rw c.in_default-in_front.is (slice_then c.args.image.now c.args.bindings.now c.args.p c.args.row.d c.args.row.a c.args.row.b c.args.row.c c.args.mode c.args.counts c.args.current c.args.els c.args.place c.args.row.ty _ refl c.requires.0.ready (rw c.in-Done.is at c.slice_test-tested.ensures) (slice_items_stop c.args.image.now c.args.bindings.now c.args.p c.args.row.d c.args.row.a c.args.row.b c.args.row.c c.args.mode _ _ _ c.args.place (rw c.in_default-in_front.is at c.pattern_match_adt-in_front.ensures)))
+sub::slice-returns-in_default-in_front t c = rw c.in_default-in_front.is (slice_then c.args.image.now c.args.bindings.now c.args.p c.args.row.d c.args.row.a c.args.row.b c.args.row.c c.args.mode c.args.counts c.args.current c.args.els c.args.place c.args.row.ty _ refl c.requires.walkable.ready (rw c.in-Done.is at c.slice_test-tested.ensures) (slice_items_stop c.args.image.now c.args.bindings.now c.args.p c.args.row.d c.args.row.a c.args.row.b c.args.row.c c.args.mode _ _ _ c.args.place (rw c.in_default-in_front.is at c.pattern_match_adt-in_front.ensures)))
 
 pub sub::slice-rest_bound-rest-requires : goal.sub::slice-rest_bound-rest-requires
 sub::slice-rest_bound-rest-requires t c =
-    let k = walkable_behind c.requires.0 (rw c.in-Done.is at c.slice_test-tested.ensures) in
+    let k = walkable_behind c.requires.walkable (rw c.in-Done.is at c.slice_test-tested.ensures) in
     let l = walkable_after k (rw c.in-Done-in_front.is at c.pattern_match_adt-in_front.ensures) in
-    asks_rest l c.args.row.d c.requires.1.2.rests (omega (arith, back_lies c.args.image.now c.args.p.0 c.args.row.d c.args.row.a c.args.row.b c.args.row.c c.requires.1.2))
+    asks_rest l c.args.row.d c.requires.p_bound.2.rests (omega (arith, back_lies c.args.image.now c.args.p.0 c.args.row.d c.args.row.a c.args.row.b c.args.row.c c.requires.p_bound.2))
 
 pub sub::slice-returns-in_default-rest : goal.sub::slice-returns-in_default-rest
 sub::slice-returns-in_default-rest t c =
-    let k = walkable_behind c.requires.0 (rw c.in-Done.is at c.slice_test-tested.ensures) in
+    let k = walkable_behind c.requires.walkable (rw c.in-Done.is at c.slice_test-tested.ensures) in
     let l = walkable_after k (rw c.in-Done-in_front.is at c.pattern_match_adt-in_front.ensures) in
-    rw c.in_default-rest.is (slice_then c.args.image.now c.args.bindings.now c.args.p c.args.row.d c.args.row.a c.args.row.b c.args.row.c c.args.mode c.args.counts c.args.current c.args.els c.args.place c.args.row.ty _ refl c.requires.0.ready (rw c.in-Done.is at c.slice_test-tested.ensures) (slice_items_then c.args.image.now c.args.bindings.now c.args.p c.args.row.d c.args.row.a c.args.row.b c.args.row.c c.args.mode _ _ _ c.args.place k.ready (rw c.in-Done-in_front.is at c.pattern_match_adt-in_front.ensures) (slice_behind_stops c.args.image.now c.args.bindings.now c.args.p c.args.row.d (c.args.row.a + c.args.row.b) c.args.row.b c.args.row.c c.args.mode _ _ _ c.args.place l.ready (rw c.in_default-rest.is at c.rest_bound-rest.ensures))))
+    rw c.in_default-rest.is (slice_then c.args.image.now c.args.bindings.now c.args.p c.args.row.d c.args.row.a c.args.row.b c.args.row.c c.args.mode c.args.counts c.args.current c.args.els c.args.place c.args.row.ty _ refl c.requires.walkable.ready (rw c.in-Done.is at c.slice_test-tested.ensures) (slice_items_then c.args.image.now c.args.bindings.now c.args.p c.args.row.d c.args.row.a c.args.row.b c.args.row.c c.args.mode _ _ _ c.args.place k.ready (rw c.in-Done-in_front.is at c.pattern_match_adt-in_front.ensures) (slice_behind_stops c.args.image.now c.args.bindings.now c.args.p c.args.row.d (c.args.row.a + c.args.row.b) c.args.row.b c.args.row.c c.args.mode _ _ _ c.args.place l.ready (rw c.in_default-rest.is at c.rest_bound-rest.ensures))))
 
 pub sub::slice-returns-then-row-eq0 : goal.sub::slice-returns-then-row-eq0
 sub::slice-returns-then-row-eq0 t c =
-    let k = walkable_behind c.requires.0 (rw c.in-Done.is at c.slice_test-tested.ensures) in
+    let k = walkable_behind c.requires.walkable (rw c.in-Done.is at c.slice_test-tested.ensures) in
     let l = walkable_after k (rw c.in-Done-in_front.is at c.pattern_match_adt-in_front.ensures) in
-    slice_then c.args.image.now c.args.bindings.now c.args.p c.args.row.d c.args.row.a c.args.row.b c.args.row.c c.args.mode c.args.counts c.args.current c.args.els c.args.place c.args.row.ty _ refl c.requires.0.ready (rw c.in-Done.is at c.slice_test-tested.ensures) (slice_items_then c.args.image.now c.args.bindings.now c.args.p c.args.row.d c.args.row.a c.args.row.b c.args.row.c c.args.mode _ _ _ c.args.place k.ready (rw c.in-Done-in_front.is at c.pattern_match_adt-in_front.ensures) (slice_behind_none c.args.image.now c.args.bindings.now c.args.p c.args.row.d (c.args.row.a + c.args.row.b) c.args.row.b c.args.row.c c.args.mode _ _ _ c.args.place l.ready (rw c.in-Done-rest.is at c.rest_bound-rest.ensures) c.if-row-eq0.true))
+    slice_then c.args.image.now c.args.bindings.now c.args.p c.args.row.d c.args.row.a c.args.row.b c.args.row.c c.args.mode c.args.counts c.args.current c.args.els c.args.place c.args.row.ty _ refl c.requires.walkable.ready (rw c.in-Done.is at c.slice_test-tested.ensures) (slice_items_then c.args.image.now c.args.bindings.now c.args.p c.args.row.d c.args.row.a c.args.row.b c.args.row.c c.args.mode _ _ _ c.args.place k.ready (rw c.in-Done-in_front.is at c.pattern_match_adt-in_front.ensures) (slice_behind_none c.args.image.now c.args.bindings.now c.args.p c.args.row.d (c.args.row.a + c.args.row.b) c.args.row.b c.args.row.c c.args.mode _ _ _ c.args.place l.ready (rw c.in-Done-rest.is at c.rest_bound-rest.ensures) c.if-row-eq0.true))
 
 pub sub::slice-overflow_add-row-2 : goal.sub::slice-overflow_add-row-2
-sub::slice-overflow_add-row-2 t c = omega (arith, back_few c.args.image.now c.args.p.0 c.args.row.d c.args.row.a c.args.row.b c.args.row.c c.requires.1.2 c.requires.0.image_valid)
+sub::slice-overflow_add-row-2 t c = omega (arith, back_few c.args.image.now c.args.p.0 c.args.row.d c.args.row.a c.args.row.b c.args.row.c c.requires.p_bound.2 c.requires.walkable.image_valid)
 
 pub sub::slice-pattern_match_adt-requires : goal.sub::slice-pattern_match_adt-requires
 sub::slice-pattern_match_adt-requires t c =
-    let k = walkable_behind c.requires.0 (rw c.in-Done.is at c.slice_test-tested.ensures) in
+    let k = walkable_behind c.requires.walkable (rw c.in-Done.is at c.slice_test-tested.ensures) in
     let l = walkable_after k (rw c.in-Done-in_front.is at c.pattern_match_adt-in_front.ensures) in
-    (omega (arith, c.decreases), (walkable_behind l (rw c.in-Done-rest.is at c.rest_bound-rest.ensures), (c.requires.1.0, c.requires.1.2.at_end_lem)))
+    (omega (arith, c.decreases), (walkable_behind l (rw c.in-Done-rest.is at c.rest_bound-rest.ensures), (c.requires.p_bound.0, c.requires.p_bound.2.at_end_lem)))
 
 pub sub::slice-returns : goal.sub::slice-returns
 sub::slice-returns t c =
-    let k = walkable_behind c.requires.0 (rw c.in-Done.is at c.slice_test-tested.ensures) in
+    let k = walkable_behind c.requires.walkable (rw c.in-Done.is at c.slice_test-tested.ensures) in
     let l = walkable_after k (rw c.in-Done-in_front.is at c.pattern_match_adt-in_front.ensures) in
-    slice_then c.args.image.now c.args.bindings.now c.args.p c.args.row.d c.args.row.a c.args.row.b c.args.row.c c.args.mode c.args.counts c.args.current c.args.els c.args.place c.args.row.ty _ refl c.requires.0.ready (rw c.in-Done.is at c.slice_test-tested.ensures) (slice_items_then c.args.image.now c.args.bindings.now c.args.p c.args.row.d c.args.row.a c.args.row.b c.args.row.c c.args.mode _ _ _ c.args.place k.ready (rw c.in-Done-in_front.is at c.pattern_match_adt-in_front.ensures) (slice_behind_then c.args.image.now c.args.bindings.now c.args.p c.args.row.d (c.args.row.a + c.args.row.b) c.args.row.b c.args.row.c c.args.mode _ _ _ c.args.place l.ready (rw c.in-Done-rest.is at c.rest_bound-rest.ensures) c.pattern_match_adt.ensures))
+    slice_then c.args.image.now c.args.bindings.now c.args.p c.args.row.d c.args.row.a c.args.row.b c.args.row.c c.args.mode c.args.counts c.args.current c.args.els c.args.place c.args.row.ty _ refl c.requires.walkable.ready (rw c.in-Done.is at c.slice_test-tested.ensures) (slice_items_then c.args.image.now c.args.bindings.now c.args.p c.args.row.d c.args.row.a c.args.row.b c.args.row.c c.args.mode _ _ _ c.args.place k.ready (rw c.in-Done-in_front.is at c.pattern_match_adt-in_front.ensures) (slice_behind_then c.args.image.now c.args.bindings.now c.args.p c.args.row.d (c.args.row.a + c.args.row.b) c.args.row.b c.args.row.c c.args.mode _ _ _ c.args.place l.ready (rw c.in-Done-rest.is at c.rest_bound-rest.ensures) c.pattern_match_adt.ensures))
