@@ -2,6 +2,7 @@
 // of which begins with its own length in four bytes, the expected type in two, and the text behind its length in four; numbers are big-endian. What is missing at the end
 // counts as empty, and what follows is not looked at. Whatever does not fit the buffer is refused by what fits.
 #![tactic(auto)]
+
 ghost use Rattle.std.specs.Prelude.{◌≤◌, length};
 ghost use Rattle.reading_call.specs.Calls.{PatternReads};
 
@@ -48,14 +49,14 @@ fn read_text(
 }
 
 // The first bytes are written.
-fn write_first(bytes: &[u8], count: usize)
+fn write_first(rt: &(impl Print + Eprint), bytes: &[u8], count: usize)
     requires { count ≤ length bytes.now }
 {
-    write_output(&bytes[..count]);
+    write_output(rt, &bytes[..count]);
 }
 
 // What the input's text is answered is written.
-fn answer(input: &[u8]) {
+fn answer(rt: &(impl Print + Eprint), input: &[u8]) {
     let parts = parts_of(input);
     let sheet = parts.sheet;
     let names = parts.names;
@@ -69,15 +70,15 @@ fn answer(input: &[u8]) {
         parts.expected,
         &mut image,
     ) {
-        PatternRead::Image(count) => write_first(&image, count),
-        PatternRead::RefusedAt(number, position) => print_refusal(number, position),
+        PatternRead::Image(count) => write_first(rt, &image, count),
+        PatternRead::RefusedAt(number, position) => print_refusal(rt, number, position),
     }
 }
 
-fn main() {
+fn main(rt: HostRuntime) {
     let mut buffer = [0u8; 131072];
-    match read_input(&mut buffer) {
+    match read_input(&rt, &mut rt.stdin(), &mut buffer) {
         Input::Failed => {}
-        Input::Bytes(n) => answer(&buffer[..n]),
+        Input::Bytes(n) => answer(&rt, &buffer[..n]),
     }
 }
