@@ -1,5 +1,6 @@
 // Prints what reading an image answers, as one line on standard output.
 #![tactic(auto)]
+
 use image::Tables;
 use program_io::{tell_write, write_output};
 use read_image::{Read, read_image};

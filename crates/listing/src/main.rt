@@ -1,6 +1,7 @@
 // Reads an image on standard input, and prints its listing or its refusal. No image is longer than 34,321 bytes, so an input that does not fit the buffer is refused
 // by what fits.
 #![tactic(auto)]
+
 use image_listing::list_image;
 use program_io::{Input, read_input, write_output};
 use std::io::Read;

@@ -1,5 +1,6 @@
 // Standard input and output of a program. What fails is told on standard error: a program has no exit status.
 #![tactic(auto)]
+
 ghost use Rattle.std.specs.Prelude.{length};
 ghost use Rattle.program_io.specs.Inputs.{InputFits};
 

@@ -1,5 +1,6 @@
 // Prints what reading a text answers, as a line on standard output: an image in hexadecimal, or a refusal.
 #![tactic(auto)]
+
 ghost use Rattle.std.specs.Prelude.{◌≡◌, ◌*◌, ◌≤◌, length};
 
 use program_io::{tell_write, write_output};

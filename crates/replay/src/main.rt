@@ -1,6 +1,7 @@
 // Replays the stored lists from standard input: for each record, what it has to say is printed. The sorts of records: 1 an image (its counts), 2 an image (its listing),
 // 3 a script of calls on a body and on patterns, 4 a call on parameters, 5 a question whether a pattern fits. Those of the sort 6, calls on texts, are `replay_texts`'s.
 #![tactic(auto)]
+
 mod listings; // listings.rt: listings, and calls on parameters
 
 use image_report::report;

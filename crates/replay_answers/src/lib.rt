@@ -1,5 +1,6 @@
 // What is printed of the answer to a call on a body, and of the tables behind it: each part has a space behind it, but the last checksum a line end.
 #![tactic(auto)]
+
 ghost use Rattle.std.specs.Prelude.{◌≡◌, length};
 ghost use Rattle.body_tables.specs.Layout.{body_words};
 

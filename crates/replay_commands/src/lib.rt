@@ -1,5 +1,6 @@
 // The commands of a stored script: how one is read, and the words that it sets or hands in.
 #![tactic(auto)]
+
 pub mod call_words; // call_words.rt: what is handed in besides the body
 pub mod words; // words.rt: the words of the tables that are set
 

@@ -1,6 +1,7 @@
 // A stored question whether a pattern fits, whose words stand behind the image: the pattern, the type of its place, the place's root, and the bindings' locals. The answer is
 // printed.
 #![tactic(auto)]
+
 use fit::{FitCall, fit};
 use image::PatId;
 use place::LocalId;
@@ -24,11 +25,7 @@ fn print_fit(rt: &(impl Print + Eprint), image: &[u8], words: &[u16]) {
 }
 
 // The question on this image, whose words come next: answers whether they fitted.
-pub fn replay_fit(
-    rt: &(impl Print + Eprint),
-    input: &mut impl Read,
-    image: &[u8],
-) -> bool {
+pub fn replay_fit(rt: &(impl Print + Eprint), input: &mut impl Read, image: &[u8]) -> bool {
     let mut words = [0u16; 4096];
     match next_words(input, &mut words) {
         Words::End => false,

@@ -52,7 +52,16 @@ fn call_with(
     if bindings.len() < n {
         return call(rt, image, bindings, body, visits, counts, handed, command);
     }
-    call(rt, image, &bindings[..n], body, visits, counts, handed, command)
+    call(
+        rt,
+        image,
+        &bindings[..n],
+        body,
+        visits,
+        counts,
+        handed,
+        command,
+    )
 }
 
 // A call on a pattern, and its line: behind the sums of the body's tables stand those of the visits and of the bindings' locals.

@@ -1,6 +1,7 @@
 // A stored script: calls on a body and calls on patterns, and a line for each. Behind the image stand a number of four bytes, big-endian, and so many commands of four
 // 16-bit words, big-endian. Each script starts with tables of zeros.
 #![tactic(auto)]
+
 mod answers; // answers.rt: what is printed of an answer
 mod commands; // commands.rt: a command, and the line that it prints
 mod matches; // matches.rt: each call on a pattern

@@ -1,5 +1,6 @@
 // Replays the stored calls on texts from standard input, the records of the sort 6: a line is printed for each text. Records of the other sorts are those of `replay`.
 #![tactic(auto)]
+
 mod readings; // readings.rt: the calls of a record
 
 use readings::replay_reading;

@@ -84,11 +84,7 @@ fn replay_texts(
 }
 
 // The calls on this sheet, the rest of which comes next: answers whether they fitted.
-pub fn replay_reading(
-    rt: &(impl Print + Eprint),
-    input: &mut impl Read,
-    sheet: &[u8],
-) -> bool {
+pub fn replay_reading(rt: &(impl Print + Eprint), input: &mut impl Read, sheet: &[u8]) -> bool {
     let mut names = [0u8; 32768];
     match next_bytes(input, &mut names) {
         Entry::End => false,

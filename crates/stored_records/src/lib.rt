@@ -1,6 +1,7 @@
 // A stored list of records, taken from a reader. A record is a byte, its sort, and an image; what a sort has besides stands behind it. An image is two numbers of four
 // bytes, big-endian, and then as many bytes as the first says: it is these bytes, and behind them as many zeros as the second says.
 #![tactic(auto)]
+
 ghost use Rattle.std.specs.Prelude.{◌+◌, ◌*◌, ◌≤◌, ◌<◌, length};
 ghost use Rattle.stored_records.specs.Entries.{Fits, ReadWithin};
 
@@ -52,12 +53,7 @@ fn words_of(bytes: &[u8], words: &mut [u16], count: usize)
 }
 
 // So many words, where they fit.
-fn read_words(
-    input: &mut impl Read,
-    bytes: &mut [u8],
-    words: &mut [u16],
-    count: usize,
-) -> Words
+fn read_words(input: &mut impl Read, bytes: &mut [u8], words: &mut [u16], count: usize) -> Words
     requires { 2 * length words.old ≤ length bytes.old }
     ensures { ReadWithin result (length words.old) }
 {
