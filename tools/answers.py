@@ -448,7 +448,7 @@ def turn_cycle(names, base, crate, folder, path):
             out = re.sub(rf"(?<![\w.]){re.escape(root)}\.requires\.0(?![\w-])", f"{root}.decreases", out)
             out = re.sub(rf"(?<![\w.]){re.escape(root)}\.requires\.1(?![\w-])", f"{root}.requires", out)
             answers.append("\n".join([*notes, f"pub {new} : goal.{new}", *unfolds, " ".join([new, time, root, *more]) + f" ={out}"]))
-    keep = [u for u in uses if not re.search(r"\.(Tie|Lts\S*|Reads|Kinds|Statement)( as \S+|\.\{[^}]*\})?$|\.\{statement\}$|PlainCycle|Kinds\.\{|\.Proof\.", u)]
+    keep = [u for u in uses if not re.search(r"\.(Tie|Lts\S*|Reads|Kinds|Statement)( as \S+|\.\{[^}]*\})?$|\.\{statement\}$|PlainCycle|borrow\.Fn\.Kinds|\.Proof\.", u)]
     with open(os.path.join(folder, "Invariants.antt"), "w", encoding="utf-8") as it:
         it.write("\n".join([*keep, f"use {base}.Given as goal"]) + "\n\n" + "\n\n".join(invariants) + "\n")
     if answers:

@@ -13,7 +13,7 @@ pub returns-then-not-bindings_fit : goal.returns-then-not-bindings_fit
 returns-then-not-bindings_fit c = bindings_do_not _ _ _ _ _ c.types_fit.ensures (c.if-not-types_fit.false) c.bindings_fit.ensures (c.if-not-bindings_fit.true)
 
 pub nothing_refused-requires : goal.nothing_refused-requires
-nothing_refused-requires c = ((c.requires.0, c.requires.1, c.requires.3, c.requires.2), somewhere _ c.types_fit.ensures (c.if-not-types_fit.false) c.requires.4)
+nothing_refused-requires c = record { image_value = (c.requires.0, c.requires.1, c.requires.3, c.requires.2); fits_somewhere = somewhere _ c.types_fit.ensures (c.if-not-types_fit.false) c.requires.4 }
 
 pub returns-then-not-nothing_refused : goal.returns-then-not-nothing_refused
 returns-then-not-nothing_refused c = refused _ _ _ _ _ c.types_fit.ensures (c.if-not-types_fit.false) c.bindings_fit.ensures (c.if-not-bindings_fit.false) c.nothing_refused.ensures (c.if-not-nothing_refused.true)

@@ -1,3 +1,4 @@
+use Rattle.image.specs.Kinds.{pat_kind}
 use Prim.Native.Nat.{ℕ}
 use mathlib.Core.Path.{sym, ◌∙◌}
 use native.Mathlib.Omega.{arith}
@@ -149,7 +150,7 @@ pub adt::pattern_matching_variant-variant_at-fields-requires : goal.adt::pattern
 adt::pattern_matching_variant-variant_at-fields-requires t c = asks_variant c.requires.walkable c.requires.p_bound.1
 
 pub adt::pattern_matching_variant-place_ty-requires : goal.adt::pattern_matching_variant-place_ty-requires
-adt::pattern_matching_variant-place_ty-requires t c = asks_type c.requires.walkable
+adt::pattern_matching_variant-place_ty-requires t c = let r = asks_type c.requires.walkable in record { image_value = r.0; named = r.1 }
 
 pub adt::pattern_matching_variant-adt_at-requires : goal.adt::pattern_matching_variant-adt_at-requires
 adt::pattern_matching_variant-adt_at-requires t c = (c.requires.walkable.image_valid, c.requires.walkable.whole, c.place_ty.ensures.1)
@@ -206,7 +207,7 @@ pattern_match_inner-pattern_match_leaf-requires t c =
     record { image_value = (W.image_valid, W.whole, row_typed c.args.image.now _ _ W.image_valid there c.pat_at-row.ensures, row_shape c.args.image.now _ _ W.image_valid there c.pat_at-row.ensures, W.locals_of_bindings); ready = (W.ready, W.begins) }
 
 pub pattern_match_inner-returns-then-is_leaf : goal.pattern_match_inner-returns-then-is_leaf
-pattern_match_inner-returns-then-is_leaf t c = entered_leaf c.enter-entered.ensures ((not-false (_) c.if-not-entered.false)) c.pat_at-row.result c.pat_at-row.ensures c.args.bindings.now c.args.counts c.args.current c.args.els _ (sym (c.is_IsLeaf.ensures ∙ ap₂ is_leaf c.pat_kind.ensures c.path_kind.ensures) ∙ c.if-is_leaf.true) c.pattern_match_leaf.ensures
+pattern_match_inner-returns-then-is_leaf t c = entered_leaf c.enter-entered.ensures ((not-false (_) c.if-not-entered.false)) c.pat_at-row.result c.pat_at-row.ensures c.args.bindings.now c.args.counts c.args.current c.args.els _ (sym (c.is_leaf.ensures ∙ ap₂ is_leaf c.pat_kind.ensures c.path_kind.ensures) ∙ c.if-is_leaf.true) c.pattern_match_leaf.ensures
 
 pub pattern_match_inner-pat_kind-requires-2 : goal.pattern_match_inner-pat_kind-requires-2
 pattern_match_inner-pat_kind-requires-2 t c = tt
@@ -215,27 +216,27 @@ pub pattern_match_inner-compound_kind-requires : goal.pattern_match_inner-compou
 pattern_match_inner-compound_kind-requires t c = tt
 
 pub pattern_match_inner-place_ty-requires : goal.pattern_match_inner-place_ty-requires
-pattern_match_inner-place_ty-requires t c = asks_type (entered_walkable c.enter-entered.ensures ((not-false (_) c.if-not-entered.false)) c.requires.walkable)
+pattern_match_inner-place_ty-requires t c = let r = asks_type (entered_walkable c.enter-entered.ensures ((not-false (_) c.if-not-entered.false)) c.requires.walkable) in record { image_value = r.0; named = r.1 }
 
 pub pattern_match_inner-tuple_at-requires : goal.pattern_match_inner-tuple_at-requires
 pattern_match_inner-tuple_at-requires t c = ((entered_walkable c.enter-entered.ensures ((not-false (_) c.if-not-entered.false)) c.requires.walkable).image_valid, (entered_walkable c.enter-entered.ensures ((not-false (_) c.if-not-entered.false)) c.requires.walkable).whole, c.place_ty.ensures.1)
 
 pub pattern_match_inner-pattern_match_tuple_like-requires : goal.pattern_match_inner-pattern_match_tuple_like-requires
-pattern_match_inner-pattern_match_tuple_like-requires t c = (omega (arith, c.decreases, c.enter-entered.ensures.below), ((entered_walkable c.enter-entered.ensures (c.if-not-entered.false) c.requires.0), (((entered_there c.enter-entered.ensures c.requires.1)), tuple_there c.args.image.now c.enter-entered.result.p.0 c.pat_at-row.result (entered_walkable c.enter-entered.ensures (c.if-not-entered.false) c.requires.0).image_valid ((entered_there c.enter-entered.ensures c.requires.1)) c.pat_at-row.ensures (tuple_kind (pat_kind c.pat_at-row.result.kind) (sym (c.compound_kind.ensures ∙ ap compound_kind c.pat_kind-2.ensures) ∙ c.in-Tuple.is)))))
+pattern_match_inner-pattern_match_tuple_like-requires t c = (omega (arith, c.decreases, c.enter-entered.ensures.below), ((entered_walkable c.enter-entered.ensures ((not-false (_) c.if-not-entered.false)) c.requires.walkable), (((entered_there c.enter-entered.ensures c.requires.p_bound)), tuple_there c.args.image.now c.enter-entered.result.p.0 c.pat_at-row.result (entered_walkable c.enter-entered.ensures ((not-false (_) c.if-not-entered.false)) c.requires.walkable).image_valid ((entered_there c.enter-entered.ensures c.requires.p_bound)) c.pat_at-row.ensures (tuple_kind (pat_kind c.pat_at-row.result.kind) (sym (c.compound_kind.ensures ∙ ap compound_kind c.pat_kind-2.ensures) ∙ c.in-Tuple.is)))))
 
 pub pattern_match_inner-alts-requires : goal.pattern_match_inner-alts-requires
-pattern_match_inner-alts-requires t c = (omega (arith, c.decreases, c.enter-entered.ensures.below), ((entered_walkable c.enter-entered.ensures (c.if-not-entered.false) c.requires.0), (((entered_there c.enter-entered.ensures c.requires.1)), or_there c.args.image.now c.enter-entered.result.p.0 c.pat_at-row.result (entered_walkable c.enter-entered.ensures (c.if-not-entered.false) c.requires.0).image_valid ((entered_there c.enter-entered.ensures c.requires.1)) c.pat_at-row.ensures (or_kind (pat_kind c.pat_at-row.result.kind) (sym (c.compound_kind.ensures ∙ ap compound_kind c.pat_kind-2.ensures) ∙ c.in-Or.is)))))
+pattern_match_inner-alts-requires t c = (omega (arith, c.decreases, c.enter-entered.ensures.below), ((entered_walkable c.enter-entered.ensures ((not-false (_) c.if-not-entered.false)) c.requires.walkable), (((entered_there c.enter-entered.ensures c.requires.p_bound)), or_there c.args.image.now c.enter-entered.result.p.0 c.pat_at-row.result (entered_walkable c.enter-entered.ensures ((not-false (_) c.if-not-entered.false)) c.requires.walkable).image_valid ((entered_there c.enter-entered.ensures c.requires.p_bound)) c.pat_at-row.ensures (or_kind (pat_kind c.pat_at-row.result.kind) (sym (c.compound_kind.ensures ∙ ap compound_kind c.pat_kind-2.ensures) ∙ c.in-Or.is)))))
 
 pub pattern_match_inner-slice-requires : goal.pattern_match_inner-slice-requires
-pattern_match_inner-slice-requires t c = (omega (arith, c.decreases, c.enter-entered.ensures.below), ((entered_walkable c.enter-entered.ensures (c.if-not-entered.false) c.requires.0), (((entered_there c.enter-entered.ensures c.requires.1)), row_typed c.args.image.now c.enter-entered.result.p.0 c.pat_at-row.result (entered_walkable c.enter-entered.ensures (c.if-not-entered.false) c.requires.0).image_valid ((entered_there c.enter-entered.ensures c.requires.1)) c.pat_at-row.ensures, slice_there c.args.image.now c.enter-entered.result.p.0 c.pat_at-row.result (entered_walkable c.enter-entered.ensures (c.if-not-entered.false) c.requires.0).image_valid ((entered_there c.enter-entered.ensures c.requires.1)) c.pat_at-row.ensures (slice_kind (pat_kind c.pat_at-row.result.kind) (sym (c.compound_kind.ensures ∙ ap compound_kind c.pat_kind-2.ensures) ∙ c.in-Slice.is)))))
+pattern_match_inner-slice-requires t c = (omega (arith, c.decreases, c.enter-entered.ensures.below), ((entered_walkable c.enter-entered.ensures ((not-false (_) c.if-not-entered.false)) c.requires.walkable), (((entered_there c.enter-entered.ensures c.requires.p_bound)), row_typed c.args.image.now c.enter-entered.result.p.0 c.pat_at-row.result (entered_walkable c.enter-entered.ensures ((not-false (_) c.if-not-entered.false)) c.requires.walkable).image_valid ((entered_there c.enter-entered.ensures c.requires.p_bound)) c.pat_at-row.ensures, slice_there c.args.image.now c.enter-entered.result.p.0 c.pat_at-row.result (entered_walkable c.enter-entered.ensures ((not-false (_) c.if-not-entered.false)) c.requires.walkable).image_valid ((entered_there c.enter-entered.ensures c.requires.p_bound)) c.pat_at-row.ensures (slice_kind (pat_kind c.pat_at-row.result.kind) (sym (c.compound_kind.ensures ∙ ap compound_kind c.pat_kind-2.ensures) ∙ c.in-Slice.is)))))
 
 pub pattern_match_inner-bound-requires : goal.pattern_match_inner-bound-requires
 pattern_match_inner-bound-requires t c =
-    let b = bind_there c.args.image.now c.enter-entered.result.p.0 c.pat_at-row.result (entered_walkable c.enter-entered.ensures (c.if-not-entered.false) c.requires.0).image_valid ((entered_there c.enter-entered.ensures c.requires.1)) c.pat_at-row.ensures (bind_kind (pat_kind c.pat_at-row.result.kind) (sym (c.compound_kind.ensures ∙ ap compound_kind c.pat_kind-2.ensures) ∙ c.in-Bind.is)) in
-    (omega (arith, c.decreases, c.enter-entered.ensures.below), ((entered_walkable c.enter-entered.ensures (c.if-not-entered.false) c.requires.0), (((entered_there c.enter-entered.ensures c.requires.1)), b.0, b.1)))
+    let b = bind_there c.args.image.now c.enter-entered.result.p.0 c.pat_at-row.result (entered_walkable c.enter-entered.ensures ((not-false (_) c.if-not-entered.false)) c.requires.walkable).image_valid ((entered_there c.enter-entered.ensures c.requires.p_bound)) c.pat_at-row.ensures (bind_kind (pat_kind c.pat_at-row.result.kind) (sym (c.compound_kind.ensures ∙ ap compound_kind c.pat_kind-2.ensures) ∙ c.in-Bind.is)) in
+    (omega (arith, c.decreases, c.enter-entered.ensures.below), ((entered_walkable c.enter-entered.ensures ((not-false (_) c.if-not-entered.false)) c.requires.walkable), (((entered_there c.enter-entered.ensures c.requires.p_bound)), b.0, b.1)))
 
 pub pattern_match_inner-place_ty-requires-in-Ref : goal.pattern_match_inner-place_ty-requires-in-Ref
-pattern_match_inner-place_ty-requires-in-Ref t c = asks_type (entered_walkable c.enter-entered.ensures ((not-false (_) c.if-not-entered.false)) c.requires.walkable)
+pattern_match_inner-place_ty-requires-in-Ref t c = let r = asks_type (entered_walkable c.enter-entered.ensures ((not-false (_) c.if-not-entered.false)) c.requires.walkable) in record { image_value = r.0; named = r.1 }
 
 pub pattern_match_inner-reference_at-requires : goal.pattern_match_inner-reference_at-requires
 pattern_match_inner-reference_at-requires t c = ((entered_walkable c.enter-entered.ensures ((not-false (_) c.if-not-entered.false)) c.requires.walkable).image_valid, (entered_walkable c.enter-entered.ensures ((not-false (_) c.if-not-entered.false)) c.requires.walkable).whole, c.place_ty-in-Ref.ensures.1)
@@ -248,22 +249,22 @@ pattern_match_inner-returns-then-not-referent t c = c.enter-entered.ensures.goes
 
 pub pattern_match_inner-pattern_match_inner-requires : goal.pattern_match_inner-pattern_match_inner-requires
 pattern_match_inner-pattern_match_inner-requires t c =
-    let b = ref_there c.args.image.now c.enter-entered.result.p.0 c.pat_at-row.result (entered_walkable c.enter-entered.ensures (c.if-not-entered.false) c.requires.0).image_valid ((entered_there c.enter-entered.ensures c.requires.1)) c.pat_at-row.ensures (ref_kind (pat_kind c.pat_at-row.result.kind) (sym (c.compound_kind.ensures ∙ ap compound_kind c.pat_kind-2.ensures) ∙ c.in-Ref.is)) in
-    (omega (arith, c.decreases, c.enter-entered.ensures.below, b), (walkable_at (entered_walkable c.enter-entered.ensures (c.if-not-entered.false) c.requires.0) (projected_reaches _ _ c.project-referent.ensures (c.if-not-referent.false)), omega (arith, ((entered_there c.enter-entered.ensures c.requires.1)), b)))
+    let b = ref_there c.args.image.now c.enter-entered.result.p.0 c.pat_at-row.result (entered_walkable c.enter-entered.ensures ((not-false (_) c.if-not-entered.false)) c.requires.walkable).image_valid ((entered_there c.enter-entered.ensures c.requires.p_bound)) c.pat_at-row.ensures (ref_kind (pat_kind c.pat_at-row.result.kind) (sym (c.compound_kind.ensures ∙ ap compound_kind c.pat_kind-2.ensures) ∙ c.in-Ref.is)) in
+    (omega (arith, c.decreases, c.enter-entered.ensures.below, b), (walkable_at (entered_walkable c.enter-entered.ensures ((not-false (_) c.if-not-entered.false)) c.requires.walkable) (projected_reaches _ _ c.project-referent.ensures ((not-false (_) c.if-not-referent.false))), omega (arith, ((entered_there c.enter-entered.ensures c.requires.p_bound)), b)))
 
 pub pattern_match_inner-variant_word-v-requires : goal.pattern_match_inner-variant_word-v-requires
 pattern_match_inner-variant_word-v-requires t c = tt
 
 pub pattern_match_inner-returns-then-v : goal.pattern_match_inner-returns-then-v
-pattern_match_inner-returns-then-v t c = c.enter-entered.ensures.goes ((not-false (_) c.if-not-entered.false)) c.pat_at-row.result c.pat_at-row.ensures c.args.bindings.now c.args.counts c.args.current c.args.els _ (kind_variant c.args.image.now c.args.bindings.now c.enter-entered.result.p c.pat_at-row.result c.args.mode c.args.counts c.args.current c.args.els c.enter-entered.result.place _ _ (entered_walkable c.enter-entered.ensures ((not-false (_) c.if-not-entered.false)) c.requires.walkable).image_valid ((entered_there c.enter-entered.ensures c.requires.p_bound)) c.pat_at-row.ensures ((sym (c.is_IsLeaf.ensures ∙ ap₂ is_leaf c.pat_kind.ensures c.path_kind.ensures) ∙ c.if-is_leaf.false)) (sym (c.compound_kind.ensures ∙ ap compound_kind c.pat_kind-2.ensures) ∙ c.in-Variant.is) (variant_none c.args.image.now c.args.bindings.now c.enter-entered.result.p c.args.mode c.args.counts c.args.current c.args.els c.enter-entered.result.place _ _ _ _ (sym c.variant_word-v.ensures ∙ c.if-v.true)))
+pattern_match_inner-returns-then-v t c = c.enter-entered.ensures.goes ((not-false (_) c.if-not-entered.false)) c.pat_at-row.result c.pat_at-row.ensures c.args.bindings.now c.args.counts c.args.current c.args.els _ (kind_variant c.args.image.now c.args.bindings.now c.enter-entered.result.p c.pat_at-row.result c.args.mode c.args.counts c.args.current c.args.els c.enter-entered.result.place _ _ (entered_walkable c.enter-entered.ensures ((not-false (_) c.if-not-entered.false)) c.requires.walkable).image_valid ((entered_there c.enter-entered.ensures c.requires.p_bound)) c.pat_at-row.ensures ((sym (c.is_leaf.ensures ∙ ap₂ is_leaf c.pat_kind.ensures c.path_kind.ensures) ∙ c.if-is_leaf.false)) (sym (c.compound_kind.ensures ∙ ap compound_kind c.pat_kind-2.ensures) ∙ c.in-Variant.is) (variant_none c.args.image.now c.args.bindings.now c.enter-entered.result.p c.args.mode c.args.counts c.args.current c.args.els c.enter-entered.result.place _ _ _ _ (sym c.variant_word-v.ensures ∙ c.if-v.true)))
 
 pub pattern_match_inner-variant_shape-requires : goal.pattern_match_inner-variant_shape-requires
 pattern_match_inner-variant_shape-requires t c = tt
 
 pub pattern_match_inner-pattern_matching_variant-requires : goal.pattern_match_inner-pattern_matching_variant-requires
 pattern_match_inner-pattern_matching_variant-requires t c =
-    let n = names_variant c.args.image.now c.enter-entered.result.p.0 c.pat_at-row.result (entered_walkable c.enter-entered.ensures ((not-false (_) c.if-not-entered.false)) c.requires.walkable).image_valid ((entered_there c.enter-entered.ensures c.requires.p_bound)) c.pat_at-row.ensures ((sym (c.is_IsLeaf.ensures ∙ ap₂ is_leaf c.pat_kind.ensures c.path_kind.ensures) ∙ c.if-is_leaf.false)) (sym (c.compound_kind.ensures ∙ ap compound_kind c.pat_kind-2.ensures) ∙ c.in-Variant.is) in
-    (omega (arith, c.decreases, c.enter-entered.ensures.below), ((entered_walkable c.enter-entered.ensures (c.if-not-entered.false) c.requires.0), (((entered_there c.enter-entered.ensures c.requires.1)), rw c.variant_word-v.ensures (variant_there c.args.image.now _ _ n (λ q. c.if-v.false (c.variant_word-v.ensures ∙ q))), rw c.variant_shape.ensures n.shape)))
+    let n = names_variant c.args.image.now c.enter-entered.result.p.0 c.pat_at-row.result (entered_walkable c.enter-entered.ensures ((not-false (_) c.if-not-entered.false)) c.requires.walkable).image_valid ((entered_there c.enter-entered.ensures c.requires.p_bound)) c.pat_at-row.ensures ((sym (c.is_leaf.ensures ∙ ap₂ is_leaf c.pat_kind.ensures c.path_kind.ensures) ∙ c.if-is_leaf.false)) (sym (c.compound_kind.ensures ∙ ap compound_kind c.pat_kind-2.ensures) ∙ c.in-Variant.is) in
+    (omega (arith, c.decreases, c.enter-entered.ensures.below), ((entered_walkable c.enter-entered.ensures ((not-false (_) c.if-not-entered.false)) c.requires.walkable), (((entered_there c.enter-entered.ensures c.requires.p_bound)), rw c.variant_word-v.ensures (variant_there c.args.image.now _ _ n (λ q. c.if-v.false (c.variant_word-v.ensures ∙ q))), rw c.variant_shape.ensures n.shape)))
 
 pub pattern_match_inner-returns-in-Refused : goal.pattern_match_inner-returns-in-Refused
 pattern_match_inner-returns-in-Refused t c = c.enter-entered.ensures.goes ((not-false (_) c.if-not-entered.false)) c.pat_at-row.result c.pat_at-row.ensures c.args.bindings.now c.args.counts c.args.current c.args.els _ (kind_no_tuple c.args.image.now c.args.bindings.now c.enter-entered.result.p c.pat_at-row.result c.args.mode c.args.counts c.args.current c.args.els c.enter-entered.result.place _ _ (sym (c.compound_kind.ensures ∙ ap compound_kind c.pat_kind-2.ensures) ∙ c.in-Tuple.is) (entered_walkable c.enter-entered.ensures ((not-false (_) c.if-not-entered.false)) c.requires.walkable).placed c.place_ty.ensures.0 (rw c.in-Refused.is at c.tuple_at.ensures))
@@ -287,7 +288,7 @@ pub pattern_match_inner-returns-else-not-referent : goal.pattern_match_inner-ret
 pattern_match_inner-returns-else-not-referent t c = c.enter-entered.ensures.goes ((not-false (_) c.if-not-entered.false)) c.pat_at-row.result c.pat_at-row.ensures c.args.bindings.now c.args.counts c.args.current c.args.els _ (kind_ref c.args.image.now c.args.bindings.now c.enter-entered.result.p c.pat_at-row.result c.args.mode c.args.counts c.args.current c.args.els c.enter-entered.result.place _ _ (sym (c.compound_kind.ensures ∙ ap compound_kind c.pat_kind-2.ensures) ∙ c.in-Ref.is) (ref_goes c.args.image.now c.enter-entered.result.p (pattern_match_inner c.args.image.now c.args.bindings.now (tree c.args.image.now c.pat_at-row.result.a)) c.args.mode c.args.counts c.args.current c.args.els c.enter-entered.result.place _ _ (entered_walkable c.enter-entered.ensures ((not-false (_) c.if-not-entered.false)) c.requires.walkable).placed c.place_ty-in-Ref.ensures.0 (rw c.in-Reference.is at c.reference_at.ensures) c.project-referent.ensures ((not-false (_) c.if-not-referent.false)) c.pattern_match_inner.ensures))
 
 pub pattern_match_inner-returns-else-v : goal.pattern_match_inner-returns-else-v
-pattern_match_inner-returns-else-v t c = c.enter-entered.ensures.goes ((not-false (_) c.if-not-entered.false)) c.pat_at-row.result c.pat_at-row.ensures c.args.bindings.now c.args.counts c.args.current c.args.els _ (kind_variant c.args.image.now c.args.bindings.now c.enter-entered.result.p c.pat_at-row.result c.args.mode c.args.counts c.args.current c.args.els c.enter-entered.result.place _ _ (entered_walkable c.enter-entered.ensures ((not-false (_) c.if-not-entered.false)) c.requires.walkable).image_valid ((entered_there c.enter-entered.ensures c.requires.p_bound)) c.pat_at-row.ensures ((sym (c.is_IsLeaf.ensures ∙ ap₂ is_leaf c.pat_kind.ensures c.path_kind.ensures) ∙ c.if-is_leaf.false)) (sym (c.compound_kind.ensures ∙ ap compound_kind c.pat_kind-2.ensures) ∙ c.in-Variant.is) (variant_some c.args.image.now c.args.bindings.now c.enter-entered.result.p c.args.mode c.args.counts c.args.current c.args.els c.enter-entered.result.place _ _ _ _ (λ q. c.if-v.false (c.variant_word-v.ensures ∙ q)) (rw (c.variant_word-v.ensures, c.variant_shape.ensures) at c.pattern_matching_variant.ensures)))
+pattern_match_inner-returns-else-v t c = c.enter-entered.ensures.goes ((not-false (_) c.if-not-entered.false)) c.pat_at-row.result c.pat_at-row.ensures c.args.bindings.now c.args.counts c.args.current c.args.els _ (kind_variant c.args.image.now c.args.bindings.now c.enter-entered.result.p c.pat_at-row.result c.args.mode c.args.counts c.args.current c.args.els c.enter-entered.result.place _ _ (entered_walkable c.enter-entered.ensures ((not-false (_) c.if-not-entered.false)) c.requires.walkable).image_valid ((entered_there c.enter-entered.ensures c.requires.p_bound)) c.pat_at-row.ensures ((sym (c.is_leaf.ensures ∙ ap₂ is_leaf c.pat_kind.ensures c.path_kind.ensures) ∙ c.if-is_leaf.false)) (sym (c.compound_kind.ensures ∙ ap compound_kind c.pat_kind-2.ensures) ∙ c.in-Variant.is) (variant_some c.args.image.now c.args.bindings.now c.enter-entered.result.p c.args.mode c.args.counts c.args.current c.args.els c.enter-entered.result.place _ _ _ _ (λ q. c.if-v.false (c.variant_word-v.ensures ∙ q)) (rw (c.variant_word-v.ensures, c.variant_shape.ensures) at c.pattern_matching_variant.ensures)))
 
 pub pattern_matching_variant_fields-pattern_match_tuple_like-requires : goal.pattern_matching_variant_fields-pattern_match_tuple_like-requires
 pattern_matching_variant_fields-pattern_match_tuple_like-requires t c = (omega (arith, c.decreases), (c.requires.walkable, (c.requires.p_bound.0, rw c.in-Tuple.is at c.requires.p_bound.1)))
@@ -314,7 +315,7 @@ pub sub::alt-pattern_match_inner-tested-requires : goal.sub::alt-pattern_match_i
 sub::alt-pattern_match_inner-tested-requires t c = (omega (arith, c.decreases), (c.requires.walkable, c.requires.q_bound))
 
 pub sub::alt-returns-in_default : goal.sub::alt-returns-in_default
-sub::alt-returns-in_default t c = rw c.told-body.given.1 (alternative_stops (pattern_match_inner c.args.image.now c.args.bindings.now (tree c.args.image.now c.args.q.0)) c.args.mode c.args.counts c.args.current c.args.place _ _ (rw c.told-body.given.1 at c.pattern_match_inner-tested.ensures))
+sub::alt-returns-in_default t c = rw c.in_default.is (alternative_stops (pattern_match_inner c.args.image.now c.args.bindings.now (tree c.args.image.now c.args.q.0)) c.args.mode c.args.counts c.args.current c.args.place _ _ (rw c.in_default.is at c.pattern_match_inner-tested.ensures))
 
 pub sub::alt-is_check-requires : goal.sub::alt-is_check-requires
 sub::alt-is_check-requires t c = tt
@@ -414,7 +415,7 @@ pub sub::slice-slice_test-tested-requires : goal.sub::slice-slice_test-tested-re
 sub::slice-slice_test-tested-requires t c = record { whole = (c.requires.walkable.whole, c.requires.p_bound.1); ready = (c.requires.walkable.ready, c.requires.walkable.begins) }
 
 pub sub::slice-returns-in_default : goal.sub::slice-returns-in_default
-sub::slice-returns-in_default t c = rw c.told-body.given.1 (slice_stops c.args.image.now c.args.bindings.now c.args.p c.args.row.d c.args.row.a c.args.row.b c.args.row.c c.args.mode c.args.counts c.args.current c.args.els c.args.place c.args.row.ty _ refl (rw c.told-body.given.1 at c.slice_test-tested.ensures))
+sub::slice-returns-in_default t c = rw c.in_default.is (slice_stops c.args.image.now c.args.bindings.now c.args.p c.args.row.d c.args.row.a c.args.row.b c.args.row.c c.args.mode c.args.counts c.args.current c.args.els c.args.place c.args.row.ty _ refl (rw c.in_default.is at c.slice_test-tested.ensures))
 
 pub sub::slice-pattern_match_adt-in_front-requires : goal.sub::slice-pattern_match_adt-in_front-requires
 sub::slice-pattern_match_adt-in_front-requires t c = (omega (arith, c.decreases), (walkable_behind c.requires.walkable (rw c.in-Done.is at c.slice_test-tested.ensures), (c.requires.p_bound.0, c.requires.p_bound.2.in_front)))
@@ -426,7 +427,7 @@ pub sub::slice-rest_bound-rest-requires : goal.sub::slice-rest_bound-rest-requir
 sub::slice-rest_bound-rest-requires t c =
     let k = walkable_behind c.requires.walkable (rw c.in-Done.is at c.slice_test-tested.ensures) in
     let l = walkable_after k (rw c.in-Done-in_front.is at c.pattern_match_adt-in_front.ensures) in
-    asks_rest l c.args.row.d c.requires.p_bound.2.rests (omega (arith, back_lies c.args.image.now c.args.p.0 c.args.row.d c.args.row.a c.args.row.b c.args.row.c c.requires.p_bound.2))
+    let r = asks_rest l c.args.row.d c.requires.p_bound.2.rests (omega (arith, back_lies c.args.image.now c.args.p.0 c.args.row.d c.args.row.a c.args.row.b c.args.row.c c.requires.p_bound.2)) in record { image_value = r.0; ready = r.1 }
 
 pub sub::slice-returns-in_default-rest : goal.sub::slice-returns-in_default-rest
 sub::slice-returns-in_default-rest t c =

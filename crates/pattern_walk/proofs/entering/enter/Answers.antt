@@ -7,6 +7,7 @@ use borrow.Author.Tests.{not-true, not-false}
 use Rattle.pattern_nodes.proofs.Known.{limits}
 use Rattle.pattern_walk_laws.proofs.Descending.{Descending, descending_begin, enter_full, enter_at, descending_again, behind_derefs_lem, behind_none}
 use Rattle.pattern_walk.proofs.entering.enter.Goals as goal
+use Rattle.pattern_walk.proofs.entering.enter.Goals.{then-row-ne0+else-not-behind, else-row-ne0}
 
 pub loop-behind-init : goal.loop-behind-init
 loop-behind-init c = descending_begin _ _ _ _ _
@@ -29,16 +30,25 @@ passes_on-requires c = tt
 pub returns-then-not-passes_on : goal.returns-then-not-passes_on
 returns-then-not-passes_on c =
     enter_at c.loop-behind.invariant c.pat_at-row.result (record { ok = true; place = c.if-row-ne0.here }) c.requires.0 c.requires.2 c.pat_at-row.ensures c.visit.ensures
-    (⊎_elim (λ w. behind_derefs_lem c.loop-behind.here c.pat_at-row.result.derefs w.1.result w.1.ensures (not-false _ w.4.left) w.5) (λ w. behind_none c.loop-behind.here c.pat_at-row.result.derefs w.0.left w.1) c.if-row-ne0.branch) refl
+    (elim c.if-row-ne0.branch [
+      then-row-ne0+else-not-behind w ↦ behind_derefs_lem c.loop-behind.here c.pat_at-row.result.derefs w.deref_place-behind.result w.deref_place-behind.ensures (not-false (w.deref_place-behind.result.ok) w.if-not-behind.false) w.here-is
+    | else-row-ne0 w ↦ behind_none c.loop-behind.here c.pat_at-row.result.derefs w.if-row-ne0.false w.here-is
+    ]) refl
 
 pub loop-behind-smaller : goal.loop-behind-smaller
 loop-behind-smaller c =
     (descending_again c.loop-behind.invariant c.pat_at-row.result (record { ok = true; place = c.if-row-ne0.here }) c.requires.0 c.requires.2 c.pat_at-row.ensures c.visit.ensures
-    (⊎_elim (λ w. behind_derefs_lem c.loop-behind.here c.pat_at-row.result.derefs w.1.result w.1.ensures (not-false _ w.4.left) w.5) (λ w. behind_none c.loop-behind.here c.pat_at-row.result.derefs w.0.left w.1) c.if-row-ne0.branch) refl
+    (elim c.if-row-ne0.branch [
+      then-row-ne0+else-not-behind w ↦ behind_derefs_lem c.loop-behind.here c.pat_at-row.result.derefs w.deref_place-behind.result w.deref_place-behind.ensures (not-false (w.deref_place-behind.result.ok) w.if-not-behind.false) w.here-is
+    | else-row-ne0 w ↦ behind_none c.loop-behind.here c.pat_at-row.result.derefs w.if-row-ne0.false w.here-is
+    ]) refl
     (sym c.passes_on.ensures ∙ c.if-not-passes_on.false)).1
 
 pub loop-behind-preserved : goal.loop-behind-preserved
 loop-behind-preserved c =
     (descending_again c.loop-behind.invariant c.pat_at-row.result (record { ok = true; place = c.if-row-ne0.here }) c.requires.0 c.requires.2 c.pat_at-row.ensures c.visit.ensures
-    (⊎_elim (λ w. behind_derefs_lem c.loop-behind.here c.pat_at-row.result.derefs w.1.result w.1.ensures (not-false _ w.4.left) w.5) (λ w. behind_none c.loop-behind.here c.pat_at-row.result.derefs w.0.left w.1) c.if-row-ne0.branch) refl
+    (elim c.if-row-ne0.branch [
+      then-row-ne0+else-not-behind w ↦ behind_derefs_lem c.loop-behind.here c.pat_at-row.result.derefs w.deref_place-behind.result w.deref_place-behind.ensures (not-false (w.deref_place-behind.result.ok) w.if-not-behind.false) w.here-is
+    | else-row-ne0 w ↦ behind_none c.loop-behind.here c.pat_at-row.result.derefs w.if-row-ne0.false w.here-is
+    ]) refl
     (sym c.passes_on.ensures ∙ c.if-not-passes_on.false)).0

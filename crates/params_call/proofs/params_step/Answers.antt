@@ -1,0 +1,32 @@
+use borrow.Author.Rules.{rules}
+use native.Mathlib.Omega.{arith}
+use Rattle.body_rules.proofs.Lengths.{lengths_of}
+use Rattle.params_laws.proofs.Stepping.{counts_asked, row_asked, save_asked, walk_asked, lowered, not_lowered}
+use Rattle.params_call.proofs.params_step.Goals as goal
+
+pub block_row-row-requires : goal.block_row-row-requires
+block_row-row-requires c = (search rules, row_asked c.requires)
+
+pub saved_words-saved-requires : goal.saved_words-saved-requires
+saved_words-saved-requires c = save_asked c.requires
+
+pub clear_above-requires : goal.clear_above-requires
+clear_above-requires c = counts_asked c.requires
+
+pub walk_params-requires : goal.walk_params-requires
+walk_params-requires c = walk_asked c.requires c.clear_above.ensures
+
+pub put_back-requires : goal.put_back-requires
+put_back-requires c = (search rules, row_asked c.requires)
+
+pub clear_above-requires-in-Refused : goal.clear_above-requires-in-Refused
+clear_above-requires-in-Refused c = counts_asked c.requires
+
+pub put_words-requires : goal.put_words-requires
+put_words-requires c = omega (arith, c.walk_params.auto, save_asked c.requires, c.saved_words-saved.ensures.0)
+
+pub returns-in-Done : goal.returns-in-Done
+returns-in-Done c = lowered c.requires c.clear_above.ensures c.args.visits.now (search (rules, c.clear_from-arg-1.given)) c.clear_from.ensures c.lowered_answer.ensures (rw c.in-Done.is at c.walk_params.ensures)
+
+pub returns-in-Refused : goal.returns-in-Refused
+returns-in-Refused c = not_lowered c.requires c.clear_above.ensures c.args.visits.now (search (rules, c.clear_from-arg-1.given)) c.clear_from.ensures _ (rw c.in-Refused.is at c.walk_params.ensures) (lengths_of _ (search rules)).blocks (search rules) (omega (arith, c.walk_params.auto)) c.block_row-row.ensures c.saved_words-saved.ensures.1 c.put_back.ensures c.clear_above-in-Refused.ensures c.clear_from-in-Refused.ensures c.put_words.ensures

@@ -1,0 +1,45 @@
+use borrow.Author.Rules.{rules}
+use native.Mathlib.Omega.{arith}
+use Rattle.image.specs.Tree.{tree}
+use Rattle.pattern_matching.specs.Patterns.{pattern_match}
+use Rattle.body_calls_spec.proofs.Prologue.{taken_sized}
+use Rattle.body_rules.proofs.Lengths.{lengths_of}
+use Rattle.body_opening.proofs.Replying.{few_counts}
+use Rattle.pattern_calls_spec.proofs.Matching.{row_asked, walk_asked, matched, not_matched}
+use Rattle.pattern_match_call.proofs.match_step.Goals as goal
+
+pub block_row-row-requires : goal.block_row-row-requires
+block_row-row-requires c =
+    let start = c in
+    let a = c.args in
+    (search rules, row_asked a.bindings.now a.p.0 a.current a.els a.place c.requires.0 c.requires.1)
+
+pub clear_above-requires : goal.clear_above-requires
+clear_above-requires c = few_counts _ _ (taken_sized _ _ _ c.requires.0)
+
+pub check_and_bind-requires : goal.check_and_bind-requires
+check_and_bind-requires c =
+    let start = c in
+    let a = c.args in
+    walk_asked a.bindings.now a.p.0 a.current a.els a.place c.requires.0 c.requires.1 c.clear_above.ensures
+
+pub put_back-requires : goal.put_back-requires
+put_back-requires c =
+    let start = c in
+    let a = c.args in
+    (search rules, omega (arith, row_asked a.bindings.now a.p.0 a.current a.els a.place c.requires.0 c.requires.1))
+
+pub clear_above-requires-in-Refused : goal.clear_above-requires-in-Refused
+clear_above-requires-in-Refused c = few_counts _ _ (taken_sized _ _ _ c.requires.0)
+
+pub returns-in-Done : goal.returns-in-Done
+returns-in-Done c =
+    let start = c in
+    let a = c.args in
+    matched a.bindings.now a.p.0 a.current a.els a.place c.requires.0 c.requires.1 c.clear_above.ensures a.visits.now (search (rules, c.clear_from-arg-1.given)) c.clear_from.ensures (λ ctx. pattern_match a.image.now a.bindings.now (tree a.image.now a.p.0) ctx a.current a.els a.place) (rw c.in-Done.is at c.check_and_bind.ensures)
+
+pub returns-in-Refused : goal.returns-in-Refused
+returns-in-Refused c =
+    let start = c in
+    let a = c.args in
+    not_matched a.bindings.now a.p.0 a.current a.els a.place c.requires.0 c.requires.1 c.clear_above.ensures a.visits.now (search (rules, c.clear_from-arg-1.given)) c.clear_from.ensures (λ ctx. pattern_match a.image.now a.bindings.now (tree a.image.now a.p.0) ctx a.current a.els a.place) (rw c.in-Refused.is at c.check_and_bind.ensures) (lengths_of _ (search rules)).blocks (search rules) c.block_row-row.ensures c.put_back.ensures c.clear_above-in-Refused.ensures c.clear_from-in-Refused.ensures
