@@ -21,7 +21,7 @@ pub pattern_match_inner-requires : goal.pattern_match_inner-requires
 pattern_match_inner-requires c =
     let start = c in
     let a = c.args in
-    walk_asked a.bindings.now a.p.0 a.current OptBlock.None a.place c.requires.0 c.requires.1 c.clear_above.ensures
+    let r = walk_asked a.bindings.now a.p.0 a.current OptBlock.None a.place c.requires.0 c.requires.1 c.clear_above.ensures in record { walkable = r.0; p_bound = r.1 }
 
 pub put_back-requires : goal.put_back-requires
 put_back-requires c =

@@ -9,7 +9,7 @@ pub loop-left-init : goal.loop-left-init
 loop-left-init c = params_begin c.requires
 
 pub offset_bounds-words-k : goal.offset_bounds-words-k
-offset_bounds-words-k c = omega (arith, first_words c.loop-left.invariant.listed c.loop-left-test.true, c.well-formed)
+offset_bounds-words-k c = omega (arith, first_words c.loop-left.invariant.listed c.loop-left-test.true, c.well_formed)
 
 pub bounds-words-k : goal.bounds-words-k
 bounds-words-k c = omega (arith, first_words c.loop-left.invariant.listed c.loop-left-test.true)
@@ -24,7 +24,7 @@ pub next_local-l-requires : goal.next_local-l-requires
 next_local-l-requires c = omega (arith, local_small c.loop-left.invariant c.loop-left-test.true)
 
 pub overflow_add-k : goal.overflow_add-k
-overflow_add-k c = omega (arith, first_words c.loop-left.invariant.listed c.loop-left-test.true, c.well-formed)
+overflow_add-k c = omega (arith, first_words c.loop-left.invariant.listed c.loop-left-test.true, c.well_formed)
 
 pub overflow_sub-left : goal.overflow_sub-left
 overflow_sub-left c = omega (arith, c.loop-left-test.true)
