@@ -1,6 +1,7 @@
 // A body's blocks as records, from its table of words: a lent slice of records is filled. The functions over the slice are thin, and their proofs follow their code
 // by hand; whoever calls `records_of` is covered.
 #![tactic(auto)]
+
 ghost use Rattle.std.specs.Prelude.{◌≡◌, ◌≤◌, map, length, take};
 ghost use Rattle.mir.specs.Blocks.{block_words};
 ghost use Rattle.block_records.specs.Records.{terminator_in, terminators_of};

@@ -1,5 +1,6 @@
 // What comes before a call's own step on a body that is taken: zeros are written above the counts, table by table.
 #![tactic(auto)]
+
 ghost use Rattle.std.specs.Prelude.{◌≡◌, true, ◌*◌, ◌≤◌, length};
 ghost use Rattle.row_tables.specs.Rows.{cleared};
 ghost use Rattle.state.specs.State.{decode, encode};

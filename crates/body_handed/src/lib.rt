@@ -1,5 +1,6 @@
 // Whether what a call on a pattern is handed names something, beside a body in one table: document 01's number 2. Each test is handed the table of the blocks.
 #![tactic(auto)]
+
 ghost use Rattle.std.specs.Prelude.{◌≡◌, ◌≤◌, length};
 ghost use Rattle.handed.specs.Handed.{start_holds, match_holds, self_holds};
 ghost use Rattle.body_tables.specs.Layout.{body_words, body_of};

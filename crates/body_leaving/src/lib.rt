@@ -1,5 +1,6 @@
 // Locals leave their scopes, on a body in one table: one by one, and those of entries in a row.
 #![tactic(auto)]
+
 ghost use Rattle.std.specs.Prelude.{◌≡◌, ◌-◌, ◌<◌, ◌≤◌};
 ghost use Rattle.image.specs.Tables.{Whole};
 ghost use Rattle.drop_scopes_spec.specs.Dropping.{is_copy, mark_dead, emit_drop_and_storage_dead, leave_all, last_first};

@@ -1,5 +1,6 @@
 // Two ways into one block, on a body in one table: nothing is changed but the terminators of the blocks that were handed in.
 #![tactic(auto)]
+
 ghost use Rattle.std.specs.Prelude.{◌<◌, ◌≤◌};
 ghost use Rattle.lower_spec.specs.Promises.{Within};
 ghost use Rattle.body_tables.specs.Layout.{body_of};

@@ -1,5 +1,6 @@
 // What comes before a call's own step on a body in one table: image and body are looked at.
 #![tactic(auto)]
+
 ghost use Rattle.body_calls_spec.specs.Sizes.{Opens};
 ghost use Rattle.body_tables.specs.Layout.{body_of};
 

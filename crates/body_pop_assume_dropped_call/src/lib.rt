@@ -1,6 +1,7 @@
 // The public call `pop_assume_dropped`, on a body in one table: every image, body and number is taken, or refused by document 01's number. Numbers 1 and 2 write nothing; any
 // other refusal leaves what lies below the counts as found, and zeros above.
 #![tactic(auto)]
+
 ghost use Rattle.state.specs.State.{decode};
 ghost use Rattle.drop_scopes_spec.specs.Dropping.{pop_assume_dropped};
 ghost use Rattle.drop_scopes_spec.specs.Promises.{ScopesNamed};

@@ -1,5 +1,6 @@
 // What comes behind a refusal: the row of a block, and the same put back as it was.
 #![tactic(auto)]
+
 ghost use Rattle.std.specs.Prelude.{◌≡◌, ◌*◌, ◌<◌, length};
 ghost use Rattle.row_tables.specs.Rows.{row_at, stored};
 ghost use Rattle.mir.specs.Blocks.{block_words, block_width};

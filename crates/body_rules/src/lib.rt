@@ -1,6 +1,7 @@
 // Whether a body and its scopes, in one table, may be handed in: the counts are within the limits, and the rows in use name nothing that is missing. The table has
 // its length by its type.
 #![tactic(auto)]
+
 ghost use Rattle.std.specs.Prelude.{◌≡◌};
 ghost use Rattle.body_row_rules.specs.Bodies.{counts_within};
 ghost use Rattle.body_tables.specs.Layout.{body_of};

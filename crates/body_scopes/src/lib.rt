@@ -1,5 +1,6 @@
 // Drop scopes on a body in one table: they are opened, their locals leave, and they are closed.
 #![tactic(auto)]
+
 ghost use Rattle.std.specs.Prelude.{◌≡◌, cond, ◌<◌, ◌≤◌, ltb, length, get_or};
 ghost use Rattle.image.specs.Tables.{Whole};
 ghost use Rattle.drop_scopes_spec.specs.Dropping.{drop_until_scope, pop_and_drop};

@@ -1,5 +1,6 @@
 // Number 2's rules on the rows of a body's tables, with a leaf for each table, which is handed its part of the body.
 #![tactic(auto)]
+
 mod tables; // tables.rt: the rows of each table
 
 ghost use Rattle.std.specs.Prelude.{◌≡◌, ◌≤◌, length};

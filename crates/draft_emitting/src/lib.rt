@@ -1,5 +1,6 @@
 // What is made of a node, added to the draft: a row of makings by its kind.
 #![tactic(auto)]
+
 ghost use Rattle.std.specs.Prelude.{◌≡◌, [], ◌≤◌, ◌<◌, length};
 ghost use Rattle.image.specs.Tables.{Whole};
 ghost use Rattle.node_rows.specs.Makings.{making_row_at, closed_making_of};

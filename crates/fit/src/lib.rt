@@ -1,5 +1,6 @@
 // The fit test: whether a pattern fits a place, for every image and every number of the call.
 #![tactic(auto)]
+
 ghost use Rattle.fit.specs.Calls.{fit_call, Gives};
 
 use fit_clauses::pattern_fits;

@@ -1,5 +1,6 @@
 // The part of the fit test that decides the clause on bindings: a binding stands twice only in different alternatives of one Or, and these bind the same.
 #![tactic(auto)]
+
 pub mod each; // each.rt: what is asked of each binding of a row of patterns
 pub mod clause; // clause.rt: the clause, for each pattern of a row
 

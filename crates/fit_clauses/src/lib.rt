@@ -1,5 +1,6 @@
 // A pattern fits a place: all clauses of the fit hold.
 #![tactic(auto)]
+
 ghost use Rattle.std.specs.Prelude.{◌≡◌, true, ◌<◌, length};
 ghost use Rattle.image.specs.Tables.{Whole, type_count, pattern_count, binding_count};
 ghost use Rattle.image.specs.Tree.{tree};

@@ -1,5 +1,6 @@
 // What a call of the fit test is handed: its bindings' table, its pattern and its type.
 #![tactic(auto)]
+
 ghost use Rattle.std.specs.Prelude.{◌≡◌};
 ghost use Rattle.fit_handed.specs.Handed.{handed};
 

@@ -1,5 +1,6 @@
 // The locals that must differ where a pattern fits: those of the bindings that have one, and the place's root.
 #![tactic(auto)]
+
 ghost use Rattle.std.specs.Prelude.{◌≡◌, drop};
 ghost use Rattle.image.specs.Lists.{member, distinct};
 ghost use Rattle.meaning.specs.Fit.{present, locals_differ};

@@ -1,5 +1,6 @@
 // What the clause that nothing refused is reached asks of a pattern itself, and what is found where patterns are reached.
 #![tactic(auto)]
+
 pub mod own; // own.rt: what a pattern's row says of the pattern itself
 pub mod parts; // parts.rt: what a type's row and the words of a pattern's row say
 

@@ -1,5 +1,6 @@
 // The part of the fit test that decides that nothing refused is reached.
 #![tactic(auto)]
+
 pub mod walk; // walk.rt: a pattern and those below it
 
 ghost use Rattle.std.specs.Prelude.{◌≡◌, true, ◌<◌, length};

@@ -1,5 +1,6 @@
 // Whether all that a call on a pattern is handed names something: document 01's number 2.
 #![tactic(auto)]
+
 ghost use Rattle.std.specs.Prelude.{◌≡◌, ◌≤◌, length};
 ghost use Rattle.mir.specs.Blocks.{block_words};
 ghost use Rattle.handed.specs.Handed.{start_holds, binding_local_holds, bindings_hold, match_holds, self_holds};

@@ -1,5 +1,6 @@
 // What the listing program prints for an image, written into a lent buffer.
 #![tactic(auto)]
+
 ghost use Rattle.std.specs.Prelude.{◌≡◌, true, ◌<◌};
 ghost use Rattle.image.specs.Tables.{Whole, type_count};
 ghost use Rattle.image.specs.Valid.{valid};

@@ -1,5 +1,6 @@
 // The image of a sheet and of what is made of a text's nodes: added to a draft row after row, then written.
 #![tactic(auto)]
+
 ghost use Rattle.std.specs.Prelude.{◌≡◌, ◌≤◌, length};
 ghost use Rattle.node_rows.specs.Makings.{makings_in};
 ghost use Rattle.image_making.specs.Images.{ImageReady, draft_up, EmitsUp, MakesImage};

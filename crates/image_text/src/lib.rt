@@ -1,5 +1,6 @@
 // The text of what a call of `pattern_match` answers. What the listing program prints for an image is defined in specs/.
 #![tactic(auto)]
+
 ghost use Rattle.std.specs.Prelude.{◌≡◌, length};
 ghost use Rattle.refusals.specs.Refusals.{refusal_at};
 ghost use Rattle.body_tables.specs.Layout.{body_words, body_of};

@@ -1,5 +1,6 @@
 // The image of a sheet and of what a draft adds to it, written into lent bytes.
 #![tactic(auto)]
+
 ghost use Rattle.std.specs.Prelude.{◌≡◌, ◌+◌, ◌≤◌, length};
 ghost use Rattle.image.specs.Tables.{Whole};
 ghost use Rattle.row_tables.specs.Rows.{stored, AtMost};

@@ -1,5 +1,6 @@
 // The blocks of document 01's listing of a body, each with its statements and its terminator, written into a lent buffer.
 #![tactic(auto)]
+
 ghost use Rattle.std.specs.Prelude.{◌≡◌, map, ◌≤◌, length, take};
 ghost use Rattle.mir.specs.Statements.{statement_words};
 ghost use Rattle.block_records.specs.Records.{terminator_in};

@@ -1,5 +1,6 @@
 // Document 01's listing of a body, written into a lent buffer.
 #![tactic(auto)]
+
 ghost use Rattle.std.specs.Prelude.{◌≡◌, ◌≤◌, ◌++◌, length};
 ghost use Rattle.mir.specs.Blocks.{block_words};
 ghost use Rattle.mir.specs.Statements.{statement_words};

@@ -1,5 +1,6 @@
 // Where the listing program starts: the type of local 0, the numbers of the bindings' locals, and the place.
 #![tactic(auto)]
+
 ghost use Rattle.std.specs.Prelude.{◌≡◌, true, ◌<◌, length};
 ghost use Rattle.std.proofs.Math.Option.{some};
 ghost use Rattle.image.specs.Tables.{Whole, type_count};

@@ -1,5 +1,6 @@
 // The body that the listing program starts from: local 0 of its type, and the bindings' locals.
 #![tactic(auto)]
+
 ghost use Rattle.std.specs.Prelude.{◌≡◌, true, length, set};
 ghost use Rattle.image.specs.Tables.{Whole};
 ghost use Rattle.image.specs.Valid.{valid};

@@ -1,5 +1,6 @@
 // Statements of document 01's listing, each by its row, written into a lent buffer.
 #![tactic(auto)]
+
 ghost use Rattle.std.specs.Prelude.{◌≡◌, ◌++◌, length};
 ghost use Rattle.mir.specs.Statements.{statement_width};
 ghost use Rattle.views.specs.Views.{of_constant, set, word, path_of, constant_at, left_of, line_of};

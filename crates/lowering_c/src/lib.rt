@@ -1,5 +1,6 @@
 // `pattern_match` for a caller in C: the numbers of a call are handed in as words, and those of its answer are handed out so.
 #![tactic(auto)]
+
 ghost use Rattle.std.specs.Prelude.{◌≡◌};
 ghost use Rattle.lowering_c.specs.Words.{block_or_none, block_word, answer_words, WordsGive};
 ghost use Rattle.body_tables.specs.Layout.{body_of};

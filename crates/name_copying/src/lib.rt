@@ -1,5 +1,6 @@
 // What the parser does at a name of a text: its bytes are copied into one table.
 #![tactic(auto)]
+
 ghost use Rattle.std.specs.Prelude.{◌≡◌};
 ghost use Rattle.token_rows.specs.TokenRows.{lexeme_of};
 ghost use Rattle.token_moves.specs.TokenMoves.{Readable, MovesOn};

@@ -1,5 +1,6 @@
 // A name alone: a path where it is a variant or a constant, else a binding.
 #![tactic(auto)]
+
 ghost use Rattle.image.specs.Tables.{Whole};
 ghost use Rattle.name_tables.specs.Names.{as_value, row_for};
 ghost use Rattle.name_tables.specs.Tested.{NameBytesWithin};

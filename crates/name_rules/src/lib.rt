@@ -1,5 +1,6 @@
 // The rules of a name table, beside a sheet.
 #![tactic(auto)]
+
 ghost use Rattle.std.specs.Prelude.{◌≡◌, true, ◌+◌, ◌≤◌, length};
 ghost use Rattle.image.specs.Lists.{all_below};
 ghost use Rattle.image.specs.Tables.{Whole};

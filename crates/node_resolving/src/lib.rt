@@ -1,5 +1,6 @@
 // What becomes of a node, by what it is read at: a position that is refused, or what is made of it and how its parts are read.
 #![tactic(auto)]
+
 mod leaves; // leaves.rt: literals, ranges, references and alternatives
 mod lists; // lists.rt: tuples, tuple structs, slices and records
 pub mod nodes; // nodes.rt: a node by its kind

@@ -1,6 +1,7 @@
 // The downward pass over the rows of nodes, from the last to the first: each is read at a context that its parent left, what is made of it is
 // written to the row of the same number, and the first position that is refused is kept.
 #![tactic(auto)]
+
 pub mod steps; // steps.rt: one row
 pub mod tables; // tables.rt: the rows of the lent tables
 

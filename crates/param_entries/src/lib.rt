@@ -1,5 +1,6 @@
 // A parameter's local, and its entry in the last scope.
 #![tactic(auto)]
+
 ghost use Rattle.params_spec.specs.Params.{param_local};
 ghost use Rattle.body_tables.specs.Layout.{body_of};
 ghost use Rattle.body_tables.specs.Promises.{Adds};

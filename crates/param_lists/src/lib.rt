@@ -1,5 +1,6 @@
 // A list of parameters: it is taken, or breaks a rule (document 01's number 1).
 #![tactic(auto)]
+
 ghost use Rattle.std.specs.Prelude.{◌≡◌, true, ◌*◌, length};
 ghost use Rattle.image.specs.Tables.{Whole};
 ghost use Rattle.params_spec.specs.Calls.{param_count, params_of, params_named, list_formed, none_binds_receiver, receiver_apart, list_holds};

@@ -1,5 +1,6 @@
 // Whether the local of a parameter's binding is the parameter's own: then there is nothing to do.
 #![tactic(auto)]
+
 ghost use Rattle.std.specs.Prelude.{◌≡◌, true, ◌<◌, length};
 ghost use Rattle.image.specs.Tables.{Whole, pattern_count, binding_count};
 ghost use Rattle.image.specs.Valid.{valid};

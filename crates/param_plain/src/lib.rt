@@ -1,5 +1,6 @@
 // A plain parameter, and whether a parameter binds self again (document 01's number 1).
 #![tactic(auto)]
+
 ghost use Rattle.std.specs.Prelude.{◌≡◌, ◌<◌};
 ghost use Rattle.image.specs.Tables.{Whole, pattern_count};
 ghost use Rattle.image.specs.Tree.{tree};

@@ -1,5 +1,6 @@
 // An else that cannot be reached.
 #![tactic(auto)]
+
 ghost use Rattle.std.specs.Prelude.{◌≡◌};
 ghost use Rattle.param_shutting.specs.Shutting.{shut_answer, shut_body, Shuttable};
 ghost use Rattle.body_tables.specs.Layout.{body_of};

@@ -1,6 +1,7 @@
 // `lower_params_and_bindings`: every image, list, body and number is taken, or refused by document 01's number. Numbers 1 and 2 write nothing; any other refusal leaves what
 // lies below the counts and the bindings' locals as found, and zeros above.
 #![tactic(auto)]
+
 pub mod lowering; // lowering.rt: the parameters, on values that were looked at
 
 ghost use Rattle.pattern_walk_spec.specs.Calls.{by_walk, start_ctx};

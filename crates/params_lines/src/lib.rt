@@ -1,5 +1,6 @@
 // The three lines behind the listing of a call of `lower_params_and_bindings`: the locals of the parameters, of the bindings and in the scopes.
 #![tactic(auto)]
+
 ghost use Rattle.std.specs.Prelude.{◌+◌, ◌≤◌};
 ghost use Rattle.listing_text.specs.Writing.{Wrote};
 ghost use Rattle.params_lines.specs.Lines.{line_text, lines_text};

@@ -1,5 +1,6 @@
 // What a call on parameters starts from: the words of its self, the bindings' locals, and the body.
 #![tactic(auto)]
+
 ghost use Rattle.std.specs.Prelude.{◌≤◌, ◌≡◌, length, replicate};
 ghost use Rattle.state.specs.State.{encode, counts_of};
 ghost use Rattle.params_start.specs.Started.{start_state, receiver, call_words, many_of};

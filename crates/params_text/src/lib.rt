@@ -1,5 +1,6 @@
 // The text of what a call of `lower_params_and_bindings` answers.
 #![tactic(auto)]
+
 ghost use Rattle.std.specs.Prelude.{◌≡◌, length};
 ghost use Rattle.body_tables.specs.Layout.{body_words, body_of};
 ghost use Rattle.listing_text.specs.Writing.{Wrote};

@@ -1,5 +1,6 @@
 // Locals in a row, as the lines behind a listing have them: those of a list, or so many from a first one on.
 #![tactic(auto)]
+
 ghost use Rattle.std.specs.Prelude.{◌+◌, ◌≤◌};
 ghost use Rattle.image.specs.Lists.{up_from};
 ghost use Rattle.listing_text.specs.Writing.{Wrote};

@@ -1,5 +1,6 @@
 // Moves of the machine behind which a node has closed, made on the tables.
 #![tactic(auto)]
+
 ghost use Rattle.std.specs.Prelude.{◌+◌, ◌<◌, ◌≤◌};
 ghost use Rattle.parsing_bounds.specs.Weights.{or_one};
 ghost use Rattle.parsing_moves.specs.declared.NodeMove.TheVariants.{Shuts, ShutsRange, ShutsRangeBefore, ShutsTop, AddsLastField};

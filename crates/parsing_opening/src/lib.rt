@@ -1,5 +1,6 @@
 // Moves of the machine behind which something is held or waits, made on the tables.
 #![tactic(auto)]
+
 ghost use Rattle.std.specs.Prelude.{◌≡◌, ◌+◌, ◌<◌, ◌≤◌};
 ghost use Rattle.parsing_moves.specs.declared.NodeMove.TheVariants.{Opens, OpensTwo, OpensBehind, Mutates, AddsField};
 ghost use Rattle.parsing_steps.specs.Settling.{PartsMost};

@@ -1,5 +1,6 @@
 // A move of the machine, by a mark at a position, is made on the tables.
 #![tactic(auto)]
+
 ghost use Rattle.std.specs.Prelude.{◌+◌, ◌≤◌};
 ghost use Rattle.parsing_steps.specs.Settling.{PartsMost};
 ghost use Rattle.parsing_performing.specs.Performing.{move_gain, Performed};

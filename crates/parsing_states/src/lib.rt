@@ -1,5 +1,6 @@
 // What the parser does at a mark, by the state.
 #![tactic(auto)]
+
 ghost use Rattle.std.specs.Prelude.{◌<◌};
 ghost use Rattle.parsing_moves.specs.Rows.{DecidesMark};
 

@@ -1,5 +1,6 @@
 // What a part of a node is read at.
 #![tactic(auto)]
+
 ghost use Rattle.std.specs.Prelude.{◌≡◌, ◌-◌};
 ghost use Rattle.image.specs.Tables.{Whole};
 ghost use Rattle.node_rows.specs.Nodes.{number_in};

@@ -1,5 +1,6 @@
 // What the walk over an Or's alternatives decides by value.
 #![tactic(auto)]
+
 ghost use Rattle.std.specs.Prelude.{◌≡◌};
 ghost use Rattle.pattern_alternatives.specs.Alternatives.{with_else};
 

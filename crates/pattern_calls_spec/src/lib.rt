@@ -1,5 +1,6 @@
 // What the public calls on patterns answer. What a call gives for every image, body and number, and what it promises, is defined in specs/.
 #![tactic(auto)]
+
 use image::PatId;
 use lower_spec::merging::OptBlock;
 use mir::{BasicBlockId, Counts};

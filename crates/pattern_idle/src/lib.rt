@@ -1,5 +1,6 @@
 // Patterns at which a walk has nothing to do but to count the visit: they are visited where they stand, with no call of the walk.
 #![tactic(auto)]
+
 ghost use Rattle.std.specs.Prelude.{◌≡◌, true, ◌<◌};
 ghost use Rattle.image.specs.Tables.{Whole, pattern_count};
 ghost use Rattle.image.specs.Rows.{pat_at};

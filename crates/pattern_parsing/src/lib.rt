@@ -1,5 +1,6 @@
 // A pattern's text is read to its nodes, in the order in which they close, or to where it fails.
 #![tactic(auto)]
+
 ghost use Rattle.std.specs.Prelude.{◌≡◌, ◌≤◌, length};
 ghost use Rattle.pattern_parsing.specs.Parsing.{fresh_state, ParsesTo};
 

@@ -1,5 +1,6 @@
 // The passes of `pattern_match`: Check, and then Bind.
 #![tactic(auto)]
+
 ghost use Rattle.std.specs.Prelude.{◌<◌};
 ghost use Rattle.image.specs.Tables.{pattern_count};
 ghost use Rattle.image.specs.Tree.{tree};

@@ -1,5 +1,6 @@
 // Ranges: each end is a test, the start before the end.
 #![tactic(auto)]
+
 ghost use Rattle.std.specs.Prelude.{◌≡◌, true, ◌<◌};
 ghost use Rattle.image.specs.Tables.{Whole, type_count};
 ghost use Rattle.image.specs.Patterns.{operand_or_absent};

@@ -1,6 +1,7 @@
 // The reader of a pattern's text: it keeps the text by reference. The borrow checker covers no function over such a struct, so each step
 // is thin and proved by hand; the work is `token_at`'s, on a plain slice.
 #![tactic(auto)]
+
 ghost use Rattle.std.specs.Prelude.{◌≡◌};
 ghost use Rattle.pattern_tokens.specs.Tokens.{token_at};
 

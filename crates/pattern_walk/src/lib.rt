@@ -1,6 +1,7 @@
 // The walk over patterns: the lowering of a pattern, of a variant, of fields and of arguments call each other. With each call a pair falls: the pattern's number, and
 // behind it the rank of the function. The tables are lent, the counts go in and come out by value, and the first refusal stops the walk.
 #![tactic(auto)]
+
 pub mod adt; // adt.rt: variants and arguments
 pub mod entering; // entering.rt: visits and derefs, and Binds in Check
 pub mod sub; // sub.rt: Bind, Or and Slice patterns

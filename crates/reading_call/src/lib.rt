@@ -1,6 +1,7 @@
 // The public call on a pattern's text: every text, sheet, name table and type is taken, and answered by an image or refused by its number and position. What is refused
 // writes nothing to the image's bytes. The tables in between are lent, and what they hold before is not looked at.
 #![tactic(auto)]
+
 ghost use Rattle.reading_call.specs.Calls.{PatternReads};
 
 use draft_tables::DRAFT_WORDS;

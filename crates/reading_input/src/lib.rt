@@ -1,5 +1,6 @@
 // The parts of the program's input, one behind the other: each begins with four bytes, big-endian, that say how many follow them. What is missing at the end is not there.
 #![tactic(auto)]
+
 ghost use Rattle.std.specs.Prelude.{◌≡◌, ◌+◌, ◌≤◌, ◌^◌, ◌<◌, length};
 ghost use Rattle.reading_input.specs.Parts.{part_end, past_or_end, word_or0, InputParted};
 

@@ -1,5 +1,6 @@
 // What is handed in beside a text's nodes is tested, and then the nodes are read.
 #![tactic(auto)]
+
 ghost use Rattle.node_rows.specs.Nodes.{nodes_in};
 ghost use Rattle.token_parsing.specs.Standing.{NodesParsed};
 ghost use Rattle.reading_passes.specs.Passes.{read_nodes};

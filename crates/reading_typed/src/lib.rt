@@ -1,5 +1,6 @@
 // The two passes over a text's nodes, where what is handed in keeps its rules: number 20, or the image, or number 1.
 #![tactic(auto)]
+
 ghost use Rattle.pattern_typing.specs.Downward.{type_nodes, typing_of};
 ghost use Rattle.node_rows.specs.Nodes.{nodes_in};
 ghost use Rattle.token_parsing.specs.Standing.{NodesParsed};

@@ -1,5 +1,6 @@
 // Document 01's number and reason of what stops a lowering.
 #![tactic(auto)]
+
 ghost use Rattle.std.specs.Prelude.{◌≡◌};
 ghost use Rattle.refusals.specs.Refusals.{number_of, reason_of};
 

@@ -1,6 +1,7 @@
 // The public call that fills a binding with a copy of a local, self's: every image, body and number is taken, or refused by document 01's number. Numbers 1 and 2 write
 // nothing; any other refusal leaves what lies below the counts as found, and zeros above.
 #![tactic(auto)]
+
 ghost use Rattle.std.specs.Prelude.{◌<◌, length};
 ghost use Rattle.refusals.specs.Refusals.{no_pattern};
 ghost use Rattle.image.specs.declared.kinds.BindingMode.{BindingMode};

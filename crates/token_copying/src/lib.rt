@@ -1,5 +1,6 @@
 // What the parser does at a token of a text, with names copied into one table.
 #![tactic(auto)]
+
 ghost use Rattle.std.specs.Prelude.{◌≡◌, false, eqb};
 ghost use Rattle.token_rows.specs.TokenRows.{lexeme_of};
 ghost use Rattle.token_moves.specs.TokenMoves.{Readable, MovesOn};

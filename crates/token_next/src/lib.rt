@@ -1,5 +1,6 @@
 // The next token of a text, as words.
 #![tactic(auto)]
+
 ghost use Rattle.std.specs.Prelude.{◌≡◌, ◌≤◌, length};
 ghost use Rattle.pattern_tokens.specs.Tokens.{token_at};
 ghost use Rattle.pattern_grammar.specs.Lexemes.{lexeme};

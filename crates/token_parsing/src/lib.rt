@@ -1,5 +1,6 @@
 // A text's token from a position on: it is read, and its move is made on the tables.
 #![tactic(auto)]
+
 ghost use Rattle.std.specs.Prelude.{◌≤◌, length};
 ghost use Rattle.token_parsing.specs.Standing.{ParsingAt, TokenRead};
 

@@ -45,7 +45,7 @@ returns c =
     let pre = c.requires in
     mark_read s.text.now s.names.now s.named s.state s.held s.top s.token pre.0 pre.1.0 pre.1.1 _
     (elim c.if-mark-eq11.branch [
-      then-mark-eq11+else-role_of-eq4 w ↦ not_field s.state s.token.mark (sym (ap (λ x. eqb x 4) w.role_of.ensures) ∙ ne_eqb _ 4 w.if-role_of-eq4.false)
-    | else-mark-eq11 w ↦ not_integer s.state s.token.mark (ne_eqb _ 11 w.if-mark-eq11.false)
+      | then-mark-eq11+else-role_of-eq4 w ↦ not_field s.state s.token.mark (sym (ap (λ x. eqb x 4) w.role_of.ensures) ∙ ne_eqb _ 4 w.if-role_of-eq4.false)
+      | else-mark-eq11 w ↦ not_integer s.state s.token.mark (ne_eqb _ 11 w.if-mark-eq11.false)
     ])
     c.mark_move-made-2.ensures

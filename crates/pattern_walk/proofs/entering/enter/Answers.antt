@@ -31,16 +31,16 @@ pub returns-then-not-passes_on : goal.returns-then-not-passes_on
 returns-then-not-passes_on c =
     enter_at c.loop-behind.invariant c.pat_at-row.result (record { ok = true; place = c.if-row-ne0.here }) c.requires.0 c.requires.2 c.pat_at-row.ensures c.visit.ensures
     (elim c.if-row-ne0.branch [
-      then-row-ne0+else-not-behind w ↦ behind_derefs_lem c.loop-behind.here c.pat_at-row.result.derefs w.deref_place-behind.result w.deref_place-behind.ensures (not-false (w.deref_place-behind.result.ok) w.if-not-behind.false) w.here-is
-    | else-row-ne0 w ↦ behind_none c.loop-behind.here c.pat_at-row.result.derefs w.if-row-ne0.false w.here-is
+      | then-row-ne0+else-not-behind w ↦ behind_derefs_lem c.loop-behind.here c.pat_at-row.result.derefs w.deref_place-behind.result w.deref_place-behind.ensures (not-false (w.deref_place-behind.result.ok) w.if-not-behind.false) w.here-is
+      | else-row-ne0 w ↦ behind_none c.loop-behind.here c.pat_at-row.result.derefs w.if-row-ne0.false w.here-is
     ]) refl
 
 pub loop-behind-smaller : goal.loop-behind-smaller
 loop-behind-smaller c =
     (descending_again c.loop-behind.invariant c.pat_at-row.result (record { ok = true; place = c.if-row-ne0.here }) c.requires.0 c.requires.2 c.pat_at-row.ensures c.visit.ensures
     (elim c.if-row-ne0.branch [
-      then-row-ne0+else-not-behind w ↦ behind_derefs_lem c.loop-behind.here c.pat_at-row.result.derefs w.deref_place-behind.result w.deref_place-behind.ensures (not-false (w.deref_place-behind.result.ok) w.if-not-behind.false) w.here-is
-    | else-row-ne0 w ↦ behind_none c.loop-behind.here c.pat_at-row.result.derefs w.if-row-ne0.false w.here-is
+      | then-row-ne0+else-not-behind w ↦ behind_derefs_lem c.loop-behind.here c.pat_at-row.result.derefs w.deref_place-behind.result w.deref_place-behind.ensures (not-false (w.deref_place-behind.result.ok) w.if-not-behind.false) w.here-is
+      | else-row-ne0 w ↦ behind_none c.loop-behind.here c.pat_at-row.result.derefs w.if-row-ne0.false w.here-is
     ]) refl
     (sym c.passes_on.ensures ∙ c.if-not-passes_on.false)).1
 
@@ -48,7 +48,7 @@ pub loop-behind-preserved : goal.loop-behind-preserved
 loop-behind-preserved c =
     (descending_again c.loop-behind.invariant c.pat_at-row.result (record { ok = true; place = c.if-row-ne0.here }) c.requires.0 c.requires.2 c.pat_at-row.ensures c.visit.ensures
     (elim c.if-row-ne0.branch [
-      then-row-ne0+else-not-behind w ↦ behind_derefs_lem c.loop-behind.here c.pat_at-row.result.derefs w.deref_place-behind.result w.deref_place-behind.ensures (not-false (w.deref_place-behind.result.ok) w.if-not-behind.false) w.here-is
-    | else-row-ne0 w ↦ behind_none c.loop-behind.here c.pat_at-row.result.derefs w.if-row-ne0.false w.here-is
+      | then-row-ne0+else-not-behind w ↦ behind_derefs_lem c.loop-behind.here c.pat_at-row.result.derefs w.deref_place-behind.result w.deref_place-behind.ensures (not-false (w.deref_place-behind.result.ok) w.if-not-behind.false) w.here-is
+      | else-row-ne0 w ↦ behind_none c.loop-behind.here c.pat_at-row.result.derefs w.if-row-ne0.false w.here-is
     ]) refl
     (sym c.passes_on.ensures ∙ c.if-not-passes_on.false)).0

@@ -1,0 +1,9 @@
+use borrow.Author.Rules.{rules}
+use Rattle.image_text.proofs.Printed.{printed, not_printed}
+use Rattle.image_listing.proofs.list_image.Goals as goal
+
+pub returns-then-done : goal.returns-then-done
+returns-then-done c = printed c.put_image-done.ensures c.if-done.true
+
+pub returns : goal.returns
+returns c = not_printed c.put_image-done.ensures c.if-done.false
