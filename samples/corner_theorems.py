@@ -82,7 +82,7 @@ FIT_MODULES = [
 MEANING = {
     "image.specs.Integers": "least_value greatest_value in_range integer_value",
     "cases_spec.specs.Cases": "kind_number tuple_fields referent",
-    "counting.specs.Reaching": "is_enum is_slice_shape behind_derefs field_count path_tests zip in_aRow by_fields downcast of_variant slice_arguments some_argument all_alternatives can_fail",
+    "counting.specs.Reaching": "is_enum is_slice_shape behind_derefs field_count path_tests zip in_a_row by_fields downcast of_variant slice_arguments some_argument all_alternatives can_fail",
     "meaning.specs.Values": "items values derefed parts_of middle subslice part_at place_in int_fits has_variant value_fits",
     "meaning.specs.Running": "update value_of data_bytes signed_number constant_by constant_value scalar_of bytes_of same_numbers same_value compared discriminant_of elem_numbers "
     "same_elem behind_root part_behind read of_place_value left_value rvalue_value execute switched",

@@ -50,7 +50,7 @@ def snake(name):
     name = name.replace("′", "'")
     if name[:1].isupper():
         return name
-    return re.sub(r"(?<=[a-z0-9'])([A-Z])", lambda it: "_" + it.group(1).lower(), name).replace("-", "_")
+    return re.sub(r"(?<=[a-z0-9'A-Z])([A-Z])", lambda it: "_" + it.group(1).lower(), name).replace("-", "_")
 
 
 def declared(texts):

@@ -224,5 +224,5 @@ rows = other_type_row ∷ fields_swapped_row ∷ fields_in_order_row ∷ wild_be
 
 -- each row's answers, computed anew, are those that are wanted
 pub as_judged : map judged rows ≡ rows
-unfolding Rattle.image.specs.Bytes.word_at Rattle.image.specs.Bytes.little_endian Rattle.image.specs.Tables.tables_of Rattle.image.specs.Rows.type_at Rattle.image.specs.Rows.variant_at Rattle.image.specs.Rows.pat_at Rattle.image.specs.Rows.binding_at Rattle.image.specs.Rows.list_at Rattle.image.specs.Rows.operand_at Rattle.image.specs.Rows.operand_bytes Rattle.image.specs.Lists.all_below Rattle.image.specs.Lists.all_in Rattle.image.specs.Lists.all_true Rattle.image.specs.Lists.member Rattle.image.specs.Lists.distinct Rattle.image.specs.Lists.up_from Rattle.image.specs.Lists.gather Rattle.image.specs.Operands.is_scalar_value Rattle.image.specs.Operands.operand_value_holds Rattle.image.specs.Operands.operand_holds Rattle.image.specs.Rules.counts_what_follows Rattle.image.specs.Rules.version_is_one Rattle.image.specs.Rules.tables_fill_the_rest Rattle.image.specs.Rules.listed Rattle.image.specs.Rules.types_listed Rattle.image.specs.Rules.is_integer_size Rattle.image.specs.Rules.adt_may_have Rattle.image.specs.Rules.type_shape_holds Rattle.image.specs.Rules.type_holds Rattle.image.specs.Rules.variants_by Rattle.image.specs.Rules.adts_share_no_variant Rattle.image.specs.Rules.variant_holds Rattle.image.specs.Rules.binding_holds Rattle.image.specs.Rules.within_limits Rattle.image.specs.Subpatterns.if_present Rattle.image.specs.Subpatterns.subpatterns_by Rattle.image.specs.Patterns.path_holds Rattle.image.specs.Patterns.pattern_shape_holds Rattle.image.specs.Patterns.pattern_holds Rattle.image.specs.Patterns.subpatterns_below Rattle.image.specs.Patterns.used_once Rattle.image.specs.Valid.valid Rattle.image.specs.Types.shape_by Rattle.image.specs.Types.ty_of Rattle.image.specs.Types.variant_of Rattle.image.specs.Types.binding_of Rattle.image.specs.Types.operand_of Rattle.image.specs.Tree.word? Rattle.image.specs.Tree.operand? Rattle.image.specs.Tree.trees Rattle.image.specs.Tree.tree? Rattle.image.specs.Tree.target Rattle.image.specs.Tree.node_by Rattle.image.specs.Tree.node Rattle.image.specs.Tree.tree_of Rattle.image.specs.Tree.tree Rattle.place.specs.Elems.elem_of Rattle.place.specs.Elems.word_of Rattle.place.specs.Places.projection_of Rattle.place.specs.PlaceTypes.field_of Rattle.place.specs.PlaceTypes.deref_ty Rattle.place.specs.PlaceTypes.adt_field_ty Rattle.place.specs.PlaceTypes.field_ty Rattle.place.specs.PlaceTypes.element_ty Rattle.place.specs.PlaceTypes.subslice_ty Rattle.place.specs.PlaceTypes.adt_downcast_ty Rattle.place.specs.PlaceTypes.downcast_ty Rattle.place.specs.PlaceTypes.ty_projection Rattle.place.specs.PlaceTypes.variant_projection Rattle.place.specs.PlaceTypes.part_projection Rattle.place.specs.PlaceTypes.projection_ty Rattle.place.specs.PlaceTypes.multi_projection_ty Rattle.mir.specs.Blocks.term_row Rattle.mir.specs.Statements.halves Rattle.mir.specs.Statements.place_words Rattle.mir.specs.Locals.local_ty Rattle.mir.specs.Rvalues.constant_words Rattle.mir.specs.Rvalues.left_words Rattle.mir.specs.Rvalues.place_rvalue_kind Rattle.mir.specs.Rvalues.binary_kind Rattle.mir.specs.Rvalues.live_row Rattle.mir.specs.Rvalues.dead_row Rattle.mir.specs.Rvalues.place_rvalue_row Rattle.mir.specs.Rvalues.constant_row Rattle.mir.specs.Rvalues.binary_row Rattle.state.specs.Steps.new_block Rattle.state.specs.Steps.set_terminator Rattle.state.specs.Steps.push_statement Rattle.state.specs.Steps.new_local Rattle.state.specs.Steps.push_scope Rattle.state.specs.Steps.push_entry Rattle.state.specs.Steps.try_block Rattle.state.specs.Steps.try_statement Rattle.state.specs.Steps.try_local Rattle.state.specs.Steps.try_scope Rattle.state.specs.Steps.try_entry Rattle.literals.specs.Literals.constant_of Rattle.literals.specs.Literals.string_constant Rattle.literals.specs.Literals.integer_constant Rattle.literals.specs.Literals.literal_by Rattle.literals.specs.Literals.lower_literal_to_operand Rattle.literals.specs.Literals.lower_const_to_operand Rattle.literals.specs.Literals.literal_or_const_by Rattle.literals.specs.Literals.lower_literal_or_const_to_operand Rattle.lower_spec.specs.Temps.is_slice Rattle.lower_spec.specs.Temps.is_held Rattle.lower_spec.specs.Temps.mark_live Rattle.lower_spec.specs.Temps.temp Rattle.lower_spec.specs.Temps.binding_local Rattle.views.specs.Views.terminator_of Rattle.views.specs.Views.elems_at Rattle.views.specs.Views.path_of Rattle.views.specs.Views.constant_at Rattle.views.specs.Views.left_of Rattle.views.specs.Views.line_of Rattle.views.specs.Views.mir_of Rattle.refusals.specs.Refusals.number_of Rattle.refusals.specs.Refusals.reason_of Rattle.refusals.specs.Refusals.refusal_at Rattle.pattern_matching.specs.Walking.visited Rattle.pattern_matching.specs.Walking.project Rattle.pattern_matching.specs.Walking.local_place Rattle.pattern_matching.specs.Walking.else_state Rattle.pattern_matching.specs.Walking.else_block Rattle.pattern_matching.specs.Walking.derefed Rattle.pattern_matching.specs.Walking.entered Rattle.pattern_matching.specs.Tests.compare Rattle.pattern_matching.specs.Tests.pattern_match_const Rattle.pattern_matching.specs.Tests.literal Rattle.pattern_matching.specs.Tests.lit_by Rattle.pattern_matching.specs.Tests.constant_path Rattle.pattern_matching.specs.Tests.range_end Rattle.pattern_matching.specs.Tests.range_end? Rattle.pattern_matching.specs.Tests.binding_rvalue Rattle.pattern_matching.specs.Tests.pattern_match_binding Rattle.pattern_matching.specs.Tests.local_path Rattle.pattern_matching.specs.Variants.place_ty Rattle.pattern_matching.specs.Variants.shape_of Rattle.pattern_matching.specs.Variants.pattern_match_adt Rattle.pattern_matching.specs.Variants.pattern_match_tuple_like Rattle.pattern_matching.specs.Variants.ellipsis_at Rattle.pattern_matching.specs.Variants.tuple_on Rattle.pattern_matching.specs.Variants.tuple_pattern Rattle.pattern_matching.specs.Variants.ref_on Rattle.pattern_matching.specs.Variants.ref_pattern Rattle.pattern_matching.specs.Variants.resolved Rattle.pattern_matching.specs.Variants.record_fields Rattle.pattern_matching.specs.Variants.variant_fields Rattle.pattern_matching.specs.Variants.discriminant_test Rattle.pattern_matching.specs.Variants.variant_on Rattle.pattern_matching.specs.Variants.adt_on Rattle.pattern_matching.specs.Variants.pattern_matching_variant Rattle.pattern_matching.specs.Variants.variant_pattern Rattle.pattern_matching.specs.Slices.length_constant Rattle.pattern_matching.specs.Slices.length_compared Rattle.pattern_matching.specs.Slices.length_test Rattle.pattern_matching.specs.Slices.rest_bound Rattle.pattern_matching.specs.Slices.slice_items Rattle.pattern_matching.specs.Slices.slice_on Rattle.pattern_matching.specs.Patterns.alternatives Rattle.pattern_matching.specs.Patterns.alternatives_end Rattle.pattern_matching.specs.Patterns.or_pattern Rattle.pattern_matching.specs.Patterns.end_op Rattle.pattern_matching.specs.Patterns.range_pattern Rattle.pattern_matching.specs.Patterns.path_pattern Rattle.pattern_matching.specs.Patterns.bind_pattern Rattle.pattern_matching.specs.Patterns.rest_by Rattle.pattern_matching.specs.Patterns.rest_of Rattle.pattern_matching.specs.Patterns.pattern_match_inner Rattle.pattern_matching.specs.Patterns.lowerings Rattle.pattern_matching.specs.Patterns.lowering? Rattle.pattern_matching.specs.Patterns.pattern_match Rattle.image.specs.Integers.least_value Rattle.image.specs.Integers.greatest_value Rattle.image.specs.Integers.in_range Rattle.image.specs.Integers.integer_value Rattle.cases_spec.specs.Cases.kind_number Rattle.cases_spec.specs.Cases.tuple_fields Rattle.cases_spec.specs.Cases.referent Rattle.counting.specs.Reaching.is_enum Rattle.counting.specs.Reaching.is_slice_shape Rattle.counting.specs.Reaching.behind_derefs Rattle.counting.specs.Reaching.field_count Rattle.counting.specs.Reaching.path_tests Rattle.counting.specs.Reaching.zip Rattle.counting.specs.Reaching.in_aRow Rattle.counting.specs.Reaching.by_fields Rattle.counting.specs.Reaching.downcast Rattle.counting.specs.Reaching.of_variant Rattle.counting.specs.Reaching.slice_arguments Rattle.counting.specs.Reaching.some_argument Rattle.counting.specs.Reaching.all_alternatives Rattle.counting.specs.Reaching.can_fail Rattle.meaning.specs.Values.items Rattle.meaning.specs.Values.values Rattle.meaning.specs.Values.derefed Rattle.meaning.specs.Values.parts_of Rattle.meaning.specs.Values.middle Rattle.meaning.specs.Values.subslice Rattle.meaning.specs.Values.part_at Rattle.meaning.specs.Values.place_in Rattle.meaning.specs.Values.int_fits Rattle.meaning.specs.Values.has_variant Rattle.meaning.specs.Values.value_fits Rattle.meaning.specs.Running.update Rattle.meaning.specs.Running.value_of Rattle.meaning.specs.Running.data_bytes Rattle.meaning.specs.Running.signed_number Rattle.meaning.specs.Running.constant_by Rattle.meaning.specs.Running.constant_value Rattle.meaning.specs.Running.scalar_of Rattle.meaning.specs.Running.bytes_of Rattle.meaning.specs.Running.same_numbers Rattle.meaning.specs.Running.same_value Rattle.meaning.specs.Running.compared Rattle.meaning.specs.Running.discriminant_of Rattle.meaning.specs.Running.elem_numbers Rattle.meaning.specs.Running.same_elem Rattle.meaning.specs.Running.behind_root Rattle.meaning.specs.Running.part_behind Rattle.meaning.specs.Running.read Rattle.meaning.specs.Running.of_place_value Rattle.meaning.specs.Running.left_value Rattle.meaning.specs.Running.rvalue_value Rattle.meaning.specs.Running.execute Rattle.meaning.specs.Running.switched Rattle.meaning.specs.Executing.runs Rattle.meaning.specs.Matching.onto Rattle.meaning.specs.Matching.crossed Rattle.meaning.specs.Matching.crossed_path Rattle.meaning.specs.Matching.evaluated Rattle.meaning.specs.Matching.created Rattle.meaning.specs.Matching.from_start Rattle.meaning.specs.Matching.to_end Rattle.meaning.specs.Matching.match_all Rattle.meaning.specs.Matching.match_row Rattle.meaning.specs.Matching.match_fields Rattle.meaning.specs.Matching.is_variant Rattle.meaning.specs.Matching.path_matches Rattle.meaning.specs.Matching.matches Rattle.meaning.specs.Matching.bound_as Rattle.meaning.specs.Matching.bind_all Rattle.meaning.specs.Matching.row_fields Rattle.meaning.specs.Matching.record_fields Rattle.meaning.specs.Matching.last_items Rattle.meaning.specs.Matching.variant_path Rattle.meaning.specs.Binding.rest_binds? Rattle.meaning.specs.Binding.binds Rattle.meaning.specs.Typing.adt_variants Rattle.meaning.specs.Typing.variant_fields Rattle.meaning.specs.Typing.field_type Rattle.meaning.specs.Typing.element_type Rattle.meaning.specs.Fit.behind Rattle.meaning.specs.Fit.type_is_the_places Rattle.meaning.specs.Fit.arguments_fit Rattle.meaning.specs.Fit.field_numbers Rattle.meaning.specs.Fit.discriminants_differ Rattle.meaning.specs.Fit.items_fit Rattle.meaning.specs.Fit.rest_fits Rattle.meaning.specs.Fit.integer_fits Rattle.meaning.specs.Fit.refers_to_str Rattle.meaning.specs.Fit.constant_fits Rattle.meaning.specs.Fit.literal_fits Rattle.meaning.specs.Fit.end_fits Rattle.meaning.specs.Fit.path_fits Rattle.meaning.specs.Fit.each_fits Rattle.meaning.specs.Fit.row_fits Rattle.meaning.specs.Fit.by_fields_fit Rattle.meaning.specs.Fit.items_all_fit Rattle.meaning.specs.Fit.types_fit Rattle.meaning.specs.Fit.stands_in Rattle.meaning.specs.Fit.within Rattle.meaning.specs.Fit.rest_ty Rattle.meaning.specs.Fit.rest_bound? Rattle.meaning.specs.Fit.pat_count Rattle.meaning.specs.Fit.bound_in Rattle.meaning.specs.Fit.bindings_fit Rattle.meaning.specs.Fit.fields_there Rattle.meaning.specs.Fit.path_taken Rattle.meaning.specs.Fit.nothing_refused Rattle.meaning.specs.Fit.present Rattle.meaning.specs.Fit.locals_differ Rattle.meaning.specs.Fit.fits start_state start try judged
+unfolding Rattle.image.specs.Bytes.word_at Rattle.image.specs.Bytes.little_endian Rattle.image.specs.Tables.tables_of Rattle.image.specs.Rows.type_at Rattle.image.specs.Rows.variant_at Rattle.image.specs.Rows.pat_at Rattle.image.specs.Rows.binding_at Rattle.image.specs.Rows.list_at Rattle.image.specs.Rows.operand_at Rattle.image.specs.Rows.operand_bytes Rattle.image.specs.Lists.all_below Rattle.image.specs.Lists.all_in Rattle.image.specs.Lists.all_true Rattle.image.specs.Lists.member Rattle.image.specs.Lists.distinct Rattle.image.specs.Lists.up_from Rattle.image.specs.Lists.gather Rattle.image.specs.Operands.is_scalar_value Rattle.image.specs.Operands.operand_value_holds Rattle.image.specs.Operands.operand_holds Rattle.image.specs.Rules.counts_what_follows Rattle.image.specs.Rules.version_is_one Rattle.image.specs.Rules.tables_fill_the_rest Rattle.image.specs.Rules.listed Rattle.image.specs.Rules.types_listed Rattle.image.specs.Rules.is_integer_size Rattle.image.specs.Rules.adt_may_have Rattle.image.specs.Rules.type_shape_holds Rattle.image.specs.Rules.type_holds Rattle.image.specs.Rules.variants_by Rattle.image.specs.Rules.adts_share_no_variant Rattle.image.specs.Rules.variant_holds Rattle.image.specs.Rules.binding_holds Rattle.image.specs.Rules.within_limits Rattle.image.specs.Subpatterns.if_present Rattle.image.specs.Subpatterns.subpatterns_by Rattle.image.specs.Patterns.path_holds Rattle.image.specs.Patterns.pattern_shape_holds Rattle.image.specs.Patterns.pattern_holds Rattle.image.specs.Patterns.subpatterns_below Rattle.image.specs.Patterns.used_once Rattle.image.specs.Valid.valid Rattle.image.specs.Types.shape_by Rattle.image.specs.Types.ty_of Rattle.image.specs.Types.variant_of Rattle.image.specs.Types.binding_of Rattle.image.specs.Types.operand_of Rattle.image.specs.Tree.word? Rattle.image.specs.Tree.operand? Rattle.image.specs.Tree.trees Rattle.image.specs.Tree.tree? Rattle.image.specs.Tree.target Rattle.image.specs.Tree.node_by Rattle.image.specs.Tree.node Rattle.image.specs.Tree.tree_of Rattle.image.specs.Tree.tree Rattle.place.specs.Elems.elem_of Rattle.place.specs.Elems.word_of Rattle.place.specs.Places.projection_of Rattle.place.specs.PlaceTypes.field_of Rattle.place.specs.PlaceTypes.deref_ty Rattle.place.specs.PlaceTypes.adt_field_ty Rattle.place.specs.PlaceTypes.field_ty Rattle.place.specs.PlaceTypes.element_ty Rattle.place.specs.PlaceTypes.subslice_ty Rattle.place.specs.PlaceTypes.adt_downcast_ty Rattle.place.specs.PlaceTypes.downcast_ty Rattle.place.specs.PlaceTypes.ty_projection Rattle.place.specs.PlaceTypes.variant_projection Rattle.place.specs.PlaceTypes.part_projection Rattle.place.specs.PlaceTypes.projection_ty Rattle.place.specs.PlaceTypes.multi_projection_ty Rattle.mir.specs.Blocks.term_row Rattle.mir.specs.Statements.halves Rattle.mir.specs.Statements.place_words Rattle.mir.specs.Locals.local_ty Rattle.mir.specs.Rvalues.constant_words Rattle.mir.specs.Rvalues.left_words Rattle.mir.specs.Rvalues.place_rvalue_kind Rattle.mir.specs.Rvalues.binary_kind Rattle.mir.specs.Rvalues.live_row Rattle.mir.specs.Rvalues.dead_row Rattle.mir.specs.Rvalues.place_rvalue_row Rattle.mir.specs.Rvalues.constant_row Rattle.mir.specs.Rvalues.binary_row Rattle.state.specs.Steps.new_block Rattle.state.specs.Steps.set_terminator Rattle.state.specs.Steps.push_statement Rattle.state.specs.Steps.new_local Rattle.state.specs.Steps.push_scope Rattle.state.specs.Steps.push_entry Rattle.state.specs.Steps.try_block Rattle.state.specs.Steps.try_statement Rattle.state.specs.Steps.try_local Rattle.state.specs.Steps.try_scope Rattle.state.specs.Steps.try_entry Rattle.literals.specs.Literals.constant_of Rattle.literals.specs.Literals.string_constant Rattle.literals.specs.Literals.integer_constant Rattle.literals.specs.Literals.literal_by Rattle.literals.specs.Literals.lower_literal_to_operand Rattle.literals.specs.Literals.lower_const_to_operand Rattle.literals.specs.Literals.literal_or_const_by Rattle.literals.specs.Literals.lower_literal_or_const_to_operand Rattle.lower_spec.specs.Temps.is_slice Rattle.lower_spec.specs.Temps.is_held Rattle.lower_spec.specs.Temps.mark_live Rattle.lower_spec.specs.Temps.temp Rattle.lower_spec.specs.Temps.binding_local Rattle.views.specs.Views.terminator_of Rattle.views.specs.Views.elems_at Rattle.views.specs.Views.path_of Rattle.views.specs.Views.constant_at Rattle.views.specs.Views.left_of Rattle.views.specs.Views.line_of Rattle.views.specs.Views.mir_of Rattle.refusals.specs.Refusals.number_of Rattle.refusals.specs.Refusals.reason_of Rattle.refusals.specs.Refusals.refusal_at Rattle.pattern_matching.specs.Walking.visited Rattle.pattern_matching.specs.Walking.project Rattle.pattern_matching.specs.Walking.local_place Rattle.pattern_matching.specs.Walking.else_state Rattle.pattern_matching.specs.Walking.else_block Rattle.pattern_matching.specs.Walking.derefed Rattle.pattern_matching.specs.Walking.entered Rattle.pattern_matching.specs.Tests.compare Rattle.pattern_matching.specs.Tests.pattern_match_const Rattle.pattern_matching.specs.Tests.literal Rattle.pattern_matching.specs.Tests.lit_by Rattle.pattern_matching.specs.Tests.constant_path Rattle.pattern_matching.specs.Tests.range_end Rattle.pattern_matching.specs.Tests.range_end? Rattle.pattern_matching.specs.Tests.binding_rvalue Rattle.pattern_matching.specs.Tests.pattern_match_binding Rattle.pattern_matching.specs.Tests.local_path Rattle.pattern_matching.specs.Variants.place_ty Rattle.pattern_matching.specs.Variants.shape_of Rattle.pattern_matching.specs.Variants.pattern_match_adt Rattle.pattern_matching.specs.Variants.pattern_match_tuple_like Rattle.pattern_matching.specs.Variants.ellipsis_at Rattle.pattern_matching.specs.Variants.tuple_on Rattle.pattern_matching.specs.Variants.tuple_pattern Rattle.pattern_matching.specs.Variants.ref_on Rattle.pattern_matching.specs.Variants.ref_pattern Rattle.pattern_matching.specs.Variants.resolved Rattle.pattern_matching.specs.Variants.record_fields Rattle.pattern_matching.specs.Variants.variant_fields Rattle.pattern_matching.specs.Variants.discriminant_test Rattle.pattern_matching.specs.Variants.variant_on Rattle.pattern_matching.specs.Variants.adt_on Rattle.pattern_matching.specs.Variants.pattern_matching_variant Rattle.pattern_matching.specs.Variants.variant_pattern Rattle.pattern_matching.specs.Slices.length_constant Rattle.pattern_matching.specs.Slices.length_compared Rattle.pattern_matching.specs.Slices.length_test Rattle.pattern_matching.specs.Slices.rest_bound Rattle.pattern_matching.specs.Slices.slice_items Rattle.pattern_matching.specs.Slices.slice_on Rattle.pattern_matching.specs.Patterns.alternatives Rattle.pattern_matching.specs.Patterns.alternatives_end Rattle.pattern_matching.specs.Patterns.or_pattern Rattle.pattern_matching.specs.Patterns.end_op Rattle.pattern_matching.specs.Patterns.range_pattern Rattle.pattern_matching.specs.Patterns.path_pattern Rattle.pattern_matching.specs.Patterns.bind_pattern Rattle.pattern_matching.specs.Patterns.rest_by Rattle.pattern_matching.specs.Patterns.rest_of Rattle.pattern_matching.specs.Patterns.pattern_match_inner Rattle.pattern_matching.specs.Patterns.lowerings Rattle.pattern_matching.specs.Patterns.lowering? Rattle.pattern_matching.specs.Patterns.pattern_match Rattle.image.specs.Integers.least_value Rattle.image.specs.Integers.greatest_value Rattle.image.specs.Integers.in_range Rattle.image.specs.Integers.integer_value Rattle.cases_spec.specs.Cases.kind_number Rattle.cases_spec.specs.Cases.tuple_fields Rattle.cases_spec.specs.Cases.referent Rattle.counting.specs.Reaching.is_enum Rattle.counting.specs.Reaching.is_slice_shape Rattle.counting.specs.Reaching.behind_derefs Rattle.counting.specs.Reaching.field_count Rattle.counting.specs.Reaching.path_tests Rattle.counting.specs.Reaching.zip Rattle.counting.specs.Reaching.in_a_row Rattle.counting.specs.Reaching.by_fields Rattle.counting.specs.Reaching.downcast Rattle.counting.specs.Reaching.of_variant Rattle.counting.specs.Reaching.slice_arguments Rattle.counting.specs.Reaching.some_argument Rattle.counting.specs.Reaching.all_alternatives Rattle.counting.specs.Reaching.can_fail Rattle.meaning.specs.Values.items Rattle.meaning.specs.Values.values Rattle.meaning.specs.Values.derefed Rattle.meaning.specs.Values.parts_of Rattle.meaning.specs.Values.middle Rattle.meaning.specs.Values.subslice Rattle.meaning.specs.Values.part_at Rattle.meaning.specs.Values.place_in Rattle.meaning.specs.Values.int_fits Rattle.meaning.specs.Values.has_variant Rattle.meaning.specs.Values.value_fits Rattle.meaning.specs.Running.update Rattle.meaning.specs.Running.value_of Rattle.meaning.specs.Running.data_bytes Rattle.meaning.specs.Running.signed_number Rattle.meaning.specs.Running.constant_by Rattle.meaning.specs.Running.constant_value Rattle.meaning.specs.Running.scalar_of Rattle.meaning.specs.Running.bytes_of Rattle.meaning.specs.Running.same_numbers Rattle.meaning.specs.Running.same_value Rattle.meaning.specs.Running.compared Rattle.meaning.specs.Running.discriminant_of Rattle.meaning.specs.Running.elem_numbers Rattle.meaning.specs.Running.same_elem Rattle.meaning.specs.Running.behind_root Rattle.meaning.specs.Running.part_behind Rattle.meaning.specs.Running.read Rattle.meaning.specs.Running.of_place_value Rattle.meaning.specs.Running.left_value Rattle.meaning.specs.Running.rvalue_value Rattle.meaning.specs.Running.execute Rattle.meaning.specs.Running.switched Rattle.meaning.specs.Executing.runs Rattle.meaning.specs.Matching.onto Rattle.meaning.specs.Matching.crossed Rattle.meaning.specs.Matching.crossed_path Rattle.meaning.specs.Matching.evaluated Rattle.meaning.specs.Matching.created Rattle.meaning.specs.Matching.from_start Rattle.meaning.specs.Matching.to_end Rattle.meaning.specs.Matching.match_all Rattle.meaning.specs.Matching.match_row Rattle.meaning.specs.Matching.match_fields Rattle.meaning.specs.Matching.is_variant Rattle.meaning.specs.Matching.path_matches Rattle.meaning.specs.Matching.matches Rattle.meaning.specs.Matching.bound_as Rattle.meaning.specs.Matching.bind_all Rattle.meaning.specs.Matching.row_fields Rattle.meaning.specs.Matching.record_fields Rattle.meaning.specs.Matching.last_items Rattle.meaning.specs.Matching.variant_path Rattle.meaning.specs.Binding.rest_binds? Rattle.meaning.specs.Binding.binds Rattle.meaning.specs.Typing.adt_variants Rattle.meaning.specs.Typing.variant_fields Rattle.meaning.specs.Typing.field_type Rattle.meaning.specs.Typing.element_type Rattle.meaning.specs.Fit.behind Rattle.meaning.specs.Fit.type_is_the_places Rattle.meaning.specs.Fit.arguments_fit Rattle.meaning.specs.Fit.field_numbers Rattle.meaning.specs.Fit.discriminants_differ Rattle.meaning.specs.Fit.items_fit Rattle.meaning.specs.Fit.rest_fits Rattle.meaning.specs.Fit.integer_fits Rattle.meaning.specs.Fit.refers_to_str Rattle.meaning.specs.Fit.constant_fits Rattle.meaning.specs.Fit.literal_fits Rattle.meaning.specs.Fit.end_fits Rattle.meaning.specs.Fit.path_fits Rattle.meaning.specs.Fit.each_fits Rattle.meaning.specs.Fit.row_fits Rattle.meaning.specs.Fit.by_fields_fit Rattle.meaning.specs.Fit.items_all_fit Rattle.meaning.specs.Fit.types_fit Rattle.meaning.specs.Fit.stands_in Rattle.meaning.specs.Fit.within Rattle.meaning.specs.Fit.rest_ty Rattle.meaning.specs.Fit.rest_bound? Rattle.meaning.specs.Fit.pat_count Rattle.meaning.specs.Fit.bound_in Rattle.meaning.specs.Fit.bindings_fit Rattle.meaning.specs.Fit.fields_there Rattle.meaning.specs.Fit.path_taken Rattle.meaning.specs.Fit.nothing_refused Rattle.meaning.specs.Fit.present Rattle.meaning.specs.Fit.locals_differ Rattle.meaning.specs.Fit.fits start_state start try judged
 as_judged = refl

@@ -1,7 +1,7 @@
 -- Document 01's start of its corners, "block 0 open, no else, place local 0, one scope open", and what a lowering from there comes to.
 -- Assumes nothing: these are definitions.
 use Rattle.std.specs.Prelude.{ℕ, ◌-◌, not, cond, List, [], ◌∷◌, map}
-use Rattle.refusals.specs.Refusals.{Refusal, breaks_aRule, refusal_at}
+use Rattle.refusals.specs.Refusals.{Refusal, breaks_a_rule, refusal_at}
 use Rattle.row_tables.specs.Rows.{zeros}
 use Rattle.image.specs.Tables.{pattern_count, binding_count}
 use Rattle.image.specs.Lists.{up_from}
@@ -45,7 +45,7 @@ answer_of (refused e p) = refusal (refusal_at e p)
 -- the last pattern of a valid image, lowered against local 0 of the type t
 unfoldable pub answer_by : Lowers → List ℕ → ℕ → Answer
 answer_by lowers image t =
-    cond (not (valid image)) (refusal breaks_aRule)
+    cond (not (valid image)) (refusal breaks_a_rule)
     (answer_of
     (lowers image (up_from 1 (binding_count image)) (tree image (pattern_count image - 1)) (start image t) (record { 0 = 0 }) OptBlock.None (local_place (record { 0 = 0 }))))
 

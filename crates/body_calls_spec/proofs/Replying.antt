@@ -5,7 +5,7 @@ use mathlib.Core.Bool.{Bool, true, false, ◌&&◌}
 use mathlib.Core.Option.{none, some}
 use mathlib.Core.List.{List}
 use Rattle.refusals.specs.declared.MirLowerError.{MirLowerError}
-use Rattle.refusals.specs.Refusals.{breaks_aRule, names_nothing, refusal_at}
+use Rattle.refusals.specs.Refusals.{breaks_a_rule, names_nothing, refusal_at}
 use Rattle.image.specs.declared.Tables.{Tables}
 use Rattle.image.specs.Valid.{valid}
 use Rattle.image.proofs.Bools.{and_true, and_false_left, and_false_right}
@@ -29,7 +29,7 @@ module _ {A R : Type 0} {way : Way A R} {b : Body} {c : Counts} (image : List �
   by {r = r} {b₁ = b₁} e G = subst (λ x. Gives way b c x r b₁) e G
 
   -- the image breaks a rule
-  pub bad_image_lem : Opened.BadImage ≡ opened_of image b c → way.numbers (way.answer c bad_image) ≡ some breaks_aRule →
+  pub bad_image_lem : Opened.BadImage ≡ opened_of image b c → way.numbers (way.answer c bad_image) ≡ some breaks_a_rule →
       Gives way b c (body_call image b c names step) (way.answer c bad_image) b
   bad_image_lem e h = by (no_rules (valid image) (body_taken image b c && names) step (not_valid image b c e)) (gives_bad_image way h)
 

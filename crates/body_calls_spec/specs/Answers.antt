@@ -1,6 +1,6 @@
 -- The answers of the calls on a body, by the definitions, and how each call answers. Assumes nothing: these are definitions.
 use Rattle.std.proofs.Math.Option.{Option, none, some}
-use Rattle.refusals.specs.Refusals.{Refusal, no_pattern, breaks_aRule, names_nothing, refusal_at}
+use Rattle.refusals.specs.Refusals.{Refusal, no_pattern, breaks_a_rule, names_nothing, refusal_at}
 use Rattle.mir.specs.declared.Counts.{Counts}
 use Rattle.state.specs.State.{State, counts_of}
 use Rattle.lower_spec.specs.declared.merging.OptBlock.{OptBlock}
@@ -46,25 +46,25 @@ abbrev pub temp_refusal : TempCall → Option Refusal
 temp_refusal (TempCall.Local c l) = none
 temp_refusal (TempCall.Refused e) = some (refusal_at e no_pattern)
 temp_refusal TempCall.BadCall = some names_nothing
-temp_refusal TempCall.BadImage = some breaks_aRule
+temp_refusal TempCall.BadImage = some breaks_a_rule
 
 abbrev pub merge_refusal : MergeCall → Option Refusal
 merge_refusal (MergeCall.At c b) = none
 merge_refusal (MergeCall.Refused e) = some (refusal_at e no_pattern)
 merge_refusal MergeCall.BadCall = some names_nothing
-merge_refusal MergeCall.BadImage = some breaks_aRule
+merge_refusal MergeCall.BadImage = some breaks_a_rule
 
 abbrev pub scope_refusal : ScopeCall → Option Refusal
 scope_refusal (ScopeCall.Now c) = none
 scope_refusal (ScopeCall.Refused e) = some (refusal_at e no_pattern)
 scope_refusal ScopeCall.BadCall = some names_nothing
-scope_refusal ScopeCall.BadImage = some breaks_aRule
+scope_refusal ScopeCall.BadImage = some breaks_a_rule
 
 abbrev pub drop_refusal : DropCall → Option Refusal
 drop_refusal (DropCall.At c b) = none
 drop_refusal (DropCall.Refused e) = some (refusal_at e no_pattern)
 drop_refusal DropCall.BadCall = some names_nothing
-drop_refusal DropCall.BadImage = some breaks_aRule
+drop_refusal DropCall.BadImage = some breaks_a_rule
 
 -- how each call answers
 abbrev pub temp_way : Way State TempCall

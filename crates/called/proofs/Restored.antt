@@ -6,7 +6,7 @@ use mathlib.Core.List.{List}
 use native.Mathlib.Omega.{arith}
 use Rattle.row_tables.specs.Rows.{zeros}
 use Rattle.refusals.specs.declared.MirLowerError.{MirLowerError}
-use Rattle.refusals.specs.Refusals.{Refusal, number_of, refusal_at, breaks_aRule, names_nothing}
+use Rattle.refusals.specs.Refusals.{Refusal, number_of, refusal_at, breaks_a_rule, names_nothing}
 use Rattle.mir.specs.declared.BasicBlockId.{BasicBlockId}
 use Rattle.mir.specs.declared.Counts.{Counts}
 use Rattle.state.specs.State.{Body, State, decode}
@@ -72,7 +72,7 @@ zeroed : (v : List ℕ) (refusal : Refusal) (v' : List ℕ) → 2 < refusal.numb
 zeroed v refusal v' high is = record { nothing_written = λ h. absurd (omega (arith, high, h)); none_visited = λ h. is }
 
 -- 1 and 2 are at most 2
-first_low : (refusal : Refusal) → some breaks_aRule ≡ some refusal → refusal.number ≤ 2
+first_low : (refusal : Refusal) → some breaks_a_rule ≡ some refusal → refusal.number ≤ 2
 first_low refusal is = subst (λ (x : Refusal). x.number ≤ 2) (same_some is) (omega arith)
 
 second_low : (refusal : Refusal) → some names_nothing ≡ some refusal → refusal.number ≤ 2

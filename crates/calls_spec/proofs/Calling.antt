@@ -5,7 +5,7 @@ use mathlib.Core.Bool.{Bool, true, false}
 use mathlib.Core.Option.{none, some}
 use native.Mathlib.Omega.{arith}
 use Rattle.refusals.specs.declared.MirLowerError.{MirLowerError}
-use Rattle.refusals.specs.Refusals.{breaks_aRule, names_nothing, refusal_at, Result, done, stopped}
+use Rattle.refusals.specs.Refusals.{breaks_a_rule, names_nothing, refusal_at, Result, done, stopped}
 use Rattle.mir.specs.declared.Counts.{Counts}
 use Rattle.state.specs.State.{Body, decode, encode, counts_of}
 use Rattle.calls_spec.specs.Calls.{Called, bad_image, bad_call, refused_at, accepted, call, by_step}
@@ -27,7 +27,7 @@ module _ {A : Type 0} (rules names : Bool) (step : Called A) where
 
 -- numbers 1 and 2 write nothing
 module _ {A R : Type 0} (way : Way A R) {b : Body} {c : Counts} where
-  pub gives_bad_image : way.numbers (way.answer c bad_image) ≡ some breaks_aRule → Gives way b c bad_image (way.answer c bad_image) b
+  pub gives_bad_image : way.numbers (way.answer c bad_image) ≡ some breaks_a_rule → Gives way b c bad_image (way.answer c bad_image) b
   gives_bad_image h = record { reply = refl; refusal = h; tables = refl; holds = tt }
 
   pub gives_bad_call : way.numbers (way.answer c bad_call) ≡ some names_nothing → Gives way b c bad_call (way.answer c bad_call) b

@@ -2,7 +2,7 @@
 use Rattle.std.specs.Prelude.{ℕ, Bool, cond}
 use Rattle.std.proofs.Math.Option.{Option, none, some}
 use Rattle.refusals.specs.declared.MirLowerError.{MirLowerError}
-use Rattle.refusals.specs.Refusals.{Refusal, no_pattern, breaks_aRule, names_nothing, refusal_at, Result, done, stopped}
+use Rattle.refusals.specs.Refusals.{Refusal, no_pattern, breaks_a_rule, names_nothing, refusal_at, Result, done, stopped}
 use Rattle.mir.specs.declared.Counts.{Counts}
 use Rattle.state.specs.State.{Body, State, decode, encode}
 
@@ -24,7 +24,7 @@ by_step (stopped e) = refused_at e no_pattern
 
 -- document 01's three numbers, where there is a refusal
 abbrev pub refusal_of : {A : Type 0} → Called A → Option Refusal
-refusal_of bad_image = some breaks_aRule
+refusal_of bad_image = some breaks_a_rule
 refusal_of bad_call = some names_nothing
 refusal_of (refused_at e p) = some (refusal_at e p)
 refusal_of (accepted a) = none

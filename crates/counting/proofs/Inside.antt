@@ -18,7 +18,7 @@ use Rattle.pattern_matching.specs.Walking.{Ctx, Out, Lowering, project, visited,
 use Rattle.pattern_matching.specs.Variants.{place_ty, shape_of, needed, tuple_on, tuple_pattern, ref_on, ref_pattern}
 use Rattle.pattern_matching.specs.Patterns.{refusing, passing}
 use Rattle.cases_spec.specs.Cases.{tuple_fields}
-use Rattle.counting.specs.Reaching.{behind_derefs, in_aRow, field_count, some_argument, Reaching, testing, through_arguments}
+use Rattle.counting.specs.Reaching.{behind_derefs, in_a_row, field_count, some_argument, Reaching, testing, through_arguments}
 use Rattle.counting.proofs.Holding.{Holds, holds, refuses, holds_step, holds_as}
 use Rattle.counting.proofs.Going.{visit}
 use Rattle.counting.proofs.Passing.{Pass, mode_of, After, after_more, after_plain}
@@ -50,8 +50,8 @@ inside_refused image h e fails reach = record { goes = λ pass c current els pla
 
 -- a Tuple
 pub inside_tuple : {image : List ℕ} {ls : List Lowering} {fs : List (PlaceTy → Bool)} {rs : List Reaching} (h : Head) (ellipsis : Option ℕ) → Each image ls fs rs →
-    Inside image h (tuple_pattern image h.number ls ellipsis) (λ ty. some_argument image ty (in_aRow ellipsis (field_count (shape_of image ty)) fs))
-    (λ ty k f. testing h k f 0 0 ∷ through_arguments image ty k (in_aRow ellipsis (field_count (shape_of image ty)) rs))
+    Inside image h (tuple_pattern image h.number ls ellipsis) (λ ty. some_argument image ty (in_a_row ellipsis (field_count (shape_of image ty)) fs))
+    (λ ty k f. testing h k f 0 0 ∷ through_arguments image ty k (in_a_row ellipsis (field_count (shape_of image ty)) rs))
 unfolding tuple_pattern tuple_on field_count tuple_fields
 inside_tuple {image = image} {ls = ls} {fs = fs} {rs = rs} h ellipsis e =
     record {
@@ -62,7 +62,7 @@ inside_tuple {image = image} {ls = ls} {fs = fs} {rs = rs} h ellipsis e =
   where
     Tuples : Pass → Ctx → OptBlock → PlaceTy → ℕ → Bool → Option Shape → Out → Type 0
     Tuples pass c els ty k f s r =
-        After pass c els (some_argument image ty (in_aRow ellipsis (field_count s) fs)) k f (testing h k f 0 0 ∷ through_arguments image ty k (in_aRow ellipsis (field_count s) rs)) r
+        After pass c els (some_argument image ty (in_a_row ellipsis (field_count s) fs)) k f (testing h k f 0 0 ∷ through_arguments image ty k (in_a_row ellipsis (field_count s) rs)) r
 
     by : (pass : Pass) (c : Ctx) (current : BasicBlockId) (els : OptBlock) (place : Place) (ty : PlaceTy) (k : ℕ) (f : Bool) (s : Option Shape) → On image (visited c h.number) place ty →
         Holds (Tuples pass c els ty k f s) (needed h.number s (λ s. tuple_on s h.number ls ellipsis (mode_of pass) (visited c h.number) current els place))
@@ -73,7 +73,7 @@ inside_tuple {image = image} {ls = ls} {fs = fs} {rs = rs} h ellipsis e =
     by pass c current els place ty k f (some str) o = refuses (Tuples pass c els ty k f (some str)) (MirLowerError.TypeError 1) h.number
     by pass c current els place ty k f (some (tuple fields)) o =
         let visit = after_plain pass h k f c current els in
-        holds_as {P = AfterArguments image pass (visited c h.number) els ty k (in_aRow ellipsis (length fields) fs) (in_aRow ellipsis (length fields) rs)} (λ r a. after_more visit a)
+        holds_as {P = AfterArguments image pass (visited c h.number) els ty k (in_a_row ellipsis (length fields) fs) (in_a_row ellipsis (length fields) rs)} (λ r a. after_more visit a)
         (holds_row image h.number (length fields) pass (visited c h.number) current els place ty k ellipsis e o)
     by pass c current els place ty k f (some (adt kind variants)) o = refuses (Tuples pass c els ty k f (some (adt kind variants))) (MirLowerError.TypeError 1) h.number
     by pass c current els place ty k f (some (reference t)) o = refuses (Tuples pass c els ty k f (some (reference t))) (MirLowerError.TypeError 1) h.number

@@ -19,7 +19,7 @@ use Rattle.mir.specs.declared.BasicBlockId.{BasicBlockId}
 use Rattle.lower_spec.specs.declared.merging.OptBlock.{OptBlock}
 use Rattle.pattern_matching.specs.Walking.{Ctx, Out, Walk, refused, Lowering, step, out, project, visited, in_check}
 use Rattle.pattern_matching.specs.Variants.{AdtPatternShape, needed, variant_fields, discriminant_test, variant_on, adt_on}
-use Rattle.counting.specs.Reaching.{Argument, is_enum, downcast, in_aRow, by_fields, some_argument, Reaching, Reached, naming, through_arguments}
+use Rattle.counting.specs.Reaching.{Argument, is_enum, downcast, in_a_row, by_fields, some_argument, Reaching, Reached, naming, through_arguments}
 use Rattle.counting.proofs.Holding.{Holds, holds, refuses, holds_next, holds_step, holds_as}
 use Rattle.counting.proofs.Going.{built_none, went_built}
 use Rattle.counting.proofs.Stepping.{steps_plain}
@@ -36,7 +36,7 @@ pub record Fielded (image : List ℕ) (shape : AdtPatternShape) (fs : ℕ → Li
 
 -- arguments in a row
 pub fielded_row : {image : List ℕ} {ls : List Lowering} {fs : List (PlaceTy → Bool)} {rs : List Reaching} (ellipsis : Option ℕ) → Each image ls fs rs →
-    Fielded image (AdtPatternShape.Tuple ls ellipsis) (λ n. in_aRow ellipsis n fs) (λ n. in_aRow ellipsis n rs)
+    Fielded image (AdtPatternShape.Tuple ls ellipsis) (λ n. in_a_row ellipsis n fs) (λ n. in_a_row ellipsis n rs)
 unfolding variant_fields
 fielded_row {image = image} ellipsis e = record { goes = λ p n pass c current els place ty k o. holds_row image p n pass c current els place ty k ellipsis e o }
 

@@ -30,7 +30,7 @@ use Rattle.place.specs.declared.place_ty.PlaceTy.{PlaceTy}
 use Rattle.place.specs.PlaceTypes.{projection_ty, multi_projection_ty}
 use Rattle.pattern_matching.specs.Variants.{shape_of, fields_up_to}
 use Rattle.pattern_matching.specs.Slices.{suffix_items}
-use Rattle.counting.specs.Reaching.{behind_derefs, Argument, zip, in_aRow, by_fields, field_count, is_enum, downcast, of_variant, slice_arguments, failing, Reached, an_or, Reaching, path_reached, through_arguments, through_alternatives, reached, reachings, reaching?}
+use Rattle.counting.specs.Reaching.{behind_derefs, Argument, zip, in_a_row, by_fields, field_count, is_enum, downcast, of_variant, slice_arguments, failing, Reached, an_or, Reaching, path_reached, through_arguments, through_alternatives, reached, reachings, reaching?}
 use Rattle.counting.specs.Counting.{reached_from, visits_of, IsReached}
 use Rattle.counting.proofs.Tallies.{hit_or}
 use Rattle.counting.proofs.Once.{visited_exactly, never_visited}
@@ -95,8 +95,8 @@ module _ {n : ℕ} where
   args_zip (elem ∷ elems) each_none = args_none
   args_zip (elem ∷ elems) (each_more u e) = args_more u (args_zip elems e)
 
-  args_in_row : {rs : List Reaching} (ellipsis : Option ℕ) (fields : ℕ) → Each n rs → Args n (in_aRow ellipsis fields rs)
-  unfolding in_aRow
+  args_in_row : {rs : List Reaching} (ellipsis : Option ℕ) (fields : ℕ) → Each n rs → Args n (in_a_row ellipsis fields rs)
+  unfolding in_a_row
   args_in_row none fields e = args_zip (fields_up_to fields) e
   args_in_row (some at) fields e =
       args_append (args_zip (fields_up_to fields) (each_take at e)) (args_zip (reverse (fields_up_to fields)) (each_onto (each_drop at e) each_none))
@@ -232,7 +232,7 @@ module _ (image : List ℕ) (g : ℕ → Pat) (p : ℕ) (here : (q : ℕ) → q 
           at = λ ty k f.
               let now = behind_derefs image ty derefs in
               let args = listed image 1 row.a row.b in
-              on_top k refl refl (low_arguments image now k (args_variant image now (word? row.d) (λ m. in_aRow (word? row.c) m (reachings image (trees g args))) (λ m. args_in_row (word? row.c) m (each_below args e))));
+              on_top k refl refl (low_arguments image now k (args_variant image now (word? row.d) (λ m. in_a_row (word? row.c) m (reachings image (trees g args))) (λ m. args_in_row (word? row.c) m (each_below args e))));
         }
     node_low PatKind.Ref row e = record { at = λ ty k f. on_top k refl refl ((one_below row.a e).at (projection_ty (behind_derefs image ty derefs) image ProjectionElem.Deref) k false) }
     node_low PatKind.Expr row e = record { at = λ ty k f. on_top k refl refl low_none }

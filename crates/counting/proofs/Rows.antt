@@ -19,7 +19,7 @@ use Rattle.mir.specs.declared.BasicBlockId.{BasicBlockId}
 use Rattle.lower_spec.specs.declared.merging.OptBlock.{OptBlock}
 use Rattle.pattern_matching.specs.Walking.{Ctx, Out, Walk, refused, Lowering, next}
 use Rattle.pattern_matching.specs.Variants.{pattern_match_adt, fields_up_to, pattern_match_tuple_like, ellipsis_at, resolved, record_fields}
-use Rattle.counting.specs.Reaching.{Argument, zip, in_aRow, by_fields, some_argument, Reaching, Reached, through_arguments}
+use Rattle.counting.specs.Reaching.{Argument, zip, in_a_row, by_fields, some_argument, Reaching, Reached, through_arguments}
 use Rattle.counting.proofs.Holding.{Holds, refuses, holds_next, holds_as}
 use Rattle.counting.proofs.Typed.{On}
 use Rattle.counting.proofs.Passing.{Pass, mode_of, After, after_more}
@@ -88,8 +88,8 @@ module _ (image : List ℕ) (p n : ℕ) (pass : Pass) (c : Ctx) (current : Basic
 
   -- arguments in a row on n fields
   pub holds_row : {ls : List Lowering} {fs : List (PlaceTy → Bool)} {rs : List Reaching} (ellipsis : Option ℕ) → Each image ls fs rs → On image c place ty →
-      Holds (AfterArguments image pass c els ty k (in_aRow ellipsis n fs) (in_aRow ellipsis n rs)) (pattern_match_tuple_like p ls (ellipsis_at ellipsis ls) n (mode_of pass) c current els place)
-  unfolding in_aRow pattern_match_tuple_like ellipsis_at
+      Holds (AfterArguments image pass c els ty k (in_a_row ellipsis n fs) (in_a_row ellipsis n rs)) (pattern_match_tuple_like p ls (ellipsis_at ellipsis ls) n (mode_of pass) c current els place)
+  unfolding in_a_row pattern_match_tuple_like ellipsis_at
   holds_row {ls = ls} {fs = fs} {rs = rs} (some at) e o = holds_two (leb at (length ls)) (each_take at e) (each_drop at e) o
   holds_row {ls = ls} {fs = fs} {rs = rs} none e o =
       let F = fields_up_to n in

@@ -14,7 +14,7 @@ use Rattle.place.specs.declared.place_ty.PlaceTy.{PlaceTy}
 use Rattle.place.specs.PlaceTypes.{projection_ty, multi_projection_ty}
 use Rattle.pattern_matching.specs.Variants.{shape_of, fields_up_to}
 use Rattle.pattern_matching.specs.Slices.{suffix_items}
-use Rattle.counting.specs.Reaching.{behind_derefs, Argument, zip, in_aRow, by_fields, field_count, is_enum, downcast, of_variant, slice_arguments, failing, Reached, Reaching, path_reached, through_arguments, through_alternatives, reached, reachings, reaching?}
+use Rattle.counting.specs.Reaching.{behind_derefs, Argument, zip, in_a_row, by_fields, field_count, is_enum, downcast, of_variant, slice_arguments, failing, Reached, Reaching, path_reached, through_arguments, through_alternatives, reached, reachings, reaching?}
 use Rattle.counting.specs.Counting.{total}
 use Rattle.counting.proofs.Passing.{total_append}
 use Rattle.counting.proofs.Tallies.{hit}
@@ -80,8 +80,8 @@ module _ {n : ℕ} where
   args_zip (elem ∷ elems) row_none = args_none
   args_zip (elem ∷ elems) (row_more w row le) = args_more w (args_zip elems row) le
 
-  args_in_row : {rs : List Reaching} {c : ℕ} (ellipsis : Option ℕ) (fields : ℕ) → Row n rs c → Args n (in_aRow ellipsis fields rs) c
-  unfolding in_aRow
+  args_in_row : {rs : List Reaching} {c : ℕ} (ellipsis : Option ℕ) (fields : ℕ) → Row n rs c → Args n (in_a_row ellipsis fields rs) c
+  unfolding in_a_row
   args_in_row none fields row = args_zip (fields_up_to fields) row
   args_in_row (some at) fields row =
       let x = cut at row in
@@ -203,7 +203,7 @@ module _ (image : List ℕ) (n : ℕ) where
           at = λ ty k f.
               let here = behind_derefs image ty h.derefs in
               hits_below n h.number _ _ _ refl
-              (hits_arguments image here k (args_variant image here v (λ m. in_aRow ellipsis m (reachings image args)) (λ m. args_in_row ellipsis m (row args))));
+              (hits_arguments image here k (args_variant image here v (λ m. in_a_row ellipsis m (reachings image args)) (λ m. args_in_row ellipsis m (row args))));
         }
     within (Pat.Ref h s) =
         record {

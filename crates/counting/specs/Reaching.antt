@@ -28,9 +28,9 @@ zip (elem ∷ elems) [] = []
 zip (elem ∷ elems) (x ∷ xs) = record { elems = elem ∷ []; what = x } ∷ zip elems xs
 
 -- arguments in a row on so many fields, of which those from `at` on stand behind an ellipsis
-unfoldable pub in_aRow : {A : Type 0} → Option ℕ → ℕ → List A → List (Argument A)
-in_aRow none fields xs = zip (fields_up_to fields) xs
-in_aRow (some at) fields xs = zip (fields_up_to fields) (take at xs) ++ zip (reverse (fields_up_to fields)) (reverse (drop at xs))
+unfoldable pub in_a_row : {A : Type 0} → Option ℕ → ℕ → List A → List (Argument A)
+in_a_row none fields xs = zip (fields_up_to fields) xs
+in_a_row (some at) fields xs = zip (fields_up_to fields) (take at xs) ++ zip (reverse (fields_up_to fields)) (reverse (drop at xs))
 
 -- arguments by the numbers of their fields, those of them that there are
 unfoldable pub by_fields : {A : Type 0} → List (Option ℕ) → List A → List (Argument A)
@@ -108,7 +108,7 @@ module _ (image : List ℕ) where
     can_fail (Pat.Wild h) ty = false
     can_fail (Pat.Tuple h args ellipsis) ty =
         let here = behind_derefs image ty h.derefs in
-        some_argument image here (in_aRow ellipsis (field_count (shape_of image here)) (failing args))
+        some_argument image here (in_a_row ellipsis (field_count (shape_of image here)) (failing args))
     can_fail (Pat.Or h alts) ty = all_alternatives (behind_derefs image ty h.derefs) (failing alts)
     can_fail (Pat.Record h fields args v) ty =
         let here = behind_derefs image ty h.derefs in
@@ -121,7 +121,7 @@ module _ (image : List ℕ) where
     can_fail (Pat.Bind h b s how annotation) ty = can_fail? s (behind_derefs image ty h.derefs)
     can_fail (Pat.TupleStruct h args ellipsis v) ty =
         let here = behind_derefs image ty h.derefs in
-        is_enum (shape_of image here) || some_argument image here (of_variant image here v (λ n. in_aRow ellipsis n (failing args)))
+        is_enum (shape_of image here) || some_argument image here (of_variant image here v (λ n. in_a_row ellipsis n (failing args)))
     can_fail (Pat.Ref h s) ty = can_fail s (projection_ty (behind_derefs image ty h.derefs) image ProjectionElem.Deref)
     can_fail (Pat.Expr h) ty = false
     can_fail (Pat.Box h) ty = false
@@ -205,7 +205,7 @@ module _ (image : List ℕ) where
     reached (Pat.Wild h) ty k f = testing h k f 0 0 ∷ []
     reached (Pat.Tuple h args ellipsis) ty k f =
         let here = behind_derefs image ty h.derefs in
-        testing h k f 0 0 ∷ through_arguments image here k (in_aRow ellipsis (field_count (shape_of image here)) (reachings args))
+        testing h k f 0 0 ∷ through_arguments image here k (in_a_row ellipsis (field_count (shape_of image here)) (reachings args))
     reached (Pat.Or h alts) ty k f =
         an_or h k f ∷ through_alternatives (behind_derefs image ty h.derefs) k (failing image alts) (reachings alts)
     reached (Pat.Record h fields args v) ty k f =
@@ -223,7 +223,7 @@ module _ (image : List ℕ) where
     reached (Pat.Bind h b s how annotation) ty k f = binding h k f 0 0 (some b) ∷ reaching? s (behind_derefs image ty h.derefs) k false
     reached (Pat.TupleStruct h args ellipsis v) ty k f =
         let here = behind_derefs image ty h.derefs in
-        naming h k f (is_enum (shape_of image here)) ∷ through_arguments image here k (of_variant image here v (λ n. in_aRow ellipsis n (reachings args)))
+        naming h k f (is_enum (shape_of image here)) ∷ through_arguments image here k (of_variant image here v (λ n. in_a_row ellipsis n (reachings args)))
     reached (Pat.Ref h s) ty k f =
         testing h k f 0 0 ∷ reached s (projection_ty (behind_derefs image ty h.derefs) image ProjectionElem.Deref) k false
     reached (Pat.Expr h) ty k f = testing h k f 0 0 ∷ []

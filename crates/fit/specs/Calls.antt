@@ -1,7 +1,7 @@
 -- The public fit test: every image and every number is taken, or refused by document 01's number. Assumes nothing: these are definitions.
 use Rattle.std.specs.Prelude.{ℕ, ◌≡◌, Bool, true, false, cond, List}
 use Rattle.std.proofs.Math.Option.{Option, none, some}
-use Rattle.refusals.specs.Refusals.{Refusal, breaks_aRule, names_nothing}
+use Rattle.refusals.specs.Refusals.{Refusal, breaks_a_rule, names_nothing}
 use Rattle.image.specs.Tables.{type_count, pattern_count, binding_count}
 use Rattle.image.specs.Tree.{tree}
 use Rattle.image.specs.Valid.{valid}
@@ -34,10 +34,10 @@ abbrev pub numbers : FitCall → Option Refusal
 numbers FitCall.Fits = none
 numbers FitCall.DoesNot = none
 numbers FitCall.BadCall = some names_nothing
-numbers FitCall.BadImage = some breaks_aRule
+numbers FitCall.BadImage = some breaks_a_rule
 
 abbrev pub refusal_of : Called → Option Refusal
-refusal_of bad_image = some breaks_aRule
+refusal_of bad_image = some breaks_a_rule
 refusal_of bad_call = some names_nothing
 refusal_of (tested b) = none
 

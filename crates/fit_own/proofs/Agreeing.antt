@@ -15,7 +15,7 @@ use Rattle.place.specs.declared.place_ty.PlaceTy.{PlaceTy}
 use Rattle.place.specs.PlaceTypes.{projection_ty, multi_projection_ty}
 use Rattle.pattern_matching.specs.Variants.{fields_up_to}
 use Rattle.pattern_matching.specs.Slices.{suffix_items}
-use Rattle.counting.specs.Reaching.{Argument, zip, in_aRow, by_fields, slice_arguments, some_argument}
+use Rattle.counting.specs.Reaching.{Argument, zip, in_a_row, by_fields, slice_arguments, some_argument}
 use Rattle.meaning.specs.Matching.{record_fields}
 use Rattle.meaning.specs.Typing.{TypeNumber}
 use Rattle.meaning.specs.Fit.{arguments_fit, row_fits, items_all_fit, fields_there}
@@ -106,8 +106,8 @@ module _ (image : List ℕ) (ty : PlaceTy) where
   -- arguments in a row
   pub row_some : (ellipsis : Option ℕ) (ts : List ℕ) {cs : List (PlaceTy → Bool)} {fs : List (TypeNumber → Bool)} {bs : List Bool} → Each image cs fs bs
       → ((i : ℕ) → i < length ts → Leads image ty (ProjectionElem.Field i) (get_or ts i 0)) → row_fits ellipsis fs ts ≡ true
-      → some_argument image ty (in_aRow ellipsis (length ts) cs) ≡ some_true bs
-  unfolding in_aRow arguments_fit
+      → some_argument image ty (in_a_row ellipsis (length ts) cs) ≡ some_true bs
+  unfolding in_a_row arguments_fit
   row_some none ts {cs} {fs} {bs} e at fits =
       let same = eqb-true (length fs) (length ts) (row_counted none fs ts fits) in
       let placed = subst (Placed (Leads image ty) (fields_up_to (length ts))) (take-length fs) (row_placed (Leads image ty) none fs ts at fits).0 in

@@ -18,7 +18,7 @@ use Rattle.place.specs.declared.place_ty.PlaceTy.{PlaceTy}
 use Rattle.place.specs.PlaceTypes.{projection_ty, Named}
 use Rattle.place.proofs.Named.{named_projection}
 use Rattle.pattern_matching.specs.Variants.{shape_of}
-use Rattle.counting.specs.Reaching.{Argument, behind_derefs, in_aRow, by_fields, field_count, is_enum_kind, is_enum, is_slice_shape, downcast, of_variant, slice_arguments, some_argument, all_alternatives, end_count, path_tests, positive, can_fail, failing, can_fail?}
+use Rattle.counting.specs.Reaching.{Argument, behind_derefs, in_a_row, by_fields, field_count, is_enum_kind, is_enum, is_slice_shape, downcast, of_variant, slice_arguments, some_argument, all_alternatives, end_count, path_tests, positive, can_fail, failing, can_fail?}
 use Rattle.cases_spec.specs.Cases.{kind_number, referent, tuple_fields}
 use Rattle.meaning.specs.Values.{has_values, has_variant}
 use Rattle.meaning.specs.Typing.{TypeNumber, variant_fields, element_type}
@@ -131,11 +131,11 @@ module _ (image bindings : List ℕ) (valid_image : valid image ≡ true) where
   -- a Tuple
   inside_tuple : (t : ℕ) (args : Pats) (ellipsis : Option ℕ) → t < type_count image → row_fits ellipsis (fitting image args) (tuple_fields (ty_of image t).shape) ≡ true → eqb (kind_number (ty_of image t).shape) 5 ≡ true
       → Each image (failing image args) (fitting image args) (failures image args)
-      → some_argument image (PlaceTy.Ty t) (in_aRow ellipsis (field_count (shape_of image (PlaceTy.Ty t))) (failing image args)) ≡ some_true (failures image args)
+      → some_argument image (PlaceTy.Ty t) (in_a_row ellipsis (field_count (shape_of image (PlaceTy.Ty t))) (failing image args)) ≡ some_true (failures image args)
   unfolding tuple_fields shape_of field_count
   inside_tuple t args ellipsis here fits kind e =
       let (ts, s) = only_tuple (ty_of image t).shape kind in
-      ap (λ (x : Shape). some_argument image (PlaceTy.Ty t) (in_aRow ellipsis (field_count (some x)) (failing image args))) s
+      ap (λ (x : Shape). some_argument image (PlaceTy.Ty t) (in_a_row ellipsis (field_count (some x)) (failing image args))) s
       ∙ row_some image (PlaceTy.Ty t) ellipsis ts e (tuple_leads t ts here s) (subst (λ (x : Shape). row_fits ellipsis (fitting image args) (tuple_fields x) ≡ true) s fits)
 
   -- a pattern that names a variant, where its arguments on a struct agree
@@ -190,7 +190,7 @@ module _ (image bindings : List ℕ) (valid_image : valid image ≡ true) where
     fails (Pat.Wild h) t here fits taken = refl
     fails (Pat.Tuple h args ellipsis) t here fits taken =
         let (kind, within, below) = three (eqb (kind_number (ty_of image h.ty).shape) 5) (ellipsis_within ellipsis (pat_count args)) (none_refused image bindings args) taken in
-        ap (λ (x : PlaceTy). some_argument image x (in_aRow ellipsis (field_count (shape_of image x)) (failing image args))) (type_here image (Pat.Tuple h args ellipsis) t fits)
+        ap (λ (x : PlaceTy). some_argument image x (in_a_row ellipsis (field_count (shape_of image x)) (failing image args))) (type_here image (Pat.Tuple h args ellipsis) t fits)
         ∙ inside_tuple h.ty args ellipsis (head_there (Pat.Tuple h args ellipsis) t here fits) (tuple_fits image h (some t) args ellipsis fits).1 kind (each args below)
     fails (Pat.Or h alts) t here fits taken =
         ap (λ (x : PlaceTy). all_alternatives x (failing image alts)) (type_here image (Pat.Or h alts) t fits)
@@ -221,8 +221,8 @@ module _ (image bindings : List ℕ) (valid_image : valid image ≡ true) where
         let shape = (ty_of image h.ty).shape in
         let (has, within, below) = three (has_variant shape v) (ellipsis_within ellipsis (pat_count args)) (none_refused image bindings args) taken in
         let (_, _, row) = tuple_struct_fits image h (some t) args ellipsis v fits in
-        ap (λ (x : PlaceTy). is_enum (shape_of image x) || some_argument image x (of_variant image x v (λ n. in_aRow ellipsis n (failing image args)))) (type_here image (Pat.TupleStruct h args ellipsis v) t fits)
-        ∙ inside_variant h.ty v (λ n. in_aRow ellipsis n (failing image args)) (some_true (failures image args)) (head_there (Pat.TupleStruct h args ellipsis v) t here fits) has (λ at.
+        ap (λ (x : PlaceTy). is_enum (shape_of image x) || some_argument image x (of_variant image x v (λ n. in_a_row ellipsis n (failing image args)))) (type_here image (Pat.TupleStruct h args ellipsis v) t fits)
+        ∙ inside_variant h.ty v (λ n. in_a_row ellipsis n (failing image args)) (some_true (failures image args)) (head_there (Pat.TupleStruct h args ellipsis v) t here fits) has (λ at.
         row_some image (PlaceTy.Ty h.ty) ellipsis (variant_fields image shape v) (each args below) at row)
     fails (Pat.Ref h s) t here fits taken =
         let shape = (ty_of image h.ty).shape in

@@ -4,7 +4,7 @@ use mathlib.Core.Path.{◌≡◌, refl, sym, ap, subst, ◌∙◌}
 use mathlib.Core.List.{List}
 use native.Mathlib.Omega.{arith}
 use Rattle.refusals.specs.declared.MirLowerError.{MirLowerError}
-use Rattle.refusals.specs.Refusals.{breaks_aRule, names_nothing, refusal_at}
+use Rattle.refusals.specs.Refusals.{breaks_a_rule, names_nothing, refusal_at}
 use Rattle.image.specs.declared.PatId.{PatId}
 use Rattle.mir.specs.declared.BasicBlockId.{BasicBlockId}
 use Rattle.mir.specs.declared.Counts.{Counts}
@@ -53,7 +53,7 @@ bad_call_text c bad_call is = refl
 bad_call_text c (accepted r) is = absurd (let z : ◌≡◌ {A = ℕ} 0 1 = cc in omega arith)
 bad_call_text c (refused_at e p) is = absurd (let z : ◌≡◌ {A = ℕ} 0 1 = cc in omega arith)
 
-bad_image_text : (c : Counts) (defined : Called Out) → MatchCall.BadImage ≡ match_answer c defined → refusal_text breaks_aRule ≡ call_text defined
+bad_image_text : (c : Counts) (defined : Called Out) → MatchCall.BadImage ≡ match_answer c defined → refusal_text breaks_a_rule ≡ call_text defined
 unfolding call_text
 bad_image_text c bad_image is = refl
 bad_image_text c bad_call is = absurd (let z : ◌≡◌ {A = ℕ} 0 1 = cc in omega arith)
@@ -97,6 +97,6 @@ module _ (b : Body) {answer : MatchCall} where
   unfolding answer_text
   refuses_call is = sym (ap (answer_text b) is)
 
-  pub refuses_image : answer ≡ MatchCall.BadImage → refusal_text breaks_aRule ≡ answer_text b answer
+  pub refuses_image : answer ≡ MatchCall.BadImage → refusal_text breaks_a_rule ≡ answer_text b answer
   unfolding answer_text
   refuses_image is = sym (ap (answer_text b) is)

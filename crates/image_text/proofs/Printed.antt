@@ -10,7 +10,7 @@ use borrow.Author.Tests.{leb-true, leb-false}
 use lib.Dec.{leb}
 use lib.ListN.{length, drop}
 use Rattle.refusals.specs.declared.MirLowerError.{MirLowerError}
-use Rattle.refusals.specs.Refusals.{breaks_aRule, names_nothing, number_of, reason_of, refusal_at}
+use Rattle.refusals.specs.Refusals.{breaks_a_rule, names_nothing, number_of, reason_of, refusal_at}
 use Rattle.row_tables.specs.Rows.{zeros, stored}
 use Rattle.image.specs.declared.Tables.{Tables}
 use Rattle.image.specs.Tables.{Whole}
@@ -65,7 +65,7 @@ called {b = b} {v = v} {c = c} {r = r} {b' = b'} {v' = v'} H G = subst (λ (x : 
 
 -- the ways through `put_image`: the image is refused
 module _ (image : List ℕ) where
-  pub prints_refused : {r : Read} → Reads image r → r ≡ Read.Refused → refusal_text breaks_aRule ≡ image_text image
+  pub prints_refused : {r : Read} → Reads image r → r ≡ Read.Refused → refusal_text breaks_a_rule ≡ image_text image
   unfolding image_text
   prints_refused R is = rw (read_refused image (sym is ∙ R.answer))
 

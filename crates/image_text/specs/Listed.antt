@@ -1,7 +1,7 @@
 -- What the listing program prints for an image. Assumes nothing: these are definitions.
 use Rattle.std.specs.Prelude.{ℕ, ◌≤◌, ◌<◌, ◌≡◌, cond, List, ◌++◌, length, drop}
 use Rattle.std.proofs.Math.Option.{Option, none, some}
-use Rattle.refusals.specs.Refusals.{breaks_aRule, names_nothing, refusal_at}
+use Rattle.refusals.specs.Refusals.{breaks_a_rule, names_nothing, refusal_at}
 use Rattle.image.specs.Valid.{valid}
 use Rattle.state.specs.State.{Body, decode, encode, counts_of}
 use Rattle.lower_spec.specs.declared.merging.OptBlock.{OptBlock}
@@ -21,7 +21,7 @@ listing_call image t =
 
 -- the text of what the call gives: the listing, or the refusal
 unfoldable pub call_text : Called Out → List ℕ
-call_text bad_image = refusal_text breaks_aRule
+call_text bad_image = refusal_text breaks_a_rule
 call_text bad_call = refusal_text names_nothing
 call_text (refused_at e p) = refusal_text (refusal_at e p)
 call_text (accepted r) = listing r.then r.else (mir_of r.ctx.state)
@@ -33,14 +33,14 @@ typed_text image (some t) = call_text (listing_call image t)
 
 -- what is printed for an image
 unfoldable pub image_text : List ℕ → List ℕ
-image_text image = cond (valid image) (typed_text image (start_type image)) (refusal_text breaks_aRule)
+image_text image = cond (valid image) (typed_text image (start_type image)) (refusal_text breaks_a_rule)
 
 -- the text of an answer, where the body is this
 unfoldable pub answer_text : Body → MatchCall → List ℕ
 answer_text b (MatchCall.Matched c then els) = listing then els (mir_of (decode b c))
 answer_text b (MatchCall.Refused e p) = refusal_text (refusal_at e p.0)
 answer_text b MatchCall.BadCall = refusal_text names_nothing
-answer_text b MatchCall.BadImage = refusal_text breaks_aRule
+answer_text b MatchCall.BadImage = refusal_text breaks_a_rule
 
 -- the body of an accepted call can be listed: the counts are within the limits
 abbrev pub Listable : MatchCall → Type 0

@@ -1,7 +1,7 @@
 -- The start of the corners on parameters, block 0 open and one scope open, with no local yet, and what parameters come to from there.
 -- Assumes nothing: these are definitions.
 use Rattle.std.specs.Prelude.{ℕ, Bool, not, cond, ◌&&◌, List, [], ◌∷◌, map}
-use Rattle.refusals.specs.Refusals.{Refusal, breaks_aRule, refusal_at}
+use Rattle.refusals.specs.Refusals.{Refusal, breaks_a_rule, refusal_at}
 use Rattle.row_tables.specs.Rows.{zeros}
 use Rattle.image.specs.Tables.{pattern_count, binding_count}
 use Rattle.image.specs.Lists.{up_from}
@@ -37,7 +37,7 @@ corner_answer_of (refused e p) = refused_params (refusal_at e p)
 -- a list of parameters of a valid image, lowered from there, or refused where one is self's binding again
 unfoldable pub corner_answer : List ℕ → SelfParam → List Param → ParamsAnswer
 corner_answer image self params =
-    cond (not (valid image && receiver_apart image self params)) (refused_params breaks_aRule)
+    cond (not (valid image && receiver_apart image self params)) (refused_params breaks_a_rule)
     (corner_answer_of (lower_params_and_bindings image self params (unbound image) (params_start image) (record { 0 = 0 })))
 
 -- a corner: an image, self, the parameters, and the answer that is wanted; values for self and the parameters, and whether these fit

@@ -1,7 +1,7 @@
 -- The public call on parameters: every image, list, body and number is taken, or refused by document 01's number. Assumes nothing: these are definitions.
 use Rattle.std.specs.Prelude.{ℕ, zero, suc, ◌+◌, ◌*◌, ◌/◌, ◌≡◌, Bool, true, false, not, ◌&&◌, List, [], ◌∷◌, eqb, ltb, leb, length, get_or}
 use Rattle.std.proofs.Math.Option.{Option, none, some}
-use Rattle.refusals.specs.Refusals.{Refusal, breaks_aRule, names_nothing, refusal_at}
+use Rattle.refusals.specs.Refusals.{Refusal, breaks_a_rule, names_nothing, refusal_at}
 use Rattle.image.specs.Lists.{all_true}
 use Rattle.image.specs.Tables.{type_count, pattern_count, binding_count}
 use Rattle.image.specs.Tree.{tree}
@@ -88,7 +88,7 @@ abbrev pub params_refusal : ParamsCall → Option Refusal
 params_refusal (ParamsCall.Lowered c then first) = none
 params_refusal (ParamsCall.Refused e p) = some (refusal_at e p.0)
 params_refusal ParamsCall.BadCall = some names_nothing
-params_refusal ParamsCall.BadImage = some breaks_aRule
+params_refusal ParamsCall.BadImage = some breaks_a_rule
 
 -- how the call answers, and the context that an accepted walk leaves
 abbrev pub params_way : Way ParamsOut ParamsCall

@@ -6,7 +6,7 @@ use native.Mathlib.Omega.{arith}
 use lib.ListN.{take, drop}
 use lib.Seq.{take-take}
 use Rattle.refusals.specs.declared.MirLowerError.{MirLowerError}
-use Rattle.refusals.specs.Refusals.{breaks_aRule, names_nothing, refusal_at}
+use Rattle.refusals.specs.Refusals.{breaks_a_rule, names_nothing, refusal_at}
 use Rattle.image.specs.declared.PatId.{PatId}
 use Rattle.place.specs.declared.LocalId.{LocalId}
 use Rattle.mir.specs.declared.BasicBlockId.{BasicBlockId}
@@ -79,7 +79,7 @@ bad_call_text c many bad_call is = refl
 bad_call_text c many (accepted r) is = absurd (let z : ◌≡◌ {A = ℕ} 0 1 = cc in omega arith)
 bad_call_text c many (refused_at e p) is = absurd (let z : ◌≡◌ {A = ℕ} 0 1 = cc in omega arith)
 
-bad_image_text : (c : Counts) (many : ℕ) (defined : Called ParamsOut) → ParamsCall.BadImage ≡ params_answer c defined → refusal_text breaks_aRule ≡ call_text c.locals many defined
+bad_image_text : (c : Counts) (many : ℕ) (defined : Called ParamsOut) → ParamsCall.BadImage ≡ params_answer c defined → refusal_text breaks_a_rule ≡ call_text c.locals many defined
 unfolding call_text
 bad_image_text c many bad_image is = refl
 bad_image_text c many bad_call is = absurd (let z : ◌≡◌ {A = ℕ} 0 1 = cc in omega arith)
@@ -132,6 +132,6 @@ module _ (b : Body) (bindings : List ℕ) (many : ℕ) {answer : ParamsCall} whe
   unfolding answer_text
   refuses_call is = sym (ap (answer_text b bindings many) is)
 
-  pub refuses_image : answer ≡ ParamsCall.BadImage → refusal_text breaks_aRule ≡ answer_text b bindings many answer
+  pub refuses_image : answer ≡ ParamsCall.BadImage → refusal_text breaks_a_rule ≡ answer_text b bindings many answer
   unfolding answer_text
   refuses_image is = sym (ap (answer_text b bindings many) is)

@@ -1,7 +1,7 @@
 -- The text of what a call of `lower_params_and_bindings` answers: the listing, and the locals of the parameters, of the bindings and in the scopes. Assumes nothing: these
 -- are definitions.
 use Rattle.std.specs.Prelude.{ℕ, ◌+◌, ◌≤◌, List, ◌++◌, take}
-use Rattle.refusals.specs.Refusals.{breaks_aRule, names_nothing, refusal_at}
+use Rattle.refusals.specs.Refusals.{breaks_a_rule, names_nothing, refusal_at}
 use Rattle.state.specs.State.{Body, decode}
 use Rattle.lower_spec.specs.declared.merging.OptBlock.{OptBlock}
 use Rattle.views.specs.Views.{mir_of}
@@ -13,7 +13,7 @@ use Rattle.params_lines.specs.Lines.{lines_text}
 
 -- the text of what the call gives, where the first parameter's local is `first` and there are so many
 unfoldable pub call_text : ℕ → ℕ → Called ParamsOut → List ℕ
-call_text first many bad_image = refusal_text breaks_aRule
+call_text first many bad_image = refusal_text breaks_a_rule
 call_text first many bad_call = refusal_text names_nothing
 call_text first many (refused_at e p) = refusal_text (refusal_at e p)
 call_text first many (accepted r) = listing r.then OptBlock.None (mir_of r.ctx.state) ++ lines_text first many r.bindings r.ctx.state.entries
@@ -24,7 +24,7 @@ answer_text b bindings many (ParamsCall.Lowered c then first) =
     listing then OptBlock.None (mir_of (decode b c)) ++ lines_text first.0 many bindings (take c.entries b.entries)
 answer_text b bindings many (ParamsCall.Refused e p) = refusal_text (refusal_at e p.0)
 answer_text b bindings many ParamsCall.BadCall = refusal_text names_nothing
-answer_text b bindings many ParamsCall.BadImage = refusal_text breaks_aRule
+answer_text b bindings many ParamsCall.BadImage = refusal_text breaks_a_rule
 
 -- the body of an accepted call can be listed: the counts are within the limits, and so are the parameters' locals
 abbrev pub Listable : ℕ → ParamsCall → Type 0

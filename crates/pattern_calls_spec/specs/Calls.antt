@@ -1,7 +1,7 @@
 -- The public calls on patterns: every image, body and number is taken, or refused by document 01's number. Assumes nothing: these are definitions.
 use Rattle.std.specs.Prelude.{ℕ, List}
 use Rattle.std.proofs.Math.Option.{Option, none, some}
-use Rattle.refusals.specs.Refusals.{Refusal, breaks_aRule, names_nothing, refusal_at}
+use Rattle.refusals.specs.Refusals.{Refusal, breaks_a_rule, names_nothing, refusal_at}
 use Rattle.image.specs.Tables.{variant_count, pattern_count, binding_count}
 use Rattle.image.specs.Tree.{tree}
 use Rattle.place.specs.declared.LocalId.{LocalId}
@@ -53,7 +53,7 @@ abbrev pub match_refusal : MatchCall → Option Refusal
 match_refusal (MatchCall.Matched c then els) = none
 match_refusal (MatchCall.Refused e p) = some (refusal_at e p.0)
 match_refusal MatchCall.BadCall = some names_nothing
-match_refusal MatchCall.BadImage = some breaks_aRule
+match_refusal MatchCall.BadImage = some breaks_a_rule
 
 -- how each call answers, and the context that an accepted walk leaves
 abbrev pub match_way : Way Out MatchCall

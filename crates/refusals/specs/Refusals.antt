@@ -13,8 +13,8 @@ abbrev pub no_pattern : ℕ
 no_pattern = 65535
 
 -- "1, 65535, 0: image or parameter list breaks a rule above"
-abbrev pub breaks_aRule : Refusal
-breaks_aRule = record { number = 1; pattern = no_pattern; reason = 0 }
+abbrev pub breaks_a_rule : Refusal
+breaks_a_rule = record { number = 1; pattern = no_pattern; reason = 0 }
 
 -- "2, 65535, 0: a handed-in body or scope table over a limit, or naming a missing block, local or type; .. any other number in the call that names nothing"
 abbrev pub names_nothing : Refusal

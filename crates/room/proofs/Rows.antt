@@ -21,7 +21,7 @@ use Rattle.lower_spec.specs.declared.merging.OptBlock.{OptBlock}
 use Rattle.pattern_matching.specs.declared.MatchingMode.{MatchingMode}
 use Rattle.pattern_matching.specs.Walking.{Ctx, Out, Walk, refused, Lowering, next, project}
 use Rattle.pattern_matching.specs.Variants.{pattern_match_adt, fields_up_to, pattern_match_tuple_like, ellipsis_at, resolved, record_fields}
-use Rattle.counting.specs.Reaching.{Argument, zip, in_aRow, by_fields, some_argument, Reaching, Reached, through_arguments}
+use Rattle.counting.specs.Reaching.{Argument, zip, in_a_row, by_fields, some_argument, Reaching, Reached, through_arguments}
 use Rattle.counting.specs.Counting.{total, else_made}
 use Rattle.counting.proofs.Passing.{mode_of, total_append}
 use Rattle.counting.proofs.Typed.{On}
@@ -193,8 +193,8 @@ module _ {A : Type 0} {base : Origin} {image : List ℕ} (p n : ℕ) (ty : Place
 
   -- arguments in a row on n fields
   pub spends_row : {ls : List Lowering} {fs : List (PlaceTy → Bool)} {rs : List Reaching} {ds : List (PlaceTy → ℕ)} (ellipsis : Option ℕ) → Each A base image ls fs rs ds →
-      Row A base image ty (pattern_match_tuple_like p ls (ellipsis_at ellipsis ls) n) (in_aRow ellipsis n fs) (in_aRow ellipsis n ds) (in_aRow ellipsis n rs)
-  unfolding in_aRow pattern_match_tuple_like ellipsis_at
+      Row A base image ty (pattern_match_tuple_like p ls (ellipsis_at ellipsis ls) n) (in_a_row ellipsis n fs) (in_a_row ellipsis n ds) (in_a_row ellipsis n rs)
+  unfolding in_a_row pattern_match_tuple_like ellipsis_at
   spends_row {ls = ls} (some at) e = let g = spends_two (leb at (length ls)) (each_take at e) (each_drop at e) in record { above = g.above; goes = g.goes }
   spends_row {ls = ls} {fs = fs} {rs = rs} {ds = ds} none e =
       let F = fields_up_to n in

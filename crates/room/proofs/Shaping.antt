@@ -18,7 +18,7 @@ use Rattle.place.specs.PlaceTypes.{projection_ty, multi_projection_ty}
 use Rattle.pattern_matching.specs.Walking.{refused, Lowering, step, out, project, in_check}
 use Rattle.pattern_matching.specs.Variants.{place_ty, shape_of, needed, pattern_match_tuple_like, ellipsis_at, tuple_on, tuple_pattern, ref_on, ref_pattern, AdtPatternShape, variant_fields, discriminant_test, variant_on, adt_on, pattern_matching_variant}
 use Rattle.cases_spec.specs.Cases.{tuple_fields}
-use Rattle.counting.specs.Reaching.{Argument, in_aRow, by_fields, field_count, is_enum, downcast, some_argument, Reached, Reaching, testing, naming, through_arguments}
+use Rattle.counting.specs.Reaching.{Argument, in_a_row, by_fields, field_count, is_enum, downcast, some_argument, Reached, Reaching, testing, naming, through_arguments}
 use Rattle.counting.specs.Counting.{one, total}
 use Rattle.counting.proofs.Passing.{mode_of}
 use Rattle.counting.proofs.Naming.{through_downcast, some_downcast}
@@ -45,19 +45,19 @@ spends_needed {A = A} {base = base} {image = image} {ty = ty} {deep = deep} p l 
 module _ {A : Type 0} {base : Origin} {image : List ℕ} (ty : PlaceTy) where
   -- a Tuple
   pub spends_tuple : {ls : List Lowering} {fs : List (PlaceTy → Bool)} {rs : List Reaching} {ds : List (PlaceTy → ℕ)} (h : Head) (ellipsis : Option ℕ) → Each A base image ls fs rs ds →
-      Spends A base image ty (tuple_pattern image h.number ls ellipsis) (some_argument image ty (in_aRow ellipsis (field_count (shape_of image ty)) fs))
-      (most_of_arguments image ty (in_aRow ellipsis (field_count (shape_of image ty)) ds)) (λ k. testing h k false 0 0 ∷ through_arguments image ty k (in_aRow ellipsis (field_count (shape_of image ty)) rs))
+      Spends A base image ty (tuple_pattern image h.number ls ellipsis) (some_argument image ty (in_a_row ellipsis (field_count (shape_of image ty)) fs))
+      (most_of_arguments image ty (in_a_row ellipsis (field_count (shape_of image ty)) ds)) (λ k. testing h k false 0 0 ∷ through_arguments image ty k (in_a_row ellipsis (field_count (shape_of image ty)) rs))
   unfolding tuple_pattern tuple_on field_count tuple_fields
   spends_tuple {ls = ls} {fs = fs} {rs = rs} {ds = ds} h ellipsis e =
       let g = spends_needed h.number (λ s. tuple_on s h.number ls ellipsis) (by (shape_of image ty)) in record { above = g.above; goes = g.goes }
     where
-      inner : (n : ℕ) → Spends A base image ty (pattern_match_tuple_like h.number ls (ellipsis_at ellipsis ls) n) (some_argument image ty (in_aRow ellipsis n fs)) (most_of_arguments image ty (in_aRow ellipsis n ds))
-          (λ k. testing h k false 0 0 ∷ through_arguments image ty k (in_aRow ellipsis n rs))
+      inner : (n : ℕ) → Spends A base image ty (pattern_match_tuple_like h.number ls (ellipsis_at ellipsis ls) n) (some_argument image ty (in_a_row ellipsis n fs)) (most_of_arguments image ty (in_a_row ellipsis n ds))
+          (λ k. testing h k false 0 0 ∷ through_arguments image ty k (in_a_row ellipsis n rs))
       inner n = spends_under (λ k. testing h k false 0 0) (free_testing h) (spends_row h.number n ty ellipsis e)
 
       by : (o : Option Shape) → Spends A base image ty (λ mode c current els place. needed h.number o (λ s. tuple_on s h.number ls ellipsis mode c current els place))
-          (some_argument image ty (in_aRow ellipsis (field_count o) fs)) (most_of_arguments image ty (in_aRow ellipsis (field_count o) ds))
-          (λ k. testing h k false 0 0 ∷ through_arguments image ty k (in_aRow ellipsis (field_count o) rs))
+          (some_argument image ty (in_a_row ellipsis (field_count o) fs)) (most_of_arguments image ty (in_a_row ellipsis (field_count o) ds))
+          (λ k. testing h k false 0 0 ∷ through_arguments image ty k (in_a_row ellipsis (field_count o) rs))
       by none = spends_refused MirLowerError.PlaceType h.number tt (inner 0).above
       by (some (integer size signed)) = spends_refused (MirLowerError.TypeError 1) h.number tt (inner 0).above
       by (some bool) = spends_refused (MirLowerError.TypeError 1) h.number tt (inner 0).above
@@ -105,7 +105,7 @@ pub record Fielded (A : Type 0) (base : Origin) (image : List ℕ) (shape : AdtP
 
 -- in a row
 pub fielded_row : {A : Type 0} {base : Origin} {image : List ℕ} {ls : List Lowering} {fs : List (PlaceTy → Bool)} {rs : List Reaching} {ds : List (PlaceTy → ℕ)} (ellipsis : Option ℕ) →
-    Each A base image ls fs rs ds → Fielded A base image (AdtPatternShape.Tuple ls ellipsis) (λ n. in_aRow ellipsis n fs) (λ n. in_aRow ellipsis n ds) (λ n. in_aRow ellipsis n rs)
+    Each A base image ls fs rs ds → Fielded A base image (AdtPatternShape.Tuple ls ellipsis) (λ n. in_a_row ellipsis n fs) (λ n. in_a_row ellipsis n ds) (λ n. in_a_row ellipsis n rs)
 unfolding variant_fields
 fielded_row ellipsis e = record { goes = λ p n ty. let g = spends_row p n ty ellipsis e in record { above = g.above; goes = g.goes } }
 

@@ -6,7 +6,7 @@ use Rattle.place.specs.declared.place_ty.PlaceTy.{PlaceTy}
 use Rattle.place.specs.PlaceTypes.{projection_ty, multi_projection_ty}
 use Rattle.pattern_matching.specs.Variants.{shape_of}
 use Rattle.cases_spec.specs.Cases.{if_there}
-use Rattle.counting.specs.Reaching.{Argument, behind_derefs, in_aRow, by_fields, field_count, is_enum, of_variant, slice_arguments, failing, rest_binding}
+use Rattle.counting.specs.Reaching.{Argument, behind_derefs, in_a_row, by_fields, field_count, is_enum, of_variant, slice_arguments, failing, rest_binding}
 use Rattle.counting.specs.Counting.{one}
 
 -- the most that leads to one of the arguments and goes on from there, each at its type
@@ -42,7 +42,7 @@ module _ (image : List ℕ) where
     elements (Pat.Wild h) ty = h.derefs
     elements (Pat.Tuple h args ellipsis) ty =
         let here = behind_derefs image ty h.derefs in
-        h.derefs + most_of_arguments image here (in_aRow ellipsis (field_count (shape_of image here)) (elements_of args))
+        h.derefs + most_of_arguments image here (in_a_row ellipsis (field_count (shape_of image here)) (elements_of args))
     elements (Pat.Or h alts) ty = h.derefs + most_of_alternatives (behind_derefs image ty h.derefs) (failing image alts) (elements_of alts)
     elements (Pat.Record h fields args v) ty =
         let here = behind_derefs image ty h.derefs in
@@ -55,7 +55,7 @@ module _ (image : List ℕ) where
     elements (Pat.Bind h b s how annotation) ty = h.derefs + elements? s (behind_derefs image ty h.derefs)
     elements (Pat.TupleStruct h args ellipsis v) ty =
         let here = behind_derefs image ty h.derefs in
-        h.derefs + max (one (is_enum (shape_of image here))) (most_of_arguments image here (of_variant image here v (λ n. in_aRow ellipsis n (elements_of args))))
+        h.derefs + max (one (is_enum (shape_of image here))) (most_of_arguments image here (of_variant image here v (λ n. in_a_row ellipsis n (elements_of args))))
     elements (Pat.Ref h s) ty = h.derefs + (1 + elements s (projection_ty (behind_derefs image ty h.derefs) image ProjectionElem.Deref))
     elements (Pat.Expr h) ty = h.derefs
     elements (Pat.Box h) ty = h.derefs
