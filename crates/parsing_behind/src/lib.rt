@@ -106,7 +106,7 @@ fn item_last(
 }
 
 // A mark behind a list's item.
-fn ended_item(
+pub fn ended_item(
     stack: &mut [u16; NODE_WORDS],
     nodes: &mut [u16; NODE_WORDS],
     below: usize,
@@ -135,7 +135,7 @@ fn ended_item(
 }
 
 // A mark behind a field's pattern.
-fn ended_field(
+pub fn ended_field(
     stack: &mut [u16; NODE_WORDS],
     nodes: &mut [u16; NODE_WORDS],
     below: usize,
