@@ -137,6 +137,7 @@ module _ (sheet names : List ℕ) where
     least_among (more ps w) reads v k b (in_earlier r) own =
         at_most_right (refused_in sheet names w (part_context sheet reads (part_count ps))) (refused_among sheet names ps reads) b
         (least_among ps reads v k b r own)
+    least_among no_parts reads v k b x4 own = elim x4 [ ]
 
   pub first_refused : (w : Written) (c : Context) (a : ℕ) → refused_in sheet names w c ≡ some a → FirstRefused sheet names w c a
   first_refused w c a e =

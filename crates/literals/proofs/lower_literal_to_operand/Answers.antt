@@ -62,4 +62,4 @@ unfolding literal_by
 returns-in-ByteStr c = ap done (same_string _ _ (bytes_counted _ _ c.requires.3 c.operand_at-row.ensures c.operand_bytes-bytes.ensures c.requires.1) c.string_constant-in-ByteStr.ensures) ∙ literal_by_lem _ _ c.operand_at-row.ensures OperandKind.ByteStr c.operand_kind.ensures c.in-ByteStr.is _ c.operand_bytes-bytes.ensures
 
 pub returns-in_default : goal.returns-in_default
-returns-in_default c = no_literal _ _ _ _ _ (opened c.in_default.in_default-own.keys8) ∙ literal_by_lem _ _ c.operand_at-row.ensures _ c.operand_kind.ensures refl _ c.operand_bytes-bytes.ensures
+returns-in_default c = no_literal _ _ _ _ _ c.in_default.in_default-own.keys8 ∙ literal_by_lem _ _ c.operand_at-row.ensures _ c.operand_kind.ensures refl _ c.operand_bytes-bytes.ensures

@@ -20,4 +20,4 @@ unfolding adt_field_ty
 returns-in-Union c count some = rw (c.in-Union.is, first_of_range c.args.v count some) c.variant_field-in-Union.ensures
 
 pub returns-in_default : goal.returns-in_default
-returns-in_default c count some = no_adt_field _ _ _ _ (opened c.in_default.in_default-own.keys3)
+returns-in_default c count some = no_adt_field _ _ _ _ c.in_default.in_default-own.keys3

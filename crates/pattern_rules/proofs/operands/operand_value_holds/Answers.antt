@@ -26,4 +26,4 @@ unfolding operand_value_holds
 returns-in-Unknown c = rw c.in-Unknown.is
 
 pub returns-in_default : goal.returns-in_default
-returns-in_default c = any_bytes _ _ (opened c.in_default.in_default-own.keys7)
+returns-in_default c = any_bytes _ _ c.in_default.in_default-own.keys7

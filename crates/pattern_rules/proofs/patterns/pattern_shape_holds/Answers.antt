@@ -41,4 +41,4 @@ unfolding pattern_shape_holds
 returns-in-Unknown c = rw c.in-Unknown.is
 
 pub returns-in_default : goal.returns-in_default
-returns-in_default c = names_nothing_lem _ _ _ (opened c.in_default.in_default-own.keys11)
+returns-in_default c = names_nothing_lem _ _ _ c.in_default.in_default-own.keys11
