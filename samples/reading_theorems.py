@@ -36,7 +36,7 @@ OPENED = {
 # Printers of trees, and what two files call alike: these are not computed, or are opened by their whole name.
 LEFT_OUT = re.compile(r'\w*_t$')
 CLASSES = ('text', 'laser', 'mixed')
-LONGEST, LARGEST, A_FILE, CHANCE = 100, 1200, 60, 15
+LONGEST, LARGEST, A_FILE, CHANCE = 300, 1200, 60, 15
 # What the rows' own file computes with.
 OWN = 'total, told, types_told, patterns_told, bindings_told, draft_told, drafted, answered'
 OPENED_OWN = OWN.replace(',', '')

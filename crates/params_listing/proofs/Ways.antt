@@ -6,7 +6,7 @@ use mathlib.Core.List.{List}
 use borrow.Author.Tests.{lt-ltb, le-ltb}
 use borrow.Author.Rules.{part_to_end}
 use lib.ListN.{length, take, drop}
-use Rattle.refusals.specs.Refusals.{breaks_aRule, names_nothing}
+use Rattle.refusals.specs.Refusals.{breaks_a_rule, names_nothing}
 use Rattle.image.specs.Valid.{valid}
 use Rattle.mir.specs.declared.Counts.{Counts}
 use Rattle.state.specs.State.{Body}
@@ -31,7 +31,7 @@ text_is S self list is = λ i. call_text (no_locals S i) (is i) (same_call S sel
 
 -- the ways through `put_params`
 module _ (image words : List ℕ) where
-  pub prints_refused : {r : Read} → Reads image r → r ≡ Read.Refused → refusal_text breaks_aRule ≡ params_text image words
+  pub prints_refused : {r : Read} → Reads image r → r ≡ Read.Refused → refusal_text breaks_a_rule ≡ params_text image words
   unfolding params_text start_text start_call params_call call call_text
   prints_refused R is = rw (read_refused image (sym is ∙ R.answer))
 

@@ -64,9 +64,9 @@ rows_typed1 =
     ∷ row (ascii "7 | 8") text_sheet text_names 26 (1 ∷ 0 ∷ 3 ∷ 10 ∷ 6 ∷ 1 ∷ 43 ∷ 0 ∷ 0 ∷ 0 ∷ 10 ∷ 6 ∷ 1 ∷ 46 ∷ 0 ∷ 0 ∷ 0 ∷ 5 ∷ 26 ∷ 0 ∷ 49 ∷ 2 ∷ 0 ∷ 0 ∷ 0 ∷ 8 ∷ 2 ∷ 119 ∷ 16 ∷ 2 ∷ 135 ∷ 16 ∷ 0 ∷ 1 ∷ 7 ∷ 0 ∷ 0 ∷ 0 ∷ 0 ∷ 0 ∷ 0 ∷ 0 ∷ 0 ∷ 0 ∷ 0 ∷ 0 ∷ 0 ∷ 0 ∷ 0 ∷ 0 ∷ 8 ∷ 0 ∷ 0 ∷ 0 ∷ 0 ∷ 0 ∷ 0 ∷ 0 ∷ 0 ∷ 0 ∷ 0 ∷ 0 ∷ 0 ∷ 0 ∷ 0 ∷ 0 ∷ [])
     ∷ row (ascii "(3, x, 4..)") text_sheet text_names 10 (1 ∷ 0 ∷ 4 ∷ 10 ∷ 6 ∷ 0 ∷ 43 ∷ 0 ∷ 0 ∷ 0 ∷ 11 ∷ 6 ∷ 0 ∷ 0 ∷ 65535 ∷ 0 ∷ 0 ∷ 7 ∷ 6 ∷ 0 ∷ 46 ∷ 65535 ∷ 1 ∷ 0 ∷ 4 ∷ 10 ∷ 0 ∷ 49 ∷ 3 ∷ 65535 ∷ 0 ∷ 1 ∷ 6 ∷ 1 ∷ 9 ∷ 2 ∷ 119 ∷ 16 ∷ 2 ∷ 135 ∷ 16 ∷ 0 ∷ 1 ∷ 2 ∷ 3 ∷ 0 ∷ 0 ∷ 0 ∷ 0 ∷ 0 ∷ 0 ∷ 0 ∷ 0 ∷ 0 ∷ 0 ∷ 0 ∷ 0 ∷ 0 ∷ 0 ∷ 0 ∷ 4 ∷ 0 ∷ 0 ∷ 0 ∷ 0 ∷ 0 ∷ 0 ∷ 0 ∷ 0 ∷ 0 ∷ 0 ∷ 0 ∷ 0 ∷ 0 ∷ 0 ∷ 0 ∷ [])
     ∷ row (ascii "Entry { finish: Finished { place: 1..=3, .. }, .. }  // on the podium") laser_sheet laser_names 14 (1 ∷ 0 ∷ 3 ∷ 7 ∷ 4 ∷ 0 ∷ 25 ∷ 28 ∷ 0 ∷ 0 ∷ 6 ∷ 0 ∷ 0 ∷ 31 ∷ 1 ∷ 0 ∷ 0 ∷ 6 ∷ 3 ∷ 1 ∷ 33 ∷ 1 ∷ 10 ∷ 0 ∷ 0 ∷ 10 ∷ 2 ∷ 186 ∷ 16 ∷ 2 ∷ 202 ∷ 16 ∷ 0 ∷ 0 ∷ 1 ∷ 1 ∷ 1 ∷ 0 ∷ 0 ∷ 0 ∷ 0 ∷ 0 ∷ 0 ∷ 0 ∷ 0 ∷ 0 ∷ 0 ∷ 0 ∷ 0 ∷ 0 ∷ 0 ∷ 0 ∷ 3 ∷ 0 ∷ 0 ∷ 0 ∷ 0 ∷ 0 ∷ 0 ∷ 0 ∷ 0 ∷ 0 ∷ 0 ∷ 0 ∷ 0 ∷ 0 ∷ 0 ∷ 0 ∷ [])
+    ∷ row (ascii "Entry { finish: Finished { seconds: rules::LIMIT.., place }, .. }  // over the time limit, with the place that she took") laser_sheet laser_names 14 (1 ∷ 1 ∷ 7 ∷ 4 ∷ 0 ∷ 0 ∷ 1 ∷ 4 ∷ 7 ∷ 5 ∷ 0 ∷ 19 ∷ 65535 ∷ 1 ∷ 0 ∷ 11 ∷ 4 ∷ 0 ∷ 0 ∷ 65535 ∷ 1 ∷ 0 ∷ 6 ∷ 0 ∷ 0 ∷ 25 ∷ 2 ∷ 0 ∷ 0 ∷ 6 ∷ 3 ∷ 1 ∷ 29 ∷ 1 ∷ 10 ∷ 0 ∷ 1 ∷ 15 ∷ 1 ∷ 6 ∷ 1 ∷ 0 ∷ 0 ∷ 1 ∷ 1 ∷ 2 ∷ [])
     ∷ row (ascii "Entry { finish: Retired | DidNotStart, boat, .. }  // no finish, and the boat that it is told of") laser_sheet laser_names 14 (1 ∷ 1 ∷ 7 ∷ 2 ∷ 0 ∷ 0 ∷ 1 ∷ 5 ∷ 9 ∷ 0 ∷ 0 ∷ 1 ∷ 1 ∷ 0 ∷ 0 ∷ 9 ∷ 0 ∷ 0 ∷ 1 ∷ 3 ∷ 0 ∷ 0 ∷ 5 ∷ 0 ∷ 0 ∷ 25 ∷ 2 ∷ 0 ∷ 0 ∷ 11 ∷ 2 ∷ 0 ∷ 0 ∷ 65535 ∷ 1 ∷ 0 ∷ 6 ∷ 3 ∷ 1 ∷ 27 ∷ 2 ∷ 10 ∷ 0 ∷ 1 ∷ 15 ∷ 1 ∷ 6 ∷ 0 ∷ 1 ∷ 1 ∷ 2 ∷ 0 ∷ 3 ∷ [])
-    ∷ row (ascii "Entry { places: [first, .., last], finish: _, .. }  // the first and the last race of the series") laser_sheet laser_names 14 (1 ∷ 1 ∷ 7 ∷ 4 ∷ 0 ∷ 0 ∷ 1 ∷ 6 ∷ 11 ∷ 4 ∷ 0 ∷ 0 ∷ 65535 ∷ 1 ∷ 0 ∷ 1 ∷ 9 ∷ 0 ∷ 0 ∷ 0 ∷ 0 ∷ 0 ∷ 11 ∷ 4 ∷ 0 ∷ 1 ∷ 65535 ∷ 1 ∷ 0 ∷ 8 ∷ 9 ∷ 0 ∷ 25 ∷ 1 ∷ 1 ∷ 1 ∷ 3 ∷ 0 ∷ 0 ∷ 0 ∷ 0 ∷ 0 ∷ 0 ∷ 6 ∷ 3 ∷ 1 ∷ 27 ∷ 2 ∷ 10 ∷ 0 ∷ 2 ∷ 15 ∷ 1 ∷ 15 ∷ 1 ∷ 6 ∷ 0 ∷ 2 ∷ 2 ∷ 3 ∷ 1 ∷ 4 ∷ [])
-    ∷ row (ascii "(5, mut v1)") text_sheet text_names 28 (1 ∷ 0 ∷ 3 ∷ 10 ∷ 6 ∷ 1 ∷ 43 ∷ 0 ∷ 0 ∷ 0 ∷ 11 ∷ 27 ∷ 0 ∷ 0 ∷ 65535 ∷ 0 ∷ 1 ∷ 4 ∷ 28 ∷ 0 ∷ 46 ∷ 2 ∷ 65535 ∷ 0 ∷ 1 ∷ 27 ∷ 1 ∷ 5 ∷ 2 ∷ 119 ∷ 16 ∷ 0 ∷ 1 ∷ 5 ∷ 0 ∷ 0 ∷ 0 ∷ 0 ∷ 0 ∷ 0 ∷ 0 ∷ 0 ∷ 0 ∷ 0 ∷ 0 ∷ 0 ∷ 0 ∷ 0 ∷ 0 ∷ [])
+    ∷ row (ascii "Entry { finish: StartedEarly { by: seconds @ 1.., returned: false }, .. }  // early, and she did not come back") laser_sheet laser_names 14 (1 ∷ 1 ∷ 7 ∷ 4 ∷ 0 ∷ 0 ∷ 1 ∷ 5 ∷ 7 ∷ 4 ∷ 0 ∷ 25 ∷ 65535 ∷ 1 ∷ 0 ∷ 11 ∷ 4 ∷ 0 ∷ 0 ∷ 0 ∷ 1 ∷ 0 ∷ 10 ∷ 6 ∷ 0 ∷ 28 ∷ 0 ∷ 0 ∷ 0 ∷ 6 ∷ 0 ∷ 0 ∷ 31 ∷ 2 ∷ 4 ∷ 0 ∷ 6 ∷ 3 ∷ 1 ∷ 35 ∷ 1 ∷ 10 ∷ 0 ∷ 1 ∷ 15 ∷ 1 ∷ 12 ∷ 2 ∷ 186 ∷ 16 ∷ 4 ∷ 202 ∷ 1 ∷ 0 ∷ 1 ∷ 1 ∷ 2 ∷ 1 ∷ 3 ∷ 1 ∷ 0 ∷ 0 ∷ 0 ∷ 0 ∷ 0 ∷ 0 ∷ 0 ∷ 0 ∷ 0 ∷ 0 ∷ 0 ∷ 0 ∷ 0 ∷ 0 ∷ 0 ∷ 0 ∷ [])
     ∷ []
 
 pub as_judged_typed1 : map given rows_typed1 ≡ map wants rows_typed1

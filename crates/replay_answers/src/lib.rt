@@ -18,16 +18,16 @@ pub fn print_number(rt: &impl Print, number: u32) {
 }
 
 // A refusal's number, pattern and reason: 65535 where there is no pattern.
-pub fn print_refusal(rt: &impl Print, number: u16, p: PatId, reason: u16) {
+pub fn print_refusal(rt: &impl Print, number: u32, p: PatId, reason: u16) {
     let _ = rt.write_all(b"refused ");
-    print_number(rt, number as u32);
+    print_number(rt, number);
     print_number(rt, p.0 as u32);
     print_number(rt, reason as u32);
 }
 
 // The three numbers of an error, at a pattern.
 pub fn print_error(rt: &impl Print, e: MirLowerError, p: PatId) {
-    print_refusal(rt, number_of(e), p, reason_of(e));
+    print_refusal(rt, number_of(e) as u32, p, reason_of(e));
 }
 
 fn print_block(rt: &impl Print, block: BasicBlockId) {
