@@ -1,5 +1,5 @@
-// A body's blocks as records, from its table of words: a lent slice of records is filled. The functions over the slice are thin, and their proofs follow their code
-// by hand; whoever calls `records_of` is covered.
+// A body's blocks as records, from its table of words: a lent slice of records is filled, where it has room for them. `records_of`
+// lends a slice of its own and answers it by value.
 #![tactic(auto)]
 
 ghost use Rattle.std.specs.Prelude.{◌≡◌, ◌≤◌, map, length, take};

@@ -1,5 +1,5 @@
-// Blocks in a lent table of records: a terminator is set and read in a slice of block structs that the caller lends. The borrow checker covers no function with a
-// local that refers to structs: each function over the slice is thin, and its proof follows its code by hand. What is done with records by value is covered.
+// Blocks in a lent table of records: a terminator is set and read in a slice of block structs that the caller lends. What is looked
+// at in a record, and what is made of one, are functions over records by value; each function over the slice reads or stores one of them.
 #![tactic(auto)]
 
 ghost use Rattle.std.specs.Prelude.{◌≡◌, ◌+◌, ◌<◌, eqb, ltb, length, get_or, set};

@@ -1,5 +1,5 @@
-// The reader of a pattern's text: it keeps the text by reference. The borrow checker covers no function over such a struct, so each step
-// is thin and proved by hand; the work is `token_at`'s, on a plain slice.
+// The reader of a pattern's text: it keeps the text by reference, beside the position.
+// Each step is thin; the work is `token_at`'s, on a plain slice.
 #![tactic(auto)]
 
 ghost use Rattle.std.specs.Prelude.{◌≡◌};
@@ -42,7 +42,7 @@ pub fn next<'a>(r: Reader<'a>) -> Token
     token_at(r.text, r.at)
 }
 
-// The token at a position of a text, by a reader: its parameters are plain, so that whoever calls it needs no walk.
+// The token at a position of a text, by a reader: its parameters are plain.
 pub fn token_from(text: &[u8], at: usize) -> Token
     ensures { result ≡ token_at text.now at }
 {
