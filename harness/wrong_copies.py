@@ -81,27 +81,27 @@ REFUSED_OF_MATCHES = (
 
 # Where it is looked whether a scope holds a local: a file and its text.
 HELD = "body_live_marks/src/lib.rt", "    let held = is_held(body, counts, l);\n"
-LOOKED_AT = "body_locals/src/lib.rt", "        if entries[i] == l.0 {\n"
+LOOKED_AT = "body_locals/src/lib.rt", "    for entry in &entries[..count] {\n"
 
 # What a call on a pattern answers where the walk is done.
-MATCHED = "        Lowered::Done(c, then, other) => MatchCall::Matched(c, then, other),\n"
+MATCHED = "        Ok((c, then, other)) => Ok((c, then, other)),\n"
 # Further changes that only these show: a name, the file below crates/, the text, and what it becomes.
 OF_MATCHES = (
     ("the else that is supplied is not taken", "pattern_passes/src/lib.rt",
      "        MatchingMode::Check,\n        p,\n        current,\n        els,\n",
-     "        MatchingMode::Check,\n        p,\n        current,\n        OptBlock::None,\n"),
+     "        MatchingMode::Check,\n        p,\n        current,\n        None,\n"),
     ("the projection that is handed in is dropped", "pattern_match_call/src/lib.rt",
-     "                image, tables, bindings, body, visits, counts, p, current, els, place,\n            )\n        }\n",
-     "                image, tables, bindings, body, visits, counts, p, current, els, Place { local: place.local, len: 0, elems: [0u32; 16] },\n            )\n        }\n"),
+     "    match_step(\n        image, tables, bindings, body, visits, counts, p, current, els, place,\n",
+     "    match_step(\n        image, tables, bindings, body, visits, counts, p, current, els, Place { local: place.local, len: 0, elems: [0u32; 16] },\n"),
     ("what is live enters the scope before the last", "pattern_match_call/src/lib.rt", MATCHED,
-     "        Lowered::Done(c, then, other) => {\n"
+     "        Ok((c, then, other)) => {\n"
      "            if 1 < counts.scopes {\n                body[body_tables::SCOPES + ((counts.scopes - 1) as usize)] = c.entries;\n            }\n"
-     "            MatchCall::Matched(c, then, other)\n        }\n"),
+     "            Ok((c, then, other))\n        }\n"),
     ("the visits of an assignment are not counted", "pattern_assignment_call/src/lib.rt", MATCHED,
-     "        Lowered::Done(c, then, other) => {\n"
-     "            clear_from(visits, 0);\n            MatchCall::Matched(c, then, other)\n        }\n"),
+     "        Ok((c, then, other)) => {\n"
+     "            clear_from(visits, 0);\n            Ok((c, then, other))\n        }\n"),
     ("an assignment is always refused", "pattern_assignment_call/src/lib.rt",
-     "                OptBlock::None,\n", "                OptBlock::Some(current),\n"),
+     "p, current, None, place) {\n", "p, current, Some(current), place) {\n"),
     ("the start stays ended after a refusal", "pattern_match_call/src/lib.rt",
      "            put_back(body, current, row);\n", ""),
     ("a part of an array has no last element", "place_types/src/lib.rt",
@@ -109,15 +109,15 @@ OF_MATCHES = (
      "ProjectionElem::IndexFromEnd(_) => PlaceTy::Inapplicable,"),
     ("a held local is recorded again", *HELD, "    let held = false;\n"),
     ("no binding's local is recorded", *HELD, "    let held = true;\n"),
-    ("the last entry alone is looked at", *LOOKED_AT, "        if entries[i] == l.0 && i + 1 == count {\n"),
-    ("the first entry alone is looked at", *LOOKED_AT, "        if entries[i] == l.0 && i == 0 {\n"),
-    ("the last entry is not looked at", *LOOKED_AT, "        if entries[i] == l.0 && i + 1 != count {\n"),
+    ("the last entry alone is looked at", *LOOKED_AT, "    for entry in &entries[count.saturating_sub(1)..count] {\n"),
+    ("the first entry alone is looked at", *LOOKED_AT, "    for entry in &entries[..count.min(1)] {\n"),
+    ("the last entry is not looked at", *LOOKED_AT, "    for entry in &entries[..count.saturating_sub(1)] {\n"),
     ("entries above the count are looked at", "body_locals/src/lib.rt",
-     "    while i < count && i < entries.len() {\n", "    while i <= count && i < entries.len() {\n"),
+     "    let count = (counts.entries as usize).min(entries.len());\n", "    let count = (counts.entries as usize + 1).min(entries.len());\n"),
     ("no live mark of a held local", "body_live_marks/src/lib.rt",
-     "    let Counted::Now(c2) = push_live(body, c1, block, l) else {\n",
-     "    let live = if held { Counted::Now(c1) } else { push_live(body, c1, block, l) };\n"
-     "    let Counted::Now(c2) = live else {\n"),
+     "    let c2 = push_live(body, c1, block, l).ok_or(MirLowerError::Limit)?;\n",
+     "    let live = if held { Some(c1) } else { push_live(body, c1, block, l) };\n"
+     "    let c2 = live.ok_or(MirLowerError::Limit)?;\n"),
     ("a full table of entries refuses a held local", "body_live_marks/src/lib.rt",
      "    if held {\n", "    if held && counts.entries < 1024 {\n"),
     ("a temporary is not recorded", "body_temps/src/lib.rt",
@@ -139,11 +139,11 @@ CHANGES = (
      "Terminator::Switch(l, 1, 0, then, other)",
      "Terminator::Switch(l, 1, 0, other, then)"),
     ("no live mark of a binding's local", "pattern_parts/src/bindings.rt",
-     "        BoundLocal::Local(l) => match push_storage_live_for_local(body, counts, l, current) {\n",
-     "        BoundLocal::Local(l) => match Stepped::Now(counts) {\n"),
+     "        Ok(l) => match push_storage_live_for_local(body, counts, l, current) {\n",
+     "        Ok(l) => match Ok(counts) {\n"),
     ("no live mark of a temporary", "body_temps/src/lib.rt",
-     "    match mark_live(body, c1, l, block, false) {\n",
-     "    match Stepped::Now(c1) {\n"),
+     "    let c2 = mark_live(body, c1, l, block, false)?;\n",
+     "    let c2 = c1;\n"),
     ("fields in another order", "pattern_items/src/lib.rt",
      "ArgumentRow::Fields => ProjectionElem::Field(i),",
      "ArgumentRow::Fields => ProjectionElem::Field(fields - 1 - i),"),
@@ -151,20 +151,20 @@ CHANGES = (
      "ProjectionElem::Field(list_at(image, tables, from + 2 * i))",
      "ProjectionElem::Field(i)"),
     ("Bind with a new else", "pattern_passes/src/lib.rt",
-     "            MatchingMode::Bind,\n"
-     "            p,\n"
-     "            then,\n"
-     "            other,\n",
-     "            MatchingMode::Bind,\n"
-     "            p,\n"
-     "            then,\n"
-     "            OptBlock::None,\n"),
+     "        MatchingMode::Bind,\n"
+     "        p,\n"
+     "        then,\n"
+     "        other,\n",
+     "        MatchingMode::Bind,\n"
+     "        p,\n"
+     "        then,\n"
+     "        None,\n"),
     ("a rest leaves out what the other side has", "pattern_parts/src/bindings.rt",
      "ProjectionElem::Subslice(front, end)",
      "ProjectionElem::Subslice(end, front)"),
     ("the last deref is left out", "pattern_entering/src/lib.rt",
-     "    while 0 < left {",
-     "    while 1 < left {"),
+     "    for _ in 0..derefs {",
+     "    for _ in 1..derefs {"),
     ("ref mut for ref", "pattern_parts/src/bindings.rt",
      "BindingMode::Ref => PlaceRvalue::Ref,",
      "BindingMode::Ref => PlaceRvalue::Mut,"),
@@ -175,7 +175,7 @@ CHANGES = (
      "    let mut i = 0;\n"
      "    while i < counts.locals {\n"
      "        if body_tables::locals::local_word(body, place::LocalId(i)) == I128 {\n"
-     "            return NewTemp::Local(counts, place::LocalId(i));\n"
+     "            return Ok((counts, place::LocalId(i)));\n"
      "        }\n"
      "        i += 1;\n"
      "    }\n"
@@ -186,18 +186,18 @@ CHANGES = (
      "        i += 1;\n"
      "    }\n"
      "    match temp(image, tables, body, counts, I128, block) {\n"
-     "        NewTemp::Refused(e) => NewTemp::Refused(e),\n"
-     "        NewTemp::Local(c, _) => NewTemp::Local(c, place::LocalId(i)),\n"
+     "        Err(e) => Err(e),\n"
+     "        Ok((c, _)) => Ok((c, place::LocalId(i))),\n"
      "    }\n"),
     ("the local of a test of an enum is live in the next block", "pattern_tests/src/discriminants.rt",
      "discr_temp_place(image, tables, body, counts, current)",
      "discr_temp_place(image, tables, body, counts, BasicBlockId(counts.blocks))"),
     ("the local of a test of an enum is not marked live", *TEST_LOCAL,
      "    match new_local(body, counts, I128) {\n"
-     "        NewLocal::Full => NewTemp::Refused(MirLowerError::Limit),\n"
-     "        NewLocal::Local(c, l) => match body_scope_tables::push_entry(body, c, l) {\n"
-     "            mir::scopes::Counted::Full => NewTemp::Refused(MirLowerError::Limit),\n"
-     "            mir::scopes::Counted::Now(c1) => NewTemp::Local(c1, l),\n"
+     "        None => Err(MirLowerError::Limit),\n"
+     "        Some((c, l)) => match body_scope_tables::push_entry(body, c, l) {\n"
+     "            mir::scopes::None => Err(MirLowerError::Limit),\n"
+     "            mir::scopes::Some(c1) => Ok((c1, l)),\n"
      "        },\n"
      "    }\n"),
     ("a half-open range takes its end", "pattern_range_ends/src/lib.rt",

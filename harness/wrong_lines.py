@@ -40,8 +40,8 @@ CHANGES = (
     ("behind the place handed in lies the whole of it", "meaning", "Running",
      "behind_root [] path = some path", "behind_root [] path = some []", "behind_the_place_handed_in_lies_its_value"),
     # How a body runs.
-    ("a run never reaches the else", "meaning", "Executing", "is_else (OptBlock.Some e) b = eqb b e.0", "is_else (OptBlock.Some e) b = false", "the_function_runs_any_other_value_to_else"),
-    ("without an else a run stops at the first leap", "meaning", "Executing", "is_else OptBlock.None b = false", "is_else OptBlock.None b = eqb b b", "the_function_runs_a_value_that_matches_to_then"),
+    ("a run never reaches the else", "meaning", "Executing", "is_else (Some e) b = eqb b e.0", "is_else (Some e) b = false", "the_function_runs_any_other_value_to_else"),
+    ("without an else a run stops at the first leap", "meaning", "Executing", "is_else None b = false", "is_else None b = eqb b b", "the_function_runs_a_value_that_matches_to_then"),
     ("a switch goes the other way", "meaning", "Running",
      "switched held low high then else = cond (eqb (switch_number (scalar_of (value_of held))) (low + 18446744073709551616 * high)) then else",
      "switched held low high then else = cond (eqb (switch_number (scalar_of (value_of held))) (low + 18446744073709551616 * high)) else then", RUNS),
@@ -168,7 +168,7 @@ CHANGES = (
      "(and_then (try_local st word) (λ st₁. mark_live mathlib.Core.Bool.true st₁ (next_local st) block))", "a_temporary's_local_is_held_by_no_scope"),
     # What is counted.
     ("one visit in Check, whatever the Ors above", "counting", "Counting", "check_visits r = r.ors + 1", "check_visits r = 1", "every_reached_pattern_was_visited_k_plus_2_times"),
-    ("a new else is not counted", "counting", "Counting", "else_made fails OptBlock.None = one fails", "else_made fails OptBlock.None = 0", "counted_as_document_01_counts"),
+    ("a new else is not counted", "counting", "Counting", "else_made fails None = one fails", "else_made fails None = 0", "counted_as_document_01_counts"),
     ("a constant's test makes 2 statements", "counting", "Reaching",
      "path_reached image ty (constant operand) h k f = testing h k f 1 4", "path_reached image ty (constant operand) h k f = testing h k f 1 2", "counted_as_document_01_counts"),
     ("alternatives behind one that cannot fail are reached", "counting", "Reaching",

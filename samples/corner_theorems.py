@@ -197,7 +197,7 @@ def wanted(body):
     """The answer of a lowering."""
     if body.refusal:
         return "refusal (record {{ number = {}; pattern = {}; reason = {} }})".format(*body.refusal)
-    other = "OptBlock.None" if body.other is None else f"(OptBlock.Some {number(body.other)})"
+    other = "None" if body.other is None else f"(Some {number(body.other)})"
     return f"lowers_to {number(body.then)} {other} {content(body)} {row_of(body.visits)}"
 
 
@@ -286,7 +286,7 @@ def param_rows():
         answer = f"accepted_params {number(body.then)} {locals_} {content(body)} {row_of(body.visits)}"
         if binds_again(m, receiver, [p for p, _ in params]):
             answer = f"refused_params (record {{ number = 1; pattern = {ABSENT}; reason = 0 }})"
-        me = f"SelfParam.Some {number(receiver[0])} {receiver[1]}" if receiver else "SelfParam.None"
+        me = f"Some ({number(receiver[0])[1:-1]}, {receiver[1]})" if receiver else "None"
         listed = row_of(f"record {{ pattern = {p}; ty = {type_} }}" for p, type_ in params)
         label = label_of(name)
         given = f"values = {row_of(map(value, values))}; fit = {'false' if name in UNFIT else 'true'}"
@@ -336,7 +336,7 @@ def print_file(kind):
     names = PROVED if proved else [name for name, image in CORNERS if small(name, image)]
     present = [label_of(name) for name, _ in CORNERS if name in names]
     what = "The corners of pattern_matching.rs that document 01 marks [P]" if proved else "Further corners"
-    first = "use Rattle.lower_spec.specs.declared.merging.OptBlock.{OptBlock}"
+    first = "use Rattle.std.specs.Prelude.{Some, None}"
     print(HEAD.format(what=what, has="an image, the type of local 0", first=first, uses=uses(MODULES), own=AUDIT))
     rows(names)
     print_end(MODULES, present, "start_state start answer_by", "answer_by lowering row.image row.ty")
@@ -346,7 +346,7 @@ def print_params():
     """Prints the file on parameters."""
     first = """use mathlib.Core.Bool.{true, false}
 use lib.IntN.{pos}
-use Rattle.params_spec.specs.declared.SelfParam.{SelfParam}
+use Rattle.std.specs.Prelude.{Some, None}
 use Rattle.meaning.specs.Values.{Value, Int, Tuple, Adt, no_more, more}"""
     own = """use Rattle.param_runs.specs.Returned.{own_local}
 use Rattle.param_runs.specs.Through.{plain, pattern_fits, param_fits, params_fit, all_fit, params_bound}

@@ -11,7 +11,7 @@ use Rattle.image.specs.declared.PatId.{PatId}
 use Rattle.state.specs.State.{Body}
 use Rattle.pattern_matching.specs.Walking.{Out, ok}
 use Rattle.room.specs.Room.{ScopeOpen, Made}
-use Rattle.pattern_calls_spec.specs.declared.MatchCall.{MatchCall}
+use Rattle.pattern_calls_spec.specs.Results.{MatchCall}
 use Rattle.called.specs.Call.{Call, HandedOut, Promised, Accepted, Refused, before, pattern_of, start_of, result_of}
 use Rattle.called.specs.Runs.{FittingPattern}
 use Rattle.called.specs.Acceptance.{Taken, HasRoom, LimitPassed, IsAcceptance}

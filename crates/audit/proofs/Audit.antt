@@ -1,5 +1,6 @@
 -- The auditor's page, demands 2 and 3. Each theorem is a demand, or a sentence of one, in the words of the documents, and is proved by one citation. It speaks of the calls of
 -- `pattern_match`: `Accepted call out` is what its contract promises of a call that is accepted, with what lies in the tables when it returns. Assumes nothing.
+use Rattle.std.specs.Prelude.{Some}
 use Prim.Native.Nat.{ℕ, ◌+◌, ◌≤◌, ◌<◌}
 use mathlib.Core.Path.{◌≡◌}
 use mathlib.Core.Logic.{◌⊎◌}
@@ -8,7 +9,6 @@ use mathlib.Core.List.{[]}
 use lib.ListN.{get_or}
 use Rattle.mir.specs.declared.BasicBlockId.{BasicBlockId}
 use Rattle.mir.specs.declared.blocks.Terminator.{Terminator}
-use Rattle.lower_spec.specs.declared.merging.OptBlock.{OptBlock}
 use Rattle.views.specs.Views.{Mir, mir_of}
 use Rattle.views.specs.Growing.{terminator_at, GoesOn}
 use Rattle.counting.specs.Demand3.{Counted}
@@ -39,12 +39,12 @@ module _ {call : Call} {out : HandedOut} (on : FittingValue call out) (M : Mir) 
 module _ (call : Call) (out : HandedOut) (accepted : Accepted call out) where
   -- "of the new blocks exactly those returned lack a terminator": one that lacks it is returned ..
   pub only_those_returned_lack_a_terminator : (b : ℕ) → call.counts.blocks ≤ b → b < out.counts.blocks →
-      terminator_at (mir_of (after out)) b ≡ Terminator.Open → (b ≡ out.then.0) ⊎ (out.else ≡ OptBlock.Some (record { 0 = b }))
+      terminator_at (mir_of (after out)) b ≡ Terminator.Open → (b ≡ out.then.0) ⊎ (out.else ≡ Some (record { 0 = b }))
   only_those_returned_lack_a_terminator = only_those_open call out accepted
 
   -- .. and those returned lack it
   pub those_returned_lack_a_terminator : (terminator_at (mir_of (after out)) out.then.0 ≡ Terminator.Open)
-      × ((b : BasicBlockId) → out.else ≡ OptBlock.Some b → call.counts.blocks ≤ b.0 → terminator_at (mir_of (after out)) b.0 ≡ Terminator.Open)
+      × ((b : BasicBlockId) → out.else ≡ Some b → call.counts.blocks ≤ b.0 → terminator_at (mir_of (after out)) b.0 ≡ Terminator.Open)
   those_returned_lack_a_terminator = those_open call out accepted
 
   -- "The second pass has kept the first's else": what the call hands out is what the second pass gives, from what the first pass of this call gave

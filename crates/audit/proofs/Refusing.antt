@@ -8,15 +8,15 @@ use mathlib.Core.List.{List}
 use Rattle.refusals.specs.Refusals.{Refusal}
 use Rattle.mir.specs.declared.BasicBlockId.{BasicBlockId}
 use Rattle.state.specs.State.{Body}
-use Rattle.lower_spec.specs.declared.merging.OptBlock.{OptBlock}
-use Rattle.body_calls_spec.specs.declared.TempCall.{TempCall}
-use Rattle.body_calls_spec.specs.declared.MergeCall.{MergeCall}
-use Rattle.body_calls_spec.specs.declared.ScopeCall.{ScopeCall}
-use Rattle.body_calls_spec.specs.declared.DropCall.{DropCall}
+use Rattle.lower_spec.specs.Results.{OptBlock}
+use Rattle.body_calls_spec.specs.Results.{TempCall}
+use Rattle.body_calls_spec.specs.Results.{MergeCall}
+use Rattle.body_calls_spec.specs.Results.{ScopeCall}
+use Rattle.body_calls_spec.specs.Results.{DropCall}
 use Rattle.body_calls_spec.specs.Answers.{temp_refusal, merge_refusal, scope_refusal, drop_refusal}
-use Rattle.pattern_calls_spec.specs.declared.MatchCall.{MatchCall}
+use Rattle.pattern_calls_spec.specs.Results.{MatchCall}
 use Rattle.pattern_calls_spec.specs.Calls.{match_refusal}
-use Rattle.params_spec.specs.declared.ParamsCall.{ParamsCall}
+use Rattle.params_spec.specs.Results.{ParamsCall}
 use Rattle.params_spec.specs.Calls.{params_refusal}
 use Rattle.called.specs.Call.{Call, Promised}
 use Rattle.called.specs.AsFound.{AsFound, NoneVisited}

@@ -10,15 +10,15 @@ use Rattle.image.specs.Lists.{member}
 use Rattle.mir.specs.declared.BasicBlockId.{BasicBlockId}
 use Rattle.state.specs.State.{Body, State}
 use Rattle.state.specs.Steps.{next_local, try_local}
-use Rattle.lower_spec.specs.declared.merging.OptBlock.{OptBlock}
+use Rattle.lower_spec.specs.Results.{OptBlock}
 use Rattle.lower_spec.specs.Recorded.{recorded, occurs}
 use Rattle.lower_spec.specs.Temps.{is_slice, push_storage_live_for_local, temp}
-use Rattle.body_calls_spec.specs.declared.TempCall.{TempCall}
-use Rattle.body_calls_spec.specs.declared.MergeCall.{MergeCall}
-use Rattle.body_calls_spec.specs.declared.ScopeCall.{ScopeCall}
-use Rattle.body_calls_spec.specs.declared.DropCall.{DropCall}
-use Rattle.pattern_calls_spec.specs.declared.MatchCall.{MatchCall}
-use Rattle.params_spec.specs.declared.ParamsCall.{ParamsCall}
+use Rattle.body_calls_spec.specs.Results.{TempCall}
+use Rattle.body_calls_spec.specs.Results.{MergeCall}
+use Rattle.body_calls_spec.specs.Results.{ScopeCall}
+use Rattle.body_calls_spec.specs.Results.{DropCall}
+use Rattle.pattern_calls_spec.specs.Results.{MatchCall}
+use Rattle.params_spec.specs.Results.{ParamsCall}
 use Rattle.named.specs.Named.{NamedBelow}
 use Rattle.named.specs.Marked.{MarksRecorded}
 use Rattle.named.proofs.Recording as recording

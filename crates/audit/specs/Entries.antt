@@ -1,10 +1,10 @@
 -- The scopes' entries after a lowering, from scopes and entries that are handed in. Assumes nothing: these are definitions.
+use Rattle.std.specs.Prelude.{None}
 use Rattle.std.specs.Prelude.{ℕ, ◌-◌, List}
 use Rattle.std.proofs.Math.Option.{Option, none, some}
 use Rattle.image.specs.Tables.{pattern_count, binding_count}
 use Rattle.image.specs.Lists.{up_from}
 use Rattle.image.specs.Tree.{tree}
-use Rattle.lower_spec.specs.declared.merging.OptBlock.{OptBlock}
 use Rattle.pattern_matching.specs.Walking.{Ctx, Out, Walk, ok, refused, local_place}
 use Rattle.audit.specs.Started.{Lowers, start_state, start}
 
@@ -34,4 +34,4 @@ entries_of (refused e p) = none
 unfoldable pub entries_by : Lowers → EntriesRow → Option (List ℕ)
 entries_by lowers row =
     let image = row.image in
-    entries_of (lowers image (up_from 1 (binding_count image)) (tree image (pattern_count image - 1)) (scoped_start row) (record { 0 = 0 }) OptBlock.None (local_place (record { 0 = 0 })))
+    entries_of (lowers image (up_from 1 (binding_count image)) (tree image (pattern_count image - 1)) (scoped_start row) (record { 0 = 0 }) None (local_place (record { 0 = 0 })))

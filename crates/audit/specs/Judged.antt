@@ -1,9 +1,9 @@
 -- Rows on which "fits", "matches", what is bound and the run are computed, held against what is wanted of them. Assumes nothing: these are definitions.
+use Rattle.std.specs.Prelude.{None}
 use Rattle.std.specs.Prelude.{ℕ, ◌-◌, Bool, cond, List, [], map}
 use Rattle.image.specs.Tables.{pattern_count}
 use Rattle.image.specs.Tree.{Pat, tree}
 use Rattle.image.specs.Valid.{valid}
-use Rattle.lower_spec.specs.declared.merging.OptBlock.{OptBlock}
 use Rattle.views.specs.Views.{Mir, Path, mir_of}
 use Rattle.pattern_matching.specs.Walking.{Out, Walk, ok, refused, local_place}
 use Rattle.meaning.specs.Values.{Value, unit_value, value_fits}
@@ -70,7 +70,7 @@ unfoldable pub judged : Judgement → Judgement
 judged row =
     let image = row.image in
     let pat = tree image (pattern_count image - 1) in
-    let lowered = lowering image row.locals pat (start image row.ty) (record { 0 = 0 }) OptBlock.None (local_place (record { 0 = 0 })) in
+    let lowered = lowering image row.locals pat (start image row.ty) (record { 0 = 0 }) None (local_place (record { 0 = 0 })) in
     record {
       image = image;
       holds = valid image;

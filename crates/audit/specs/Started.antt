@@ -1,5 +1,6 @@
 -- Document 01's start of its corners, "block 0 open, no else, place local 0, one scope open", and what a lowering from there comes to.
 -- Assumes nothing: these are definitions.
+use Rattle.std.specs.Prelude.{None}
 use Rattle.std.specs.Prelude.{ℕ, ◌-◌, not, cond, List, [], ◌∷◌, map}
 use Rattle.refusals.specs.Refusals.{Refusal, breaks_a_rule, refusal_at}
 use Rattle.row_tables.specs.Rows.{zeros}
@@ -11,7 +12,7 @@ use Rattle.image.specs.Valid.{valid}
 use Rattle.place.specs.declared.Place.{Place}
 use Rattle.mir.specs.declared.BasicBlockId.{BasicBlockId}
 use Rattle.state.specs.State.{State}
-use Rattle.lower_spec.specs.declared.merging.OptBlock.{OptBlock}
+use Rattle.lower_spec.specs.Results.{OptBlock}
 use Rattle.views.specs.Views.{Mir, mir_of}
 use Rattle.pattern_matching.specs.Walking.{Ctx, Out, Walk, ok, refused, local_place}
 
@@ -47,7 +48,7 @@ unfoldable pub answer_by : Lowers → List ℕ → ℕ → Answer
 answer_by lowers image t =
     cond (not (valid image)) (refusal breaks_a_rule)
     (answer_of
-    (lowers image (up_from 1 (binding_count image)) (tree image (pattern_count image - 1)) (start image t) (record { 0 = 0 }) OptBlock.None (local_place (record { 0 = 0 }))))
+    (lowers image (up_from 1 (binding_count image)) (tree image (pattern_count image - 1)) (start image t) (record { 0 = 0 }) None (local_place (record { 0 = 0 }))))
 
 -- a corner: an image, the type of local 0, and the answer that is wanted
 pub record Row : Type 0 where

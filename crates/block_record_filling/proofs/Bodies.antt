@@ -1,4 +1,5 @@
 -- Records and the body: the records' terminators are those of the body that tables and counts stand for, a terminator that is set is the one that is found, and a terminator set in the table of words and in its records leaves the two in step. Assumes nothing.
+use Rattle.std.specs.Prelude.{Some, None}
 use Prim.Native.Nat.{ℕ, zero, suc, ◌*◌, ◌≤◌, ◌<◌}
 use mathlib.Core.Path.{◌≡◌, refl, sym, ap, ap₂, ◌∙◌, subst}
 use mathlib.Core.Bool.{Bool, true, false, cond}
@@ -20,7 +21,6 @@ use Rattle.views.specs.Views.{terminator_of, mir_of}
 use Rattle.views.specs.Growing.{terminator_at}
 use Rattle.views.proofs.ReadBack.{Halved}
 use Rattle.block_records.specs.declared.Block.{Block}
-use Rattle.block_record_tables.specs.declared.Look.{Look}
 use Rattle.block_records.specs.Records.{blank, record_of, terminator_in, record_of_row, terminators_of}
 use Rattle.block_record_tables.specs.Looks.{look_at, put_at}
 use Rattle.block_record_filling.specs.Fillings.{filled}
@@ -39,10 +39,10 @@ unfolding terminators_of terminator_of
 terminator_row t n i h = get_or-map terminator_of (rows_of block_width t n) i [] ∙ ap terminator_of (row_of 12 t n i h)
 
 -- what is found of a block in records that are filled is its terminator in that body
-pub body_block : (rs : List Block) (b : Body) (c : Counts) (i : ℕ) → c.blocks ≤ length rs → i < c.blocks → look_at (filled rs b.blocks c.blocks) i ≡ Look.At (terminator_at (mir_of (decode b c)) i)
+pub body_block : (rs : List Block) (b : Body) (c : Counts) (i : ℕ) → c.blocks ≤ length rs → i < c.blocks → look_at (filled rs b.blocks c.blocks) i ≡ Some (terminator_at (mir_of (decode b c)) i)
 body_block rs b c i h k =
     filled_look rs b.blocks c.blocks i h k
-    ∙ ap Look.At (sym (terminator_row b.blocks c.blocks i k) ∙ ap (λ (l : List Terminator). get_or l i Terminator.Open) (body_terminators b c))
+    ∙ ap Some (sym (terminator_row b.blocks c.blocks i k) ∙ ap (λ (l : List Terminator). get_or l i Terminator.Open) (body_terminators b c))
 
 -- the record that is there, with a terminator set
 set_there : (rs : List Block) (i : ℕ) (t : Terminator) → i < length rs → put_at rs i t ≡ set rs i (record_of t)
@@ -50,17 +50,17 @@ unfolding put_at
 set_there rs i t h = ap (λ (z : Bool). cond z (set rs i (record_of t)) rs) (lt-ltb i (length rs) h)
 
 -- a look at a record that is there
-look_there : (rs : List Block) (i : ℕ) → i < length rs → look_at rs i ≡ Look.At (terminator_in (get_or rs i blank))
+look_there : (rs : List Block) (i : ℕ) → i < length rs → look_at rs i ≡ Some (terminator_in (get_or rs i blank))
 unfolding look_at
-look_there rs i h = ap (λ (z : Bool). cond z (Look.At (terminator_in (get_or rs i blank))) Look.Missing) (lt-ltb i (length rs) h)
+look_there rs i h = ap (λ (z : Bool). cond z (Some (terminator_in (get_or rs i blank))) None) (lt-ltb i (length rs) h)
 
 -- the terminator that was set is found
-pub found_set : (rs : List Block) (i : ℕ) (t : Terminator) → i < length rs → look_at (put_at rs i t) i ≡ Look.At t
+pub found_set : (rs : List Block) (i : ℕ) (t : Terminator) → i < length rs → look_at (put_at rs i t) i ≡ Some t
 found_set rs i t h =
     ap (λ (l : List Block). look_at l i) (set_there rs i t h)
     ∙ look_there (set rs i (record_of t)) i (subst (λ (n : ℕ). i < n) (sym (length-set rs i (record_of t))) h)
-    ∙ ap (λ (r : Block). Look.At (terminator_in r)) (get_or-set_same rs i (record_of t) blank h)
-    ∙ ap Look.At (record_back t)
+    ∙ ap (λ (r : Block). Some (terminator_in r)) (get_or-set_same rs i (record_of t) blank h)
+    ∙ ap Some (record_back t)
 
 -- another record is found as it was
 pub found_other : (rs : List Block) (i j : ℕ) (t : Terminator) → (j ≡ i → ⊥) → look_at (put_at rs i t) j ≡ look_at rs j
@@ -69,7 +69,7 @@ found_other rs i j t other = by_test (ltb i (length rs))
   where
     by_test : (z : Bool) → look_at (cond z (set rs i (record_of t)) rs) j ≡ look_at rs j
     by_test true =
-        ap₂ (λ (n : ℕ) (r : Block). cond (ltb j n) (Look.At (terminator_in r)) Look.Missing) (length-set rs i (record_of t)) (get_or-set_other rs i j (record_of t) blank other)
+        ap₂ (λ (n : ℕ) (r : Block). cond (ltb j n) (Some (terminator_in r)) None) (length-set rs i (record_of t)) (get_or-set_other rs i j (record_of t) blank other)
     by_test false = refl
 
 -- a list with one element put, mapped

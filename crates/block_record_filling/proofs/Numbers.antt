@@ -1,4 +1,5 @@
 -- Document 01's numbers of what is answered: number 2 exactly where there is no such record, and where a table does not fit. Assumes nothing.
+use Rattle.std.specs.Prelude.{Some, None}
 use Prim.Native.Nat.{ℕ, ◌≤◌, ◌<◌}
 use mathlib.Core.Path.{◌≡◌, refl, sym, ap, ◌∙◌}
 use mathlib.Core.Bool.{Bool, true, false, cond}
@@ -10,7 +11,6 @@ use lib.ListN.{length, get_or}
 use Rattle.refusals.specs.Refusals.{names_nothing}
 use Rattle.mir.specs.Blocks.{block_words}
 use Rattle.block_records.specs.declared.Block.{Block}
-use Rattle.block_record_tables.specs.declared.Look.{Look}
 use Rattle.block_records.specs.Records.{blank, terminator_in}
 use Rattle.block_record_tables.specs.Looks.{look_at, look_refusal, fill_refusal}
 use Rattle.block_record_filling.specs.Fillings.{fits}
@@ -23,7 +23,7 @@ module _ (rs : List Block) (b : ℕ) where
   unfolding look_at look_refusal fill_refusal
   look_number = by_test (ltb b (length rs))
     where
-      by_test : (z : Bool) → look_refusal (cond z (Look.At (terminator_in (get_or rs b blank))) Look.Missing) ≡ fill_refusal z
+      by_test : (z : Bool) → look_refusal (cond z (Some (terminator_in (get_or rs b blank))) None) ≡ fill_refusal z
       by_test true = refl
       by_test false = refl
 

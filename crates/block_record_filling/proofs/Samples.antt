@@ -1,4 +1,5 @@
 -- The definitions, computed on a table of three blocks: a goto, a switch and a drop. Assumes nothing.
+use Rattle.std.specs.Prelude.{Some, None}
 use Prim.Native.Nat.{ℕ}
 use mathlib.Core.Path.{◌≡◌, refl}
 use mathlib.Core.Bool.{true, false}
@@ -7,7 +8,6 @@ use Rattle.row_tables.specs.Rows.{row_at, joined}
 use Rattle.mir.specs.declared.blocks.Terminator.{Terminator}
 use Rattle.mir.specs.Blocks.{term_row, block_words}
 use Rattle.block_records.specs.declared.Block.{Block}
-use Rattle.block_record_tables.specs.declared.Look.{Look}
 use Rattle.block_records.specs.Records.{blank, record_of, terminator_in, record_at}
 use Rattle.block_record_tables.specs.Looks.{look_at, open_at, put_at}
 use Rattle.block_record_filling.specs.Fillings.{filled, fits}
@@ -43,7 +43,7 @@ unfolding filled record_at row_at record_of
 makes = refl
 
 -- looks at three of them, and at one past the end
-pub looks : map (look_at records) (0 ∷ 2 ∷ 3 ∷ 4 ∷ []) ≡ Look.At (Terminator.Goto (record { 0 = 1 })) ∷ Look.At (Terminator.Drop (record { 0 = 9 }) (record { 0 = 1 })) ∷ Look.At Terminator.Open ∷ Look.Missing ∷ []
+pub looks : map (look_at records) (0 ∷ 2 ∷ 3 ∷ 4 ∷ []) ≡ Some (Terminator.Goto (record { 0 = 1 })) ∷ Some (Terminator.Drop (record { 0 = 9 }) (record { 0 = 1 })) ∷ Some Terminator.Open ∷ None ∷ []
 unfolding filled record_at row_at terminator_in look_at
 looks = refl
 

@@ -1,4 +1,5 @@
 -- What is found in records that are filled from the table of blocks is what the table has. Assumes nothing.
+use Rattle.std.specs.Prelude.{Some, None}
 use Prim.Native.Nat.{ℕ, ◌≤◌, ◌<◌}
 use mathlib.Core.Path.{◌≡◌, ap, ◌∙◌}
 use mathlib.Core.Bool.{Bool, true, cond, ◌&&◌}
@@ -12,7 +13,6 @@ use Rattle.row_tables.specs.Rows.{row_at}
 use Rattle.mir.specs.Blocks.{block_words, block_width}
 use Rattle.views.specs.Views.{terminator_of}
 use Rattle.block_records.specs.declared.Block.{Block}
-use Rattle.block_record_tables.specs.declared.Look.{Look}
 use Rattle.block_records.specs.Records.{blank, terminator_in, terminators_of}
 use Rattle.block_record_tables.specs.Looks.{look_at}
 use Rattle.block_record_filling.specs.Fillings.{filled, fits, filled_where}
@@ -26,12 +26,12 @@ fits_true words count room e h k =
     and_true (eqb words block_words && leb count 512) (leb count room) (and_true (eqb words block_words) (leb count 512) (eq-eqb words block_words e) (le-leb count 512 h)) (le-leb count room k)
 
 -- the record i of those that are filled
-pub filled_look : (rs : List Block) (t : List ℕ) (count i : ℕ) → count ≤ length rs → i < count → look_at (filled rs t count) i ≡ Look.At (terminator_of (row_at block_width t i))
+pub filled_look : (rs : List Block) (t : List ℕ) (count i : ℕ) → count ≤ length rs → i < count → look_at (filled rs t count) i ≡ Some (terminator_of (row_at block_width t i))
 unfolding look_at
 filled_look rs t count i h k =
-    ap (λ (z : Bool). cond z (Look.At (terminator_in (get_or (filled rs t count) i blank))) Look.Missing) (lt-ltb i (length (filled rs t count)) (omega (arith, same_length rs t count)))
-    ∙ ap (λ (r : Block). Look.At (terminator_in r)) (filled_at rs t count i k h)
-    ∙ ap Look.At (row_back t i)
+    ap (λ (z : Bool). cond z (Some (terminator_in (get_or (filled rs t count) i blank))) None) (lt-ltb i (length (filled rs t count)) (omega (arith, same_length rs t count)))
+    ∙ ap (λ (r : Block). Some (terminator_in r)) (filled_at rs t count i k h)
+    ∙ ap Some (row_back t i)
 
 -- 512 records that `blocks_as_records` was asked to fill are the table's blocks
 pub through : (rs : List Block) (t : List ℕ) (count : ℕ) (r : Bool) (zs : List Block) → length rs ≡ 512 → (length t ≡ block_words) × (count ≤ 512) → Says r rs t count zs → (length zs ≡ 512) × (map terminator_in (take count zs) ≡ terminators_of t count)

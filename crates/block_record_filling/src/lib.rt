@@ -11,16 +11,11 @@ use block_records::{Block, blank_records, block_at};
 use mir::{BLOCK_WORDS, BasicBlockId};
 
 // A table of so many words is one of blocks, and its blocks are no more than 512 and than there are records.
+#[tactic(auto, unfolding(crate::specs::Fillings::fits))]
 fn records_fit(words: usize, count: u16, room: usize) -> bool
     ensures { result ≡ fits words count room }
 {
-    if words != BLOCK_WORDS {
-        return false;
-    }
-    if 512 < count {
-        return false;
-    }
-    (count as usize) <= room
+    words == BLOCK_WORDS && count <= 512 && (count as usize) <= room
 }
 
 // ---- over a lent slice of records
@@ -30,10 +25,8 @@ fn fill(records: &mut [Block], blocks: &[u16], count: u16)
     requires { (length blocks.now ≡ block_words) × (count ≤ 512) × (count ≤ length records.old) }
     ensures { records.new ≡ filled records.old blocks.now count }
 {
-    let mut i = 0u16;
-    while i < count {
+    for i in 0..count {
         records[i as usize] = block_at(blocks, BasicBlockId(i));
-        i += 1;
     }
 }
 

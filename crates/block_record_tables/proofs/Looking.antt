@@ -1,4 +1,5 @@
 -- What a look at a record answers, and what a store leaves, by how the test of the bound came out. Assumes nothing.
+use Rattle.std.specs.Prelude.{Some, None}
 use Prim.Native.Nat.{ℕ}
 use mathlib.Core.Path.{◌≡◌, refl, ap, ◌∙◌}
 use mathlib.Core.Bool.{Bool, true, false, not, cond}
@@ -7,7 +8,6 @@ use lib.Dec.{T as Holds, eqb, ltb}
 use lib.ListN.{length, get_or, set}
 use Rattle.mir.specs.declared.blocks.Terminator.{Terminator}
 use Rattle.block_records.specs.declared.Block.{Block}
-use Rattle.block_record_tables.specs.declared.Look.{Look}
 use Rattle.block_records.specs.Records.{blank, record_of, terminator_in}
 use Rattle.block_record_tables.specs.Looks.{look_at, open_at, put_at}
 
@@ -29,14 +29,14 @@ fails_false true h = absurd h
 fails_false false h = refl
 
 -- the record is there, and it is v
-pub there : (rs : List Block) (i : ℕ) (v : Block) → Holds (ltb i (length rs)) → v ≡ get_or rs i blank → Look.At (terminator_in v) ≡ look_at rs i
+pub there : (rs : List Block) (i : ℕ) (v : Block) → Holds (ltb i (length rs)) → v ≡ get_or rs i blank → Some (terminator_in v) ≡ look_at rs i
 unfolding look_at
-there rs i v h e = ap (λ (r : Block). Look.At (terminator_in r)) e ∙ picked (ltb i (length rs)) (Look.At (terminator_in (get_or rs i blank))) Look.Missing h
+there rs i v h e = ap (λ (r : Block). Some (terminator_in r)) e ∙ picked (ltb i (length rs)) (Some (terminator_in (get_or rs i blank))) None h
 
 -- there is none
-pub missed : (rs : List Block) (i : ℕ) → Holds (not (ltb i (length rs))) → Look.Missing ≡ look_at rs i
+pub missed : (rs : List Block) (i : ℕ) → Holds (not (ltb i (length rs))) → None ≡ look_at rs i
 unfolding look_at
-missed rs i h = passed_by (ltb i (length rs)) (Look.At (terminator_in (get_or rs i blank))) Look.Missing h
+missed rs i h = passed_by (ltb i (length rs)) (Some (terminator_in (get_or rs i blank))) None h
 
 -- the same of whether a record lacks a terminator
 pub open_there : (rs : List Block) (i : ℕ) (v : Block) → Holds (ltb i (length rs)) → v ≡ get_or rs i blank → eqb v.kind 0 ≡ open_at rs i

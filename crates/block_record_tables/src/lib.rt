@@ -4,25 +4,17 @@
 
 ghost use Rattle.std.specs.Prelude.{◌≡◌, ◌+◌, ◌<◌, eqb, ltb, length, get_or, set};
 ghost use Rattle.block_records.specs.Records.{blank, terminator_in};
-ghost use Rattle.block_record_tables.specs.declared.Look.{Look};
 ghost use Rattle.block_record_tables.specs.Looks.{look_at, open_at, put_at};
 
 use block_records::{Block, block_of, terminator_of};
 use mir::BasicBlockId;
 use mir::blocks::Terminator;
 
-#[derive(Clone, Copy)]
-pub enum Look {
-    At(Terminator),
-    // There is no such block.
-    Missing,
-}
-
 // What is found in a record.
-fn found(block: Block) -> Look
-    ensures { result ≡ Look.At (terminator_in block) }
+fn found(block: Block) -> Option<Terminator>
+    ensures { result ≡ Some (terminator_in block) }
 {
-    Look::At(terminator_of(block))
+    Some(terminator_of(block))
 }
 
 // A record lacks a terminator.
@@ -49,14 +41,14 @@ pub fn set_record(records: &mut [Block], b: usize, block: Block)
 }
 
 // The terminator of a block, if there is a record for it.
-pub fn terminator(records: &[Block], b: BasicBlockId) -> Look
+pub fn terminator(records: &[Block], b: BasicBlockId) -> Option<Terminator>
     ensures { result ≡ look_at records.now b.0 }
 {
     let at = b.0 as usize;
     if at < records.len() {
         found(record_at(records, at))
     } else {
-        Look::Missing
+        None
     }
 }
 

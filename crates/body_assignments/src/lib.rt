@@ -8,7 +8,6 @@ ghost use Rattle.body_tables.specs.Layout.{body_words, body_of, with_statements}
 
 use body_tables::{LOCALS, STATEMENTS};
 use mir::rvalues::{BinOp, Constant, Left, PlaceRvalue};
-use mir::scopes::Counted;
 use mir::{BasicBlockId, Counts};
 use place::{LocalId, Place};
 
@@ -20,7 +19,7 @@ pub fn push_assignment(
     target: LocalId,
     rvalue: PlaceRvalue,
     place: Place,
-) -> Counted
+) -> Option<Counts>
     requires { length body.old ≡ body_words }
     ensures { (result ≡ new_statement counts) × (body_of body.new ≡ with_statements (body_of body.old) (statements_after counts (body_of body.old).statements (place_rvalue_row block target rvalue place))) }
 {
@@ -41,7 +40,7 @@ pub fn push_constant_assignment(
     block: BasicBlockId,
     target: LocalId,
     constant: Constant,
-) -> Counted
+) -> Option<Counts>
     requires { length body.old ≡ body_words }
     ensures { (result ≡ new_statement counts) × (body_of body.new ≡ with_statements (body_of body.old) (statements_after counts (body_of body.old).statements (constant_row block target constant))) }
 {
@@ -63,7 +62,7 @@ pub fn push_binary_assignment(
     op: BinOp,
     left: Left,
     place: Place,
-) -> Counted
+) -> Option<Counts>
     requires { length body.old ≡ body_words }
     ensures { (result ≡ new_statement counts) × (body_of body.new ≡ with_statements (body_of body.old) (statements_after counts (body_of body.old).statements (binary_row block target op left place))) }
 {

@@ -1,4 +1,5 @@
 -- Before a call's own step: what `open` answers, what is known of what it takes, and the blocks that a merge is handed. Assumes nothing.
+use Rattle.std.specs.Prelude.{Some, None, Ok, Err}
 use Prim.Native.Nat.{ℕ, ◌≤◌}
 use mathlib.Core.Path.{◌≡◌, refl, sym, ap, ◌∙◌}
 use mathlib.Core.Bool.{Bool, true, false, cond}
@@ -10,7 +11,6 @@ use Rattle.image.specs.Tables.{tables_of, Whole}
 use Rattle.image.specs.Lists.{all_true}
 use Rattle.image.specs.Valid.{rules, valid}
 use Rattle.image.proofs.Bools.{and_left, and_right, all_true_at}
-use Rattle.read_image.specs.declared.Read.{Read}
 use Rattle.read_image.specs.Parts.{framed, frame_of}
 use Rattle.read_image.specs.Read.{read_of}
 use Rattle.read_image.proofs.Frames.{known}
@@ -19,29 +19,29 @@ use Rattle.state.specs.State.{Body}
 use Rattle.calls_spec.specs.Lengths.{Lengths}
 use Rattle.body_row_rules.specs.Bodies.{body_holds}
 use Rattle.body_row_rules.proofs.Checked.{within}
-use Rattle.lower_spec.specs.declared.merging.OptBlock.{OptBlock}
+use Rattle.lower_spec.specs.Results.{OptBlock}
 use Rattle.lower_spec.specs.Promises.{Within}
 use Rattle.handed.specs.Handed.{is_block_or_none, merge_holds}
-use Rattle.body_calls_spec.specs.declared.Opened.{Opened}
 use Rattle.body_calls_spec.specs.Calls.{body_taken, opened_of}
 use Rattle.body_calls_spec.specs.Sizes.{Sized, Taken}
+use Rattle.body_calls_spec.specs.declared.Unopened.{Unopened}
 
 module _ (image : List ℕ) where
   -- an image that is read is valid
-  pub read_valid : (tables : Tables) → Read.Image tables ≡ read_of image → (valid image ≡ true) × (tables ≡ tables_of image)
+  pub read_valid : (tables : Tables) → Some tables ≡ read_of image → (valid image ≡ true) × (tables ≡ tables_of image)
   unfolding read_of
   read_valid tables e = go (valid image) refl e
     where
-      go : (v : Bool) → valid image ≡ v → Read.Image tables ≡ cond v (Read.Image (tables_of image)) Read.Refused → (valid image ≡ true) × (tables ≡ tables_of image)
+      go : (v : Bool) → valid image ≡ v → Some tables ≡ cond v (Some (tables_of image)) None → (valid image ≡ true) × (tables ≡ tables_of image)
       go true f q = (f, cc)
       go false f q = absurd (let z : ◌≡◌ {A = ℕ} 0 1 = cc in omega arith)
 
   -- and one that is refused is not
-  pub read_refused : Read.Refused ≡ read_of image → valid image ≡ false
+  pub read_refused : None ≡ read_of image → valid image ≡ false
   unfolding read_of
   read_refused e = go (valid image) e
     where
-      go : (v : Bool) → Read.Refused ≡ cond v (Read.Image (tables_of image)) Read.Refused → v ≡ false
+      go : (v : Bool) → None ≡ cond v (Some (tables_of image)) None → v ≡ false
       go true q = absurd (let z : ◌≡◌ {A = ℕ} 0 1 = cc in omega arith)
       go false q = refl
 
@@ -55,7 +55,7 @@ module _ (image : List ℕ) where
 
 module _ (image : List ℕ) (b : Body) (c : Counts) where
   -- the ways through `open`
-  pub opens_none : Read.Refused ≡ read_of image → Opened.BadImage ≡ opened_of image b c
+  pub opens_none : None ≡ read_of image → (Err Unopened.BadImage) ≡ opened_of image b c
   unfolding opened_of
   opens_none e = rw (read_refused image e)
 
@@ -66,37 +66,37 @@ module _ (image : List ℕ) (b : Body) (c : Counts) where
   taken_by_lem tables same is =
       sym (is ∙ ap (λ (t : Tables). body_holds t.types.count t.variants.count b.blocks b.statements b.locals b.scopes b.entries c) same)
 
-  pub opens_image : (tables : Tables) {r : Bool} → Read.Image tables ≡ read_of image →
+  pub opens_image : (tables : Tables) {r : Bool} → Some tables ≡ read_of image →
       r ≡ body_holds tables.types.count tables.variants.count b.blocks b.statements b.locals b.scopes b.entries c → r ≡ true →
-      Opened.Image tables ≡ opened_of image b c
+      Ok tables ≡ opened_of image b c
   unfolding opened_of
   opens_image tables e is t =
       let v = read_valid image tables e in
-      rw (v.0, taken_by_lem tables v.1 is ∙ t) (ap Opened.Image v.1)
+      rw (v.0, taken_by_lem tables v.1 is ∙ t) (ap Ok v.1)
 
-  pub opens_no_body : (tables : Tables) {r : Bool} → Read.Image tables ≡ read_of image →
+  pub opens_no_body : (tables : Tables) {r : Bool} → Some tables ≡ read_of image →
       r ≡ body_holds tables.types.count tables.variants.count b.blocks b.statements b.locals b.scopes b.entries c → r ≡ false →
-      Opened.BadCall ≡ opened_of image b c
+      (Err Unopened.BadCall) ≡ opened_of image b c
   unfolding opened_of
   opens_no_body tables e is t =
       let v = read_valid image tables e in
       rw (v.0, taken_by_lem tables v.1 is ∙ t)
 
   -- what its answers say
-  pub not_valid : Opened.BadImage ≡ opened_of image b c → valid image ≡ false
+  pub not_valid : (Err Unopened.BadImage) ≡ opened_of image b c → valid image ≡ false
   unfolding opened_of
   not_valid e = go (valid image) (body_taken image b c) e
     where
-      go : (v t : Bool) → Opened.BadImage ≡ cond v (cond t (Opened.Image (tables_of image)) Opened.BadCall) Opened.BadImage → v ≡ false
+      go : (v t : Bool) → (Err Unopened.BadImage) ≡ cond v (cond t (Ok (tables_of image)) (Err Unopened.BadCall)) (Err Unopened.BadImage) → v ≡ false
       go true true q = absurd (let z : ◌≡◌ {A = ℕ} 0 1 = cc in omega arith)
       go true false q = absurd (let z : ◌≡◌ {A = ℕ} 0 1 = cc in omega arith)
       go false t q = refl
 
-  pub not_taken : Opened.BadCall ≡ opened_of image b c → (valid image ≡ true) × (body_taken image b c ≡ false)
+  pub not_taken : (Err Unopened.BadCall) ≡ opened_of image b c → (valid image ≡ true) × (body_taken image b c ≡ false)
   unfolding opened_of
   not_taken e = go (valid image) (body_taken image b c) e
     where
-      go : (v t : Bool) → Opened.BadCall ≡ cond v (cond t (Opened.Image (tables_of image)) Opened.BadCall) Opened.BadImage → (v ≡ true) × (t ≡ false)
+      go : (v t : Bool) → (Err Unopened.BadCall) ≡ cond v (cond t (Ok (tables_of image)) (Err Unopened.BadCall)) (Err Unopened.BadImage) → (v ≡ true) × (t ≡ false)
       go true true q = absurd (let z : ◌≡◌ {A = ℕ} 0 1 = cc in omega arith)
       go true false q = (refl, refl)
       go false t q = absurd (let z : ◌≡◌ {A = ℕ} 0 1 = cc in omega arith)
@@ -107,11 +107,11 @@ module _ (image : List ℕ) (b : Body) (c : Counts) where
     pub whole : Whole image tables
     pub body : body_taken image b c ≡ true
 
-  pub looked : {tables : Tables} → Opened.Image tables ≡ opened_of image b c → Looked tables
+  pub looked : {tables : Tables} → Ok tables ≡ opened_of image b c → Looked tables
   unfolding opened_of
   looked {tables = tables} e = go (valid image) (body_taken image b c) refl refl e
     where
-      go : (v t : Bool) → valid image ≡ v → body_taken image b c ≡ t → Opened.Image tables ≡ cond v (cond t (Opened.Image (tables_of image)) Opened.BadCall) Opened.BadImage → Looked tables
+      go : (v t : Bool) → valid image ≡ v → body_taken image b c ≡ t → Ok tables ≡ cond v (cond t (Ok (tables_of image)) (Err Unopened.BadCall)) (Err Unopened.BadImage) → Looked tables
       go true true f h q =
           let same : tables ≡ tables_of image = cc in
           record { valid_image = f; whole = rw same (whole_of image f); body = h }
@@ -122,7 +122,7 @@ module _ (image : List ℕ) (b : Body) (c : Counts) where
   pub few_blocks : {tables : Tables} → Looked tables → c.blocks ≤ 512
   few_blocks L = (within _ _ b.blocks b.statements b.locals b.scopes b.entries c L.body).blocks
 
-  pub taken : {tables : Tables} → Opened.Image tables ≡ opened_of image b c → Lengths b → Taken image tables b c
+  pub taken : {tables : Tables} → Ok tables ≡ opened_of image b c → Lengths b → Taken image tables b c
   taken e long = let L = looked e in record { lengths = long; valid_image = L.valid_image; whole = L.whole; body = L.body }
 
   -- a body that is taken has its sizes
@@ -145,8 +145,8 @@ module _ (image : List ℕ) (b : Body) (c : Counts) where
 -- a block that is there, where there is one
 block_within : (c : Counts) (x : OptBlock) → is_block_or_none c x ≡ true → Within c x
 unfolding is_block_or_none
-block_within c OptBlock.None e = tt
-block_within c (OptBlock.Some k) e = ltb-true _ _ e
+block_within c None e = tt
+block_within c (Some k) e = ltb-true _ _ e
 
 -- what a call of `merge_blocks` is handed is there
 pub blocks_within : (c : Counts) (x y : OptBlock) → merge_holds c x y ≡ true → Within c x × Within c y

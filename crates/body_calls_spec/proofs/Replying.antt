@@ -1,4 +1,5 @@
 -- The answers of a call: one that comes to no step, one whose step is accepted, and one whose step is refused. Assumes nothing.
+use Rattle.std.specs.Prelude.{Result, Ok, Err}
 use Prim.Native.Nat.{ℕ}
 use mathlib.Core.Path.{◌≡◌, sym, ap, subst, ◌∙◌}
 use mathlib.Core.Bool.{Bool, true, false, ◌&&◌}
@@ -15,8 +16,8 @@ use Rattle.state.specs.Promises.{Ready}
 use Rattle.calls_spec.specs.Calls.{Called, bad_image, bad_call, refused_at, accepted}
 use Rattle.calls_spec.specs.Promises.{Way, Gives}
 use Rattle.calls_spec.proofs.Calling.{no_rules, no_names_lem, steps, gives_bad_image, gives_bad_call, gives_refused, gives_accepted}
-use Rattle.body_calls_spec.specs.declared.Opened.{Opened}
 use Rattle.body_calls_spec.specs.Calls.{body_taken, body_call, opened_of}
+use Rattle.body_calls_spec.specs.declared.Unopened.{Unopened}
 use Rattle.body_calls_spec.specs.Sizes.{Sized}
 use Rattle.body_calls_spec.proofs.Clearing.{clears, held, counted}
 use Rattle.body_calls_spec.proofs.Prologue.{not_valid, not_taken, looked}
@@ -29,26 +30,36 @@ module _ {A R : Type 0} {way : Way A R} {b : Body} {c : Counts} (image : List �
   by {r = r} {b₁ = b₁} e G = subst (λ x. Gives way b c x r b₁) e G
 
   -- the image breaks a rule
-  pub bad_image_lem : Opened.BadImage ≡ opened_of image b c → way.numbers (way.answer c bad_image) ≡ some breaks_a_rule →
+  bad_image_lem : (Err Unopened.BadImage) ≡ opened_of image b c → way.numbers (way.answer c bad_image) ≡ some breaks_a_rule →
       Gives way b c (body_call image b c names step) (way.answer c bad_image) b
   bad_image_lem e h = by (no_rules (valid image) (body_taken image b c && names) step (not_valid image b c e)) (gives_bad_image way h)
 
   -- the body names nothing
-  pub bad_body : Opened.BadCall ≡ opened_of image b c → way.numbers (way.answer c bad_call) ≡ some names_nothing →
+  bad_body : (Err Unopened.BadCall) ≡ opened_of image b c → way.numbers (way.answer c bad_call) ≡ some names_nothing →
       Gives way b c (body_call image b c names step) (way.answer c bad_call) b
   bad_body e h = let n = not_taken image b c e in by (no_names_lem (valid image) (body_taken image b c && names) step n.0 (and_false_left (body_taken image b c) names n.1)) (gives_bad_call way h)
 
   -- a number of the call names nothing
-  pub bad_number : {tables : Tables} → Opened.Image tables ≡ opened_of image b c → names ≡ false → way.numbers (way.answer c bad_call) ≡ some names_nothing →
+  pub bad_number : {tables : Tables} → Ok tables ≡ opened_of image b c → names ≡ false → way.numbers (way.answer c bad_call) ≡ some names_nothing →
       Gives way b c (body_call image b c names step) (way.answer c bad_call) b
   bad_number e n h =
       let T = looked image b c e in
       by (no_names_lem (valid image) (body_taken image b c && names) step T.valid_image (and_false_right (body_taken image b c) names n)) (gives_bad_call way h)
 
   -- the step is taken
-  pub goes_on_lem : {tables : Tables} {r : R} {b₁ : Body} → Opened.Image tables ≡ opened_of image b c → names ≡ true → Gives way b c step r b₁ →
+  pub goes_on_lem : {tables : Tables} {r : R} {b₁ : Body} → Ok tables ≡ opened_of image b c → names ≡ true → Gives way b c step r b₁ →
       Gives way b c (body_call image b c names step) r b₁
   goes_on_lem e n G = let T = looked image b c e in by (steps (valid image) (body_taken image b c && names) step T.valid_image (and_true (body_taken image b c) names T.body n)) G
+
+-- a call that comes to no step, since image or body is not taken: its error is `of` what was not
+module _ {A T E : Type 0} {way : Way A (Result T E)} {b : Body} {c : Counts} (image : List ℕ) (names : Bool) (step : Called A) (of : Unopened → E) where
+  pub not_opened : (why : Unopened) → Err why ≡ opened_of image b c → way.answer c bad_image ≡ Err (of Unopened.BadImage) → way.answer c bad_call ≡ Err (of Unopened.BadCall) →
+      way.numbers (Err (of Unopened.BadImage)) ≡ some breaks_a_rule → way.numbers (Err (of Unopened.BadCall)) ≡ some names_nothing →
+      Gives way b c (body_call image b c names step) (Err (of why)) b
+  not_opened Unopened.BadImage e image_says call_says image_number call_number =
+      subst (λ r. Gives way b c (body_call image b c names step) r b) image_says (bad_image_lem image names step e (ap way.numbers image_says ∙ image_number))
+  not_opened Unopened.BadCall e image_says call_says image_number call_number =
+      subst (λ r. Gives way b c (body_call image b c names step) r b) call_says (bad_body image names step e (ap way.numbers call_says ∙ call_number))
 
 -- the tables b were found with the counts c, and b₂ are those at exit
 module _ {A R : Type 0} {way : Way A R} {b : Body} {c : Counts} {reply : R} {b₂ : Body} where

@@ -1,5 +1,6 @@
 -- The public calls on a body and its scopes: every image, body and number is taken, or refused by document 01's number. Assumes nothing: these are
 -- definitions.
+use Rattle.std.specs.Prelude.{Ok, Err}
 use Rattle.std.specs.Prelude.{ℕ, Bool, true, cond, ◌&&◌, List}
 use Rattle.image.specs.Tables.{type_count, variant_count, tables_of}
 use Rattle.image.specs.Valid.{valid}
@@ -8,13 +9,14 @@ use Rattle.mir.specs.declared.Counts.{Counts}
 use Rattle.state.specs.State.{Body, State, decode}
 use Rattle.state.specs.Steps.{try_scope}
 use Rattle.body_row_rules.specs.Bodies.{is_block, is_type_word, body_holds}
-use Rattle.lower_spec.specs.declared.merging.OptBlock.{OptBlock}
+use Rattle.lower_spec.specs.Results.{OptBlock}
 use Rattle.lower_spec.specs.Temps.{temp}
 use Rattle.lower_spec.specs.Merging.{merge_blocks}
 use Rattle.drop_scopes_spec.specs.Dropping.{At, drop_until_scope, pop_and_drop, pop_assume_dropped}
 use Rattle.handed.specs.Handed.{merge_holds}
 use Rattle.calls_spec.specs.Calls.{Called, call, by_step}
-use Rattle.body_calls_spec.specs.declared.Opened.{Opened}
+use Rattle.body_calls_spec.specs.Results.{Opened}
+use Rattle.body_calls_spec.specs.declared.Unopened.{Unopened}
 
 -- the body and its scopes may be handed in beside the image
 abbrev pub body_taken : List ℕ → Body → Counts → Bool
@@ -26,7 +28,7 @@ body_call image b c names step = call (valid image) (body_taken image b c && nam
 
 -- the tables' places, where image and body are taken
 unfoldable pub opened_of : List ℕ → Body → Counts → Opened
-opened_of image b c = cond (valid image) (cond (body_taken image b c) (Opened.Image (tables_of image)) Opened.BadCall) Opened.BadImage
+opened_of image b c = cond (valid image) (cond (body_taken image b c) (Ok (tables_of image)) (Err Unopened.BadCall)) (Err Unopened.BadImage)
 
 -- the calls, by what they do
 unfoldable pub temp_call : List ℕ → Body → Counts → ℕ → BasicBlockId → Called State

@@ -1,3 +1,5 @@
+pub mod Unopened
+pub mod Results
 pub mod Calls
 pub mod Answers
 pub mod Sizes

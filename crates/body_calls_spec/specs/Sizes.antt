@@ -1,4 +1,5 @@
 -- Tables of the right sizes, with counts within the limits; and an image and a body that were looked at. Assumes nothing: these are definitions.
+use Rattle.std.specs.Prelude.{Ok, Err}
 use Rattle.std.specs.Prelude.{ℕ, ◌≤◌, ◌≡◌, true, List, length}
 use Rattle.image.specs.declared.Tables.{Tables}
 use Rattle.image.specs.Tables.{Whole}
@@ -11,7 +12,8 @@ use Rattle.mir.specs.Scopes.{scope_limit, entry_limit}
 use Rattle.state.specs.State.{Body}
 use Rattle.calls_spec.specs.Lengths.{Lengths}
 use Rattle.body_calls_spec.specs.Calls.{body_taken, opened_of}
-use Rattle.body_calls_spec.specs.declared.Opened.{Opened}
+use Rattle.body_calls_spec.specs.Results.{Opened}
+use Rattle.body_calls_spec.specs.declared.Unopened.{Unopened}
 
 -- document 01's limits: "512 blocks, 1,024 statements, 512 locals, 32 scopes with 1,024 entries together"
 pub record Sized (b : Body) (c : Counts) : Type 0 where
@@ -28,9 +30,9 @@ pub record Sized (b : Body) (c : Counts) : Type 0 where
 
 -- the tables of a body that is taken have their lengths, by their type
 abbrev pub TakenLengths : Opened → Body → Type 0
-TakenLengths (Opened.Image tables) b = Lengths b
-TakenLengths Opened.BadCall b = Unit
-TakenLengths Opened.BadImage b = Unit
+TakenLengths (Ok tables) b = Lengths b
+TakenLengths (Err Unopened.BadCall) b = Unit
+TakenLengths (Err Unopened.BadImage) b = Unit
 
 -- what `open` answers
 pub record Opens (image : List ℕ) (b : Body) (c : Counts) (r : Opened) : Type 0 where

@@ -1,48 +1,54 @@
-// The public calls on a body and its scopes. Here stand their answers, in specs/ what they give and promise, and in proofs/ what all of them rest on.
+// The public calls on a body and its scopes. Here stand the reasons of their refusals, in specs/ what they give and promise, and in proofs/ what all of them rest on.
 #![tactic(auto)]
 
-use image::Tables;
-use lower_spec::merging::OptBlock;
-use mir::{BasicBlockId, Counts};
-use place::LocalId;
+ghost use Rattle.std.specs.Prelude.{◌≡◌};
+ghost use Rattle.body_calls_spec.specs.Unopened.{call_error, pattern_call_error};
+
+use image::PatId;
 use refusals::MirLowerError;
 
-// Image and body, with its scopes, are looked at before a call's own step.
+// Which of image and body, with its scopes, was not taken before a call's own step.
 #[derive(Clone, Copy)]
-pub enum Opened {
-    Image(Tables),
+pub enum Unopened {
     BadCall,
     BadImage,
 }
 
+// Why a call on a body is refused.
 #[derive(Clone, Copy)]
-pub enum TempCall {
-    Local(Counts, LocalId),
+pub enum CallError {
     Refused(MirLowerError),
     BadCall,
     BadImage,
 }
 
+// Why a call on a pattern or on parameters is refused.
 #[derive(Clone, Copy)]
-pub enum MergeCall {
-    At(Counts, OptBlock),
-    Refused(MirLowerError),
+pub enum PatternCallError {
+    // The error, and the pattern that was visited then, or 65535.
+    Refused(MirLowerError, PatId),
     BadCall,
     BadImage,
 }
 
-#[derive(Clone, Copy)]
-pub enum ScopeCall {
-    Now(Counts),
-    Refused(MirLowerError),
-    BadCall,
-    BadImage,
+impl From<Unopened> for CallError {
+    ghost from_gives = { λ why e. e ≡ call_error why };
+
+    fn from(why: Unopened) -> CallError {
+        match why {
+            Unopened::BadCall => CallError::BadCall,
+            Unopened::BadImage => CallError::BadImage,
+        }
+    }
 }
 
-#[derive(Clone, Copy)]
-pub enum DropCall {
-    At(Counts, BasicBlockId),
-    Refused(MirLowerError),
-    BadCall,
-    BadImage,
+impl From<Unopened> for PatternCallError {
+    ghost from_gives = { λ why e. e ≡ pattern_call_error why };
+
+    fn from(why: Unopened) -> PatternCallError {
+        match why {
+            Unopened::BadCall => PatternCallError::BadCall,
+            Unopened::BadImage => PatternCallError::BadImage,
+        }
+    }
 }

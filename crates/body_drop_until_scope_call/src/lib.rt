@@ -14,12 +14,11 @@ ghost use Rattle.body_tables.specs.Layout.{body_of};
 ghost use Rattle.calls_spec.specs.Promises.{Gives};
 ghost use Rattle.body_calls_spec.specs.Answers.{drop_way};
 
-use body_calls_spec::{DropCall, Opened};
+use body_calls_spec::CallError;
 use body_clearing::clear_above;
 use body_opening::open;
 use body_restoring::{block_row, put_back};
 use body_tables::BODY_WORDS;
-use drop_scopes_spec::AtBlock;
 use image::Tables;
 use mir::{BasicBlockId, Counts};
 
@@ -31,7 +30,7 @@ fn drop_step(
     counts: Counts,
     i: u16,
     block: BasicBlockId,
-) -> DropCall
+) -> Result<(Counts, BasicBlockId), CallError>
     requires whole { Whole image.now tables × Sized (body_of body.old) counts × (block.0 < counts.blocks) }
     requires entries_named { EntriesNamed (body_of body.old).entries counts × ScopesNamed (body_of body.old).scopes counts }
     ensures { Gives drop_way (body_of body.old) counts (by_step (drop_until_scope image.now (decode (body_of body.old) counts) i block)) result (body_of body.new) }
@@ -39,11 +38,11 @@ fn drop_step(
     clear_above(body, counts);
     let row = block_row(body, block);
     match body_scopes::drop_until_scope(image, tables, body, counts, i, block) {
-        AtBlock::At(c1, b) => DropCall::At(c1, b),
-        AtBlock::Refused(e) => {
+        Ok((c1, b)) => Ok((c1, b)),
+        Err(e) => {
             put_back(body, block, row);
             clear_above(body, counts);
-            DropCall::Refused(e)
+            Err(CallError::Refused(e))
         }
     }
 }
@@ -55,17 +54,12 @@ pub fn drop_until_scope(
     counts: Counts,
     i: u16,
     block: BasicBlockId,
-) -> DropCall
+) -> Result<(Counts, BasicBlockId), CallError>
     ensures { Gives drop_way (body_of body.old) counts (drop_until_scope_call image.now (body_of body.old) counts i block) result (body_of body.new) }
 {
-    match open(image, body, counts) {
-        Opened::BadImage => DropCall::BadImage,
-        Opened::BadCall => DropCall::BadCall,
-        Opened::Image(tables) => {
-            if counts.blocks <= block.0 {
-                return DropCall::BadCall;
-            }
-            drop_step(image, tables, body, counts, i, block)
-        }
+    let tables = open(image, body, counts)?;
+    if counts.blocks <= block.0 {
+        return Err(CallError::BadCall);
     }
+    drop_step(image, tables, body, counts, i, block)
 }

@@ -8,7 +8,6 @@ ghost use Rattle.body_handed.specs.Naming.{named_by};
 
 use body_tables::STATEMENTS;
 use image::{BindingId, PatId, Tables};
-use lower_spec::merging::OptBlock;
 use mir::{BasicBlockId, Counts};
 use place::{LocalId, Place};
 
@@ -28,7 +27,7 @@ pub fn match_holds(
     counts: Counts,
     p: PatId,
     current: BasicBlockId,
-    els: OptBlock,
+    els: Option<BasicBlockId>,
     place: Place,
 ) -> bool
     requires { (length body.now ≡ body_words) × (counts.blocks ≤ 512) }

@@ -1,4 +1,5 @@
 -- Locals leave: one by one, and those of a scope in a loop. Assumes nothing.
+use Rattle.std.specs.Prelude.{Some, None, Ok, Err}
 use Prim.Native.Nat.{ℕ, suc, ◌+◌, ◌*◌, ◌-◌, ◌<◌, ◌≤◌}
 use mathlib.Core.Path.{◌≡◌, refl, sym, ap, ◌∙◌}
 use mathlib.Core.Bool.{true, false}
@@ -15,8 +16,6 @@ use Rattle.row_tables.specs.Rows.{stored}
 use Rattle.place.specs.declared.LocalId.{LocalId}
 use Rattle.mir.specs.declared.BasicBlockId.{BasicBlockId}
 use Rattle.mir.specs.declared.Counts.{Counts}
-use Rattle.mir.specs.declared.scopes.Counted.{Counted}
-use Rattle.mir.specs.declared.blocks.NewBlock.{NewBlock}
 use Rattle.mir.specs.declared.blocks.Terminator.{Terminator}
 use Rattle.mir.specs.Blocks.{term_row, new_block, block_width}
 use Rattle.mir.specs.Statements.{new_statement, statements_after}
@@ -26,7 +25,7 @@ use Rattle.state.specs.Steps.{next_block, try_block, set_terminator}
 use Rattle.state.specs.Promises.{Ready, Own, Answers}
 use Rattle.state.proofs.RowLengths.{dead_length}
 use Rattle.state.proofs.Answering.{grown_refl, grown_trans, kept_refl, kept_trans, then, stops, no_step, block_full, next_block_lem}
-use Rattle.drop_scopes_spec.specs.declared.AtBlock.{AtBlock}
+use Rattle.drop_scopes_spec.specs.Results.{AtBlock}
 use Rattle.drop_scopes_spec.specs.Dropping.{At, is_copy, mark_dead, emit_drop_and_storage_dead, leave_all, last_first}
 use Rattle.drop_scopes_spec.specs.Promises.{LeftAt}
 use Rattle.body_tables.specs.Layout.{with_blocks, with_statements}
@@ -51,7 +50,7 @@ beside_statements e = record { locals = ap (λ (x : Body). x.locals) e; scopes =
 -- `mark_dead`: b₀ is the body at entry, b the one with a statement more where there is room
 module _ (c : Counts) (block : BasicBlockId) (l : LocalId) (b₀ : Body) {b : Body} (is : b ≡ with_statements b₀ (statements_after c b₀.statements (dead_row block l))) where
   -- a local is dead
-  pub dead_marked : {c₁ : Counts} → block.0 < c.blocks → Counted.Now c₁ ≡ new_statement c → Leaves (λ st. mark_dead st block l) c block b₀ (AtBlock.At c₁ block) b
+  pub dead_marked : {c₁ : Counts} → block.0 < c.blocks → Some c₁ ≡ new_statement c → Leaves (λ st. mark_dead st block l) c block b₀ (Ok (c₁, block)) b
   unfolding mark_dead
   dead_marked {c₁ = c₁} h made =
       let same = (made_statement c c₁ made).1 in
@@ -64,7 +63,7 @@ module _ (c : Counts) (block : BasicBlockId) (l : LocalId) (b₀ : Body) {b : Bo
       }
 
   -- a limit is passed before it is
-  pub dead_refused : Counted.Full ≡ new_statement c → Leaves (λ st. mark_dead st block l) c block b₀ (AtBlock.Refused MirLowerError.Limit) b
+  pub dead_refused : None ≡ new_statement c → Leaves (λ st. mark_dead st block l) c block b₀ (Err MirLowerError.Limit) b
   unfolding mark_dead
   dead_refused full =
       record {
@@ -80,10 +79,10 @@ own_trans c c₁ block next last h (inl same) (inl again) = inl (again ∙ same)
 own_trans c c₁ block next last h (inr new) (inl again) = inr (omega arith)
 
 -- where one step has led to counts and a block, and the next goes on from there
-left_trans : (c c₁ : Counts) (block next : BasicBlockId) (r : AtBlock) → LeftAt c block (AtBlock.At c₁ next) → LeftAt c₁ next r → LeftAt c block r
-left_trans c c₁ block next (AtBlock.At c₂ last) L M =
+left_trans : (c c₁ : Counts) (block next : BasicBlockId) (r : AtBlock) → LeftAt c block (Ok (c₁, next)) → LeftAt c₁ next r → LeftAt c block r
+left_trans c c₁ block next (Ok (c₂, last)) L M =
     (M.0, own_trans c c₁ block.0 next.0 last.0 L.2 L.1 M.1, le_trans L.2 M.2, M.3 ∙ L.3, M.4 ∙ L.4, M.5 ∙ L.5)
-left_trans c c₁ block next (AtBlock.Refused e) L M = tt
+left_trans c c₁ block next (Err e) L M = tt
 
 -- three steps, the first two taken together
 and_then_twice : {A B C : Type 0} (r : Result A) (f : A → Result B) (g : B → Result C) → and_then (and_then r f) g ≡ and_then r (λ a. and_then (f a) g)
@@ -107,8 +106,8 @@ module _ (image : List ℕ) (c : Counts) (block : BasicBlockId) (l : LocalId) (b
   copy_leaves copy D = record { answers = λ R. rw (word_taken, copy) (D.answers R); left = D.left; beside = D.beside }
 
   -- one that is not, where there is no room for a block
-  pub no_room_leaves : is_copy image (get_or b₀.locals l.0 0) ≡ false → NewBlock.Full ≡ new_block c →
-      Leaves (λ st. emit_drop_and_storage_dead image st block l) c block b₀ (AtBlock.Refused MirLowerError.Limit) b₀
+  pub no_room_leaves : is_copy image (get_or b₀.locals l.0 0) ≡ false → None ≡ new_block c →
+      Leaves (λ st. emit_drop_and_storage_dead image st block l) c block b₀ (Err MirLowerError.Limit) b₀
   unfolding emit_drop_and_storage_dead
   no_room_leaves moves full =
       record {
@@ -119,7 +118,7 @@ module _ (image : List ℕ) (c : Counts) (block : BasicBlockId) (l : LocalId) (b
       }
 
   -- one that is not, and is dropped
-  pub drop_leaves : {c₁ : Counts} {next : BasicBlockId} {r : AtBlock} {b₁ b : Body} → is_copy image (get_or b₀.locals l.0 0) ≡ false → block.0 < c.blocks → NewBlock.Block c₁ next ≡ new_block c →
+  pub drop_leaves : {c₁ : Counts} {next : BasicBlockId} {r : AtBlock} {b₁ b : Body} → is_copy image (get_or b₀.locals l.0 0) ≡ false → block.0 < c.blocks → Some (c₁, next) ≡ new_block c →
       b₁ ≡ with_blocks b₀ (stored b₀.blocks (block_width * block.0) (term_row (Terminator.Drop l next))) → Leaves (λ st. mark_dead st next l) c₁ next b₁ r b →
       Leaves (λ st. emit_drop_and_storage_dead image st block l) c block b₀ r b
   unfolding emit_drop_and_storage_dead
@@ -154,7 +153,7 @@ last_peeled e start i h =
 pub record Departed (image : List ℕ) (start end : ℕ) (b₀ : Body) (c₀ : Counts) (block : BasicBlockId) (b : Body) (c : Counts) (at : BasicBlockId) (i : ℕ) : Type 0 where
   pub answers : Ready b₀ c₀ →
       Answers b₀ c₀ block.0 b (some c) (leave_all image (decode b c) at (last_first b₀.entries start (i - start))) (leave_all image (decode b₀ c₀) block (last_first b₀.entries start (end - start)))
-  pub left : LeftAt c₀ block (AtBlock.At c at)
+  pub left : LeftAt c₀ block (Ok (c, at))
   pub begun : start ≤ i
   pub before : i ≤ end
   pub beside : Beside b₀ b
@@ -189,7 +188,7 @@ module _ {image : List ℕ} {start end : ℕ} {b₀ : Body} {c₀ : Counts} {blo
 
   -- a turn: one local more leaves
   pub departs : {l : LocalId} {c₁ : Counts} {at₁ : BasicBlockId} {b₁ : Body} → start < i → l.0 ≡ get_or b.entries (i - 1) 0 →
-      Leaves (λ st. emit_drop_and_storage_dead image st at l) c at b (AtBlock.At c₁ at₁) b₁ → Departed image start end b₀ c₀ block b₁ c₁ at₁ (i - 1)
+      Leaves (λ st. emit_drop_and_storage_dead image st at l) c at b (Ok (c₁, at₁)) b₁ → Departed image start end b₀ c₀ block b₁ c₁ at₁ (i - 1)
   departs {c₁ = c₁} {at₁ = at₁} h is L =
       record {
         answers = λ R.
@@ -200,7 +199,7 @@ module _ {image : List ℕ} {start end : ℕ} {b₀ : Body} {c₀ : Counts} {blo
               goes = (B.goes.0, grown_trans A.goes.1 B.goes.1);
               kept = kept_trans A.kept A.goes.1 D.left.1 B.kept;
             };
-        left = left_trans c₀ c block at (AtBlock.At c₁ at₁) D.left L.left;
+        left = left_trans c₀ c block at (Ok (c₁, at₁)) D.left L.left;
         begun = omega arith;
         before = omega (arith, D.before);
         beside = beside_trans D.beside L.beside;
@@ -208,8 +207,8 @@ module _ {image : List ℕ} {start end : ℕ} {b₀ : Body} {c₀ : Counts} {blo
 
   -- a turn that is refused
   pub departing_stops : {l : LocalId} {err : MirLowerError} {b₁ : Body} → start < i → l.0 ≡ get_or b.entries (i - 1) 0 →
-      Leaves (λ st. emit_drop_and_storage_dead image st at l) c at b (AtBlock.Refused err) b₁ →
-      Leaves (λ st. leave_all image st block (last_first b₀.entries start (end - start))) c₀ block b₀ (AtBlock.Refused err) b₁
+      Leaves (λ st. emit_drop_and_storage_dead image st at l) c at b (Err err) b₁ →
+      Leaves (λ st. leave_all image st block (last_first b₀.entries start (end - start))) c₀ block b₀ (Err err) b₁
   departing_stops h is L =
       record {
         answers = λ R.
@@ -221,7 +220,7 @@ module _ {image : List ℕ} {start end : ℕ} {b₀ : Body} {c₀ : Counts} {blo
       }
 
   -- the loop's end
-  pub departing_ends : i ≤ start → Leaves (λ st. leave_all image st block (last_first b₀.entries start (end - start))) c₀ block b₀ (AtBlock.At c at) b
+  pub departing_ends : i ≤ start → Leaves (λ st. leave_all image st block (last_first b₀.entries start (end - start))) c₀ block b₀ (Ok (c, at)) b
   unfolding leave_all last_first
   departing_ends h =
       let none_left : i - start ≡ 0 = omega arith in

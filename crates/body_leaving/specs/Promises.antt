@@ -5,7 +5,7 @@ use Rattle.mir.specs.declared.BasicBlockId.{BasicBlockId}
 use Rattle.mir.specs.declared.Counts.{Counts}
 use Rattle.state.specs.State.{Body, State, decode}
 use Rattle.state.specs.Promises.{Ready, Answers}
-use Rattle.drop_scopes_spec.specs.declared.AtBlock.{AtBlock}
+use Rattle.drop_scopes_spec.specs.Results.{AtBlock}
 use Rattle.drop_scopes_spec.specs.Dropping.{At}
 use Rattle.drop_scopes_spec.specs.Promises.{at_result, at_counts, LeftAt}
 

@@ -13,11 +13,9 @@ use body_tables::BODY_WORDS;
 use body_tables::blocks::set_terminator;
 use body_tables::locals::local_word;
 use body_tables::statements::push_dead;
-use drop_scopes_spec::AtBlock;
 use image::Tables;
 use image::rows::type_at;
-use mir::blocks::{NewBlock, Terminator, new_basic_block};
-use mir::scopes::Counted;
+use mir::blocks::{Terminator, new_basic_block};
 use mir::{BasicBlockId, Counts};
 use place::LocalId;
 use refusals::MirLowerError;
@@ -39,14 +37,12 @@ fn mark_dead(
     counts: Counts,
     block: BasicBlockId,
     l: LocalId,
-) -> AtBlock
+) -> Result<(Counts, BasicBlockId), MirLowerError>
     requires { block.0 < counts.blocks }
     ensures { Leaves (λ st. mark_dead st block l) counts block (body_of body.old) result (body_of body.new) }
 {
-    match push_dead(body, counts, block, l) {
-        Counted::Full => AtBlock::Refused(MirLowerError::Limit),
-        Counted::Now(c1) => AtBlock::At(c1, block),
-    }
+    let c1 = push_dead(body, counts, block, l).ok_or(MirLowerError::Limit)?;
+    Ok((c1, block))
 }
 
 // A local leaves: one that is not copy is dropped, and a new block goes on; then it is dead there.
@@ -57,7 +53,7 @@ fn emit_drop_and_storage_dead(
     counts: Counts,
     block: BasicBlockId,
     l: LocalId,
-) -> AtBlock
+) -> Result<(Counts, BasicBlockId), MirLowerError>
     requires whole { Whole image.now tables }
     requires locals_bound { (counts.locals ≤ 512) × (block.0 < counts.blocks) × (l.0 < counts.locals) }
     ensures { Leaves (λ st. emit_drop_and_storage_dead image.now st block l) counts block (body_of body.old) result (body_of body.new) }
@@ -66,9 +62,7 @@ fn emit_drop_and_storage_dead(
     if is_copy(image, tables, word) {
         return mark_dead(body, counts, block, l);
     }
-    let NewBlock::Block(c1, next) = new_basic_block(counts) else {
-        return AtBlock::Refused(MirLowerError::Limit);
-    };
+    let (c1, next) = new_basic_block(counts).ok_or(MirLowerError::Limit)?;
     set_terminator(body, block, Terminator::Drop(l, next));
     mark_dead(body, c1, next, l)
 }
@@ -82,26 +76,16 @@ pub fn emit_drop_and_storage_dead_for_scope(
     block: BasicBlockId,
     start: u16,
     end: u16,
-) -> AtBlock
+) -> Result<(Counts, BasicBlockId), MirLowerError>
     requires whole { Whole image.now tables }
     requires locals_bound { (counts.locals ≤ 512) × (block.0 < counts.blocks) × (start ≤ end) × (end ≤ counts.entries) × (counts.entries ≤ 1024) × EntriesNamed (body_of body.old).entries counts }
     ensures { Leaves (λ st. leave_all image.now st block (last_first (body_of body.old).entries start (end - start))) counts block (body_of body.old) result (body_of body.new) }
 {
     let mut c = counts;
     let mut at = block;
-    let mut i = end;
-    while start < i {
-        i -= 1;
+    for i in (start..end).rev() {
         let l = entry_local(body, i);
-        match emit_drop_and_storage_dead(image, tables, body, c, at, l) {
-            AtBlock::At(c1, b1) => {
-                c = c1;
-                at = b1;
-            }
-            AtBlock::Refused(e) => {
-                return AtBlock::Refused(e);
-            }
-        }
+        (c, at) = emit_drop_and_storage_dead(image, tables, body, c, at, l)?;
     }
-    AtBlock::At(c, at)
+    Ok((c, at))
 }

@@ -1,4 +1,5 @@
 -- Live marks, by the ways through the code. Assumes nothing.
+use Rattle.std.specs.Prelude.{Some, None, Ok, Err}
 use mathlib.Core.Path.{◌≡◌, refl, ap, subst}
 use mathlib.Core.Logic.{inl}
 use mathlib.Core.Bool.{Bool, true, false, cond}
@@ -12,14 +13,14 @@ use Rattle.image.specs.Lists.{member}
 use Rattle.place.specs.declared.LocalId.{LocalId}
 use Rattle.mir.specs.declared.BasicBlockId.{BasicBlockId}
 use Rattle.mir.specs.declared.Counts.{Counts}
-use Rattle.mir.specs.declared.scopes.Counted.{Counted}
+use Rattle.mir.specs.Results.{Counted}
 use Rattle.mir.specs.Rvalues.{live_row}
 use Rattle.mir.specs.Statements.{new_statement, statements_after}
 use Rattle.mir.specs.Scopes.{new_entry, entries_after}
 use Rattle.state.specs.State.{Body, decode}
 use Rattle.state.specs.Steps.{try_statement}
 use Rattle.state.specs.Promises.{Ready, Answers, stepped_counts, stepped_result}
-use Rattle.state.specs.declared.Stepped.{Stepped}
+use Rattle.state.specs.Results.{Stepped}
 use Rattle.state.proofs.RowLengths.{live_length}
 use Rattle.state.proofs.Answering.{scope_count, then, stops, no_step, refuses}
 use Rattle.state.proofs.Calls.{counted_counts, counted_result}
@@ -29,7 +30,7 @@ use Rattle.body_tables.specs.Promises.{Adds}
 use Rattle.body_tables.proofs.Building.{entry_made, statement_made}
 
 -- `record_unless`: the answer, and the body with the entry or without it
-record_answers : (b₀ : Body) (c : Counts) (current : ℕ) (l : LocalId) (held : Bool) {r : Counted} {b : Body} → r ≡ cond held (Counted.Now c) (new_entry c) →
+record_answers : (b₀ : Body) (c : Counts) (current : ℕ) (l : LocalId) (held : Bool) {r : Counted} {b : Body} → r ≡ cond held (Some c) (new_entry c) →
     b ≡ cond held b₀ (with_entries b₀ (entries_after c b₀.entries l.0)) → Ready b₀ c →
     Answers b₀ c current b (counted_counts r) (counted_result r b) (record_unless held (decode b₀ c) l)
 record_answers b₀ c current l true is after R = rw (is, after) (no_step (decode b₀ c) R)
@@ -41,19 +42,19 @@ module _ (b₀ : Body) (c : Counts) (l : LocalId) (block : BasicBlockId) (held :
   Live = Adds (λ st. mark_live held st l block) c b₀
 
   -- there is no scope
-  pub live_no_scope : c.scopes ≡ 0 → Live (Stepped.Refused MirLowerError.NoScope) b₀
+  pub live_no_scope : c.scopes ≡ 0 → Live (Err MirLowerError.NoScope) b₀
   unfolding mark_live
   live_no_scope h current R = refuses MirLowerError.NoScope (rw (scope_count b₀ c R, eq-eqb c.scopes 0 h) refl)
 
   module _ (scoped : c.scopes ≡ 0 → ⊥) where
     -- there is no room for the entry
-    pub live_no_entry : {b : Body} → Counted.Full ≡ cond held (Counted.Now c) (new_entry c) → b ≡ cond held b₀ (with_entries b₀ (entries_after c b₀.entries l.0)) →
-        Live (Stepped.Refused MirLowerError.Limit) b
+    pub live_no_entry : {b : Body} → None ≡ cond held (Some c) (new_entry c) → b ≡ cond held b₀ (with_entries b₀ (entries_after c b₀.entries l.0)) →
+        Live (Err MirLowerError.Limit) b
     unfolding mark_live
     live_no_entry is after current R =
         rw (scope_count b₀ c R, ne_eqb c.scopes 0 scoped) (stops (λ st₁. try_statement st₁ (live_row block l)) (record_answers b₀ c current l held is after R))
 
-    module _ {c₁ : Counts} {b₁ b : Body} (is : Counted.Now c₁ ≡ cond held (Counted.Now c) (new_entry c)) (after : b₁ ≡ cond held b₀ (with_entries b₀ (entries_after c b₀.entries l.0)))
+    module _ {c₁ : Counts} {b₁ b : Body} (is : Some c₁ ≡ cond held (Some c) (new_entry c)) (after : b₁ ≡ cond held b₀ (with_entries b₀ (entries_after c b₀.entries l.0)))
         (stored : b ≡ with_statements b₁ (statements_after c₁ b₁.statements (live_row block l))) where
       -- the entry, where one is made, and then the statement or no room for it
       live_entry : {r : Counted} → r ≡ new_statement c₁ → (current : ℕ) → Ready b₀ c → Answers b₀ c current b (counted_counts r) (counted_result r b) (mark_live held (decode b₀ c) l block)
@@ -64,11 +65,11 @@ module _ (b₀ : Body) (c : Counts) (l : LocalId) (block : BasicBlockId) (held :
           (then (λ st₁. try_statement st₁ (live_row block l)) first (inl refl) (statement_made b₁ c₁ current (live_row block l) (live_length block l) pushed stored first.goes.0))
 
       -- there is no room for the statement
-      pub live_no_statement : Counted.Full ≡ new_statement c₁ → Live (Stepped.Refused MirLowerError.Limit) b
+      pub live_no_statement : None ≡ new_statement c₁ → Live (Err MirLowerError.Limit) b
       live_no_statement full = live_entry full
 
       -- both are made
-      pub live_marked : {c₂ : Counts} → Counted.Now c₂ ≡ new_statement c₁ → Live (Stepped.Now c₂) b
+      pub live_marked : {c₂ : Counts} → Some c₂ ≡ new_statement c₁ → Live (Ok c₂) b
       live_marked pushed = live_entry pushed
 
 -- `push_storage_live_for_local`: a mark of a local that is held where the entries say so
@@ -81,7 +82,7 @@ mark_looked b₀ c l block held r {b = b} is M current R =
 -- `push_storage_live`
 module _ (b₀ : Body) (c : Counts) (bindings : List ℕ) (k : ℕ) (block : BasicBlockId) where
   -- the binding has no local
-  pub binding_refused : {e : MirLowerError} → stopped e ≡ binding_local bindings k → Adds (λ st. push_storage_live st bindings k block) c b₀ (Stepped.Refused e) b₀
+  pub binding_refused : {e : MirLowerError} → stopped e ≡ binding_local bindings k → Adds (λ st. push_storage_live st bindings k block) c b₀ (Err e) b₀
   unfolding push_storage_live
   binding_refused {e = e} h current R = refuses e (ap (λ r. and_then r (λ l. push_storage_live_for_local (decode b₀ c) l block)) h)
 

@@ -3,7 +3,6 @@
 #![tactic(auto)]
 
 ghost use Rattle.std.specs.Prelude.{◌≡◌, ◌<◌, cond, length};
-ghost use Rattle.mir.specs.declared.scopes.Counted.{Counted};
 ghost use Rattle.mir.specs.Scopes.{new_entry, entries_after};
 ghost use Rattle.lower_spec.specs.Temps.{mark_live, push_storage_live_for_local, push_storage_live};
 ghost use Rattle.body_tables.specs.Layout.{body_of, with_entries};
@@ -14,19 +13,21 @@ use body_scope_tables::push_entry;
 use body_tables::BODY_WORDS;
 use body_tables::statements::push_live;
 use image::BindingId;
-use lower_spec::temps::BoundLocal;
-use mir::scopes::Counted;
 use mir::{BasicBlockId, Counts};
 use place::LocalId;
 use refusals::MirLowerError;
-use state::Stepped;
 
 // A local that is held as it is, or another as the last entry of the last scope.
-fn record_unless(body: &mut [u16; BODY_WORDS], counts: Counts, l: LocalId, held: bool) -> Counted
-    ensures { (result ≡ cond held (Counted.Now counts) (new_entry counts)) × (body_of body.new ≡ cond held (body_of body.old) (with_entries (body_of body.old) (entries_after counts (body_of body.old).entries l.0))) }
+fn record_unless(
+    body: &mut [u16; BODY_WORDS],
+    counts: Counts,
+    l: LocalId,
+    held: bool,
+) -> Option<Counts>
+    ensures { (result ≡ cond held (Some counts) (new_entry counts)) × (body_of body.new ≡ cond held (body_of body.old) (with_entries (body_of body.old) (entries_after counts (body_of body.old).entries l.0))) }
 {
     if held {
-        return Counted::Now(counts);
+        return Some(counts);
     }
     push_entry(body, counts, l)
 }
@@ -38,19 +39,15 @@ pub fn mark_live(
     l: LocalId,
     block: BasicBlockId,
     held: bool,
-) -> Stepped
+) -> Result<Counts, MirLowerError>
     ensures { Adds (λ st. mark_live held st l block) counts (body_of body.old) result (body_of body.new) }
 {
     if counts.scopes == 0 {
-        return Stepped::Refused(MirLowerError::NoScope);
+        return Err(MirLowerError::NoScope);
     }
-    let Counted::Now(c1) = record_unless(body, counts, l, held) else {
-        return Stepped::Refused(MirLowerError::Limit);
-    };
-    let Counted::Now(c2) = push_live(body, c1, block, l) else {
-        return Stepped::Refused(MirLowerError::Limit);
-    };
-    Stepped::Now(c2)
+    let c1 = record_unless(body, counts, l, held).ok_or(MirLowerError::Limit)?;
+    let c2 = push_live(body, c1, block, l).ok_or(MirLowerError::Limit)?;
+    Ok(c2)
 }
 
 // A local, live from the end of a block on: as the last entry of the last scope, unless an open scope holds it.
@@ -59,7 +56,7 @@ pub fn push_storage_live_for_local(
     counts: Counts,
     l: LocalId,
     block: BasicBlockId,
-) -> Stepped
+) -> Result<Counts, MirLowerError>
     ensures { Adds (λ st. push_storage_live_for_local st l block) counts (body_of body.old) result (body_of body.new) }
 {
     let held = is_held(body, counts, l);
@@ -73,12 +70,10 @@ pub fn push_storage_live(
     counts: Counts,
     b: BindingId,
     block: BasicBlockId,
-) -> Stepped
+) -> Result<Counts, MirLowerError>
     requires { b.0 < length bindings.now }
     ensures { Adds (λ st. push_storage_live st bindings.now b.0 block) counts (body_of body.old) result (body_of body.new) }
 {
-    match binding_local(bindings, b) {
-        BoundLocal::Refused(e) => Stepped::Refused(e),
-        BoundLocal::Local(l) => push_storage_live_for_local(body, counts, l, block),
-    }
+    let l = binding_local(bindings, b)?;
+    push_storage_live_for_local(body, counts, l, block)
 }

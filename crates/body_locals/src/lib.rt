@@ -9,35 +9,32 @@ ghost use Rattle.body_tables.specs.Layout.{body_words, body_of};
 
 use body_tables::{BODY_WORDS, ENTRIES};
 use image::BindingId;
-use lower_spec::temps::BoundLocal;
 use mir::Counts;
 use place::LocalId;
 use refusals::MirLowerError;
 
 // The local of a binding.
-pub fn binding_local(bindings: &[u16], b: BindingId) -> BoundLocal
+pub fn binding_local(bindings: &[u16], b: BindingId) -> Result<LocalId, MirLowerError>
     requires { b.0 < length bindings.now }
     ensures { bound_result result ≡ binding_local bindings.now b.0 }
 {
     let l = bindings[b.0 as usize];
     if l == 65535 {
-        return BoundLocal::Refused(MirLowerError::InaccessibleLocal);
+        return Err(MirLowerError::InaccessibleLocal);
     }
-    BoundLocal::Local(LocalId(l))
+    Ok(LocalId(l))
 }
 
 // The local is among the first entries, as many as are counted. All are looked at, which is quicker than to stop at the first.
 fn is_among(entries: &[u16], counts: Counts, l: LocalId) -> bool
     ensures { result ≡ member l.0 (take counts.entries entries.now) }
 {
-    let count = counts.entries as usize;
+    let count = (counts.entries as usize).min(entries.len());
     let mut held = false;
-    let mut i = 0;
-    while i < count && i < entries.len() {
-        if entries[i] == l.0 {
+    for entry in &entries[..count] {
+        if *entry == l.0 {
             held = true;
         }
-        i += 1;
     }
     held
 }

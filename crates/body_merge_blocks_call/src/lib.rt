@@ -12,23 +12,27 @@ ghost use Rattle.body_tables.specs.Layout.{body_of};
 ghost use Rattle.calls_spec.specs.Promises.{Gives};
 ghost use Rattle.body_calls_spec.specs.Answers.{merge_way};
 
-use body_calls_spec::{MergeCall, Opened};
+use body_calls_spec::CallError;
 use body_clearing::clear_above;
 use body_opening::open;
 use body_tables::BODY_WORDS;
 use handed::merge_holds;
-use lower_spec::merging::{Merged, OptBlock};
-use mir::Counts;
+use mir::{BasicBlockId, Counts};
 
 // The call's own step, on an image and a body that were looked at: zeros are written above the counts first, so that a new row lies among zeros.
-fn merge_step(body: &mut [u16; BODY_WORDS], counts: Counts, x: OptBlock, y: OptBlock) -> MergeCall
+fn merge_step(
+    body: &mut [u16; BODY_WORDS],
+    counts: Counts,
+    x: Option<BasicBlockId>,
+    y: Option<BasicBlockId>,
+) -> Result<(Counts, Option<BasicBlockId>), CallError>
     requires { Sized (body_of body.old) counts × Within counts x × Within counts y }
     ensures { Gives (merge_way x y) (body_of body.old) counts (by_step (merge_blocks (decode (body_of body.old) counts) x y)) result (body_of body.new) }
 {
     clear_above(body, counts);
     match body_merging::merge_blocks(body, counts, x, y) {
-        Merged::At(c1, b) => MergeCall::At(c1, b),
-        Merged::Refused(e) => MergeCall::Refused(e),
+        Ok((c1, b)) => Ok((c1, b)),
+        Err(e) => Err(CallError::Refused(e)),
     }
 }
 
@@ -37,19 +41,14 @@ pub fn merge_blocks(
     image: &[u8],
     body: &mut [u16; BODY_WORDS],
     counts: Counts,
-    x: OptBlock,
-    y: OptBlock,
-) -> MergeCall
+    x: Option<BasicBlockId>,
+    y: Option<BasicBlockId>,
+) -> Result<(Counts, Option<BasicBlockId>), CallError>
     ensures { Gives (merge_way x y) (body_of body.old) counts (merge_blocks_call image.now (body_of body.old) counts x y) result (body_of body.new) }
 {
-    match open(image, body, counts) {
-        Opened::BadImage => MergeCall::BadImage,
-        Opened::BadCall => MergeCall::BadCall,
-        Opened::Image(_) => {
-            if !merge_holds(counts, x, y) {
-                return MergeCall::BadCall;
-            }
-            merge_step(body, counts, x, y)
-        }
+    open(image, body, counts)?;
+    if !merge_holds(counts, x, y) {
+        return Err(CallError::BadCall);
     }
+    merge_step(body, counts, x, y)
 }

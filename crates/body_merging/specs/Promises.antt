@@ -4,8 +4,8 @@ use Rattle.std.proofs.Math.Option.{none}
 use Rattle.mir.specs.declared.Counts.{Counts}
 use Rattle.state.specs.State.{Body, decode}
 use Rattle.state.specs.Promises.{Ready, Goes}
-use Rattle.lower_spec.specs.declared.merging.Merged.{Merged}
-use Rattle.lower_spec.specs.declared.merging.OptBlock.{OptBlock}
+use Rattle.lower_spec.specs.Results.{Merged}
+use Rattle.lower_spec.specs.Results.{OptBlock}
 use Rattle.lower_spec.specs.Merging.{merge_blocks}
 use Rattle.lower_spec.specs.Promises.{MergedAt}
 use Rattle.lower_spec.specs.Replies.{merged_result, merged_counts}

@@ -8,8 +8,7 @@ ghost use Rattle.body_merging.specs.Promises.{Merges};
 
 use body_tables::BODY_WORDS;
 use body_tables::blocks::set_goto;
-use lower_spec::merging::{Merged, OptBlock};
-use mir::blocks::{NewBlock, new_basic_block};
+use mir::blocks::new_basic_block;
 use mir::{BasicBlockId, Counts};
 use refusals::MirLowerError;
 
@@ -19,33 +18,31 @@ fn merge_two(
     counts: Counts,
     a: BasicBlockId,
     b: BasicBlockId,
-) -> Merged
+) -> Result<(Counts, Option<BasicBlockId>), MirLowerError>
     requires { (counts.blocks ≤ 512) × (a.0 < counts.blocks) × (b.0 < counts.blocks) }
-    ensures { Merges counts (OptBlock.Some a) (OptBlock.Some b) (body_of body.old) result (body_of body.new) }
+    ensures { Merges counts (Some a) (Some b) (body_of body.old) result (body_of body.new) }
 {
-    let NewBlock::Block(c1, m) = new_basic_block(counts) else {
-        return Merged::Refused(MirLowerError::Limit);
-    };
+    let (c1, m) = new_basic_block(counts).ok_or(MirLowerError::Limit)?;
     set_goto(body, a, m);
     set_goto(body, b, m);
-    Merged::At(c1, OptBlock::Some(m))
+    Ok((c1, Some(m)))
 }
 
 // Both go on at a new block; where there is but one, or none, nothing is made.
 pub fn merge_blocks(
     body: &mut [u16; BODY_WORDS],
     counts: Counts,
-    x: OptBlock,
-    y: OptBlock,
-) -> Merged
+    x: Option<BasicBlockId>,
+    y: Option<BasicBlockId>,
+) -> Result<(Counts, Option<BasicBlockId>), MirLowerError>
     requires { (counts.blocks ≤ 512) × Within counts x × Within counts y }
     ensures { Merges counts x y (body_of body.old) result (body_of body.new) }
 {
     match x {
-        OptBlock::None => Merged::At(counts, y),
-        OptBlock::Some(a) => match y {
-            OptBlock::None => Merged::At(counts, OptBlock::Some(a)),
-            OptBlock::Some(b) => merge_two(body, counts, a, b),
+        None => Ok((counts, y)),
+        Some(a) => match y {
+            None => Ok((counts, Some(a))),
+            Some(b) => merge_two(body, counts, a, b),
         },
     }
 }

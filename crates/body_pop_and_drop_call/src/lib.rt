@@ -14,12 +14,11 @@ ghost use Rattle.body_tables.specs.Layout.{body_of};
 ghost use Rattle.calls_spec.specs.Promises.{Gives};
 ghost use Rattle.body_calls_spec.specs.Answers.{drop_way};
 
-use body_calls_spec::{DropCall, Opened};
+use body_calls_spec::CallError;
 use body_clearing::clear_above;
 use body_opening::open;
 use body_restoring::{block_row, put_back};
 use body_tables::BODY_WORDS;
-use drop_scopes_spec::AtBlock;
 use image::Tables;
 use mir::{BasicBlockId, Counts};
 
@@ -30,7 +29,7 @@ fn pop_step(
     body: &mut [u16; BODY_WORDS],
     counts: Counts,
     block: BasicBlockId,
-) -> DropCall
+) -> Result<(Counts, BasicBlockId), CallError>
     requires whole { Whole image.now tables × Sized (body_of body.old) counts × (block.0 < counts.blocks) }
     requires entries_named { EntriesNamed (body_of body.old).entries counts × ScopesNamed (body_of body.old).scopes counts }
     ensures { Gives drop_way (body_of body.old) counts (by_step (pop_and_drop image.now (decode (body_of body.old) counts) block)) result (body_of body.new) }
@@ -38,11 +37,11 @@ fn pop_step(
     clear_above(body, counts);
     let row = block_row(body, block);
     match body_scopes::pop_and_drop(image, tables, body, counts, block) {
-        AtBlock::At(c1, b) => DropCall::At(c1, b),
-        AtBlock::Refused(e) => {
+        Ok((c1, b)) => Ok((c1, b)),
+        Err(e) => {
             put_back(body, block, row);
             clear_above(body, counts);
-            DropCall::Refused(e)
+            Err(CallError::Refused(e))
         }
     }
 }
@@ -53,17 +52,12 @@ pub fn pop_and_drop(
     body: &mut [u16; BODY_WORDS],
     counts: Counts,
     block: BasicBlockId,
-) -> DropCall
+) -> Result<(Counts, BasicBlockId), CallError>
     ensures { Gives drop_way (body_of body.old) counts (pop_and_drop_call image.now (body_of body.old) counts block) result (body_of body.new) }
 {
-    match open(image, body, counts) {
-        Opened::BadImage => DropCall::BadImage,
-        Opened::BadCall => DropCall::BadCall,
-        Opened::Image(tables) => {
-            if counts.blocks <= block.0 {
-                return DropCall::BadCall;
-            }
-            pop_step(image, tables, body, counts, block)
-        }
+    let tables = open(image, body, counts)?;
+    if counts.blocks <= block.0 {
+        return Err(CallError::BadCall);
     }
+    pop_step(image, tables, body, counts, block)
 }

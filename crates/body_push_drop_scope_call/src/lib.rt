@@ -11,32 +11,32 @@ ghost use Rattle.body_tables.specs.Layout.{body_of};
 ghost use Rattle.calls_spec.specs.Promises.{Gives};
 ghost use Rattle.body_calls_spec.specs.Answers.{scope_way};
 
-use body_calls_spec::{Opened, ScopeCall};
+use body_calls_spec::CallError;
 use body_clearing::clear_above;
 use body_opening::open;
 use body_tables::BODY_WORDS;
 use mir::Counts;
-use state::Stepped;
 
 // The call's own step, on an image and a body that were looked at: zeros are written above the counts first, so that a new row lies among zeros.
-fn push_step(body: &mut [u16; BODY_WORDS], counts: Counts) -> ScopeCall
+fn push_step(body: &mut [u16; BODY_WORDS], counts: Counts) -> Result<Counts, CallError>
     requires { Sized (body_of body.old) counts }
     ensures { Gives scope_way (body_of body.old) counts (by_step (try_scope (decode (body_of body.old) counts))) result (body_of body.new) }
 {
     clear_above(body, counts);
     match body_scopes::push_drop_scope(body, counts) {
-        Stepped::Now(c1) => ScopeCall::Now(c1),
-        Stepped::Refused(e) => ScopeCall::Refused(e),
+        Ok(c1) => Ok(c1),
+        Err(e) => Err(CallError::Refused(e)),
     }
 }
 
 // A new scope, with no entry.
-pub fn push_drop_scope(image: &[u8], body: &mut [u16; BODY_WORDS], counts: Counts) -> ScopeCall
+pub fn push_drop_scope(
+    image: &[u8],
+    body: &mut [u16; BODY_WORDS],
+    counts: Counts,
+) -> Result<Counts, CallError>
     ensures { Gives scope_way (body_of body.old) counts (push_drop_scope_call image.now (body_of body.old) counts) result (body_of body.new) }
 {
-    match open(image, body, counts) {
-        Opened::BadImage => ScopeCall::BadImage,
-        Opened::BadCall => ScopeCall::BadCall,
-        Opened::Image(_) => push_step(body, counts),
-    }
+    open(image, body, counts)?;
+    push_step(body, counts)
 }

@@ -8,11 +8,10 @@ ghost use Rattle.body_tables.specs.Layout.{body_words, body_of, with_scopes, wit
 
 use body_tables::{BODY_WORDS, ENTRIES, SCOPES};
 use mir::Counts;
-use mir::scopes::Counted;
 use place::LocalId;
 
 // A new scope, with no entry.
-pub fn push_scope(body: &mut [u16], counts: Counts) -> Counted
+pub fn push_scope(body: &mut [u16], counts: Counts) -> Option<Counts>
     requires { length body.old ≡ body_words }
     ensures { (result ≡ new_scope counts) × (body_of body.new ≡ with_scopes (body_of body.old) (scopes_after counts (body_of body.old).scopes)) }
 {
@@ -44,7 +43,7 @@ pub fn clear_scope(body: &mut [u16], i: u16)
 }
 
 // A local as the last entry of the last scope.
-pub fn push_entry(body: &mut [u16], counts: Counts, l: LocalId) -> Counted
+pub fn push_entry(body: &mut [u16], counts: Counts, l: LocalId) -> Option<Counts>
     requires { length body.old ≡ body_words }
     ensures { (result ≡ new_entry counts) × (body_of body.new ≡ with_entries (body_of body.old) (entries_after counts (body_of body.old).entries l.0)) }
 {
@@ -64,12 +63,7 @@ fn clear_between(table: &mut [u16], from: u16, to: u16)
     requires { (from ≤ to) × (to ≤ length table.old) }
     ensures { table.new ≡ stored table.old from (zeros (to - from)) }
 {
-    let mut i = from as usize;
-    let end = to as usize;
-    while i < end {
-        table[i] = 0;
-        i += 1;
-    }
+    table[from as usize..to as usize].fill(0);
 }
 
 // Zeros in the place of the entries from `from` on, before `to`.

@@ -1,4 +1,5 @@
 -- Where a scope's entries begin, how all of them leave, and how the last scope is closed. Assumes nothing.
+use Rattle.std.specs.Prelude.{Ok, Err}
 use Prim.Native.Nat.{ℕ, zero, suc, ◌+◌, ◌-◌, ◌<◌, ◌≤◌}
 use mathlib.Core.Path.{◌≡◌, refl, sym, ap, ap₂, subst, ◌∙◌}
 use mathlib.Core.Bool.{cond}
@@ -17,14 +18,13 @@ use Rattle.row_tables.proofs.Zeros.{length_zeros}
 use Rattle.row_tables.proofs.Tables.{before_stored, length_stored}
 use Rattle.mir.specs.declared.BasicBlockId.{BasicBlockId}
 use Rattle.mir.specs.declared.Counts.{Counts}
-use Rattle.state.specs.declared.Stepped.{Stepped}
 use Rattle.state.specs.State.{Body, State, decode}
 use Rattle.state.specs.Steps.{scope_start, pop_scope}
 use Rattle.state.specs.Promises.{Ready}
 use Rattle.state.proofs.Words.{words_before}
 use Rattle.state.proofs.Answering.{scope_count, entry_count, refuses, kept_refl}
 use Rattle.state.proofs.Stepping.{ready_scopes, ready_entries}
-use Rattle.drop_scopes_spec.specs.declared.AtBlock.{AtBlock}
+use Rattle.drop_scopes_spec.specs.Results.{AtBlock}
 use Rattle.drop_scopes_spec.specs.Dropping.{At, leave_all, last_first, entries_from, drop_until_scope, pop_and_drop, pop_assume_dropped}
 use Rattle.drop_scopes_spec.specs.Promises.{ScopesNamed, Pops}
 use Rattle.mir.specs.Blocks.{block_width}
@@ -80,7 +80,7 @@ entries_of_lem b c i start R is le =
 -- b₀ is the body at entry, and c has its counts
 module _ (image : List ℕ) (b₀ : Body) (c : Counts) (block : BasicBlockId) where
   -- a scope that there is not
-  pub until_refused : (i : ℕ) → c.scopes < i → Leaves (λ st. drop_until_scope image st i block) c block b₀ (AtBlock.Refused MirLowerError.NoScope) b₀
+  pub until_refused : (i : ℕ) → c.scopes < i → Leaves (λ st. drop_until_scope image st i block) c block b₀ (Err MirLowerError.NoScope) b₀
   unfolding drop_until_scope
   until_refused i h =
       record { answers = λ R. refuses MirLowerError.NoScope (rw (scope_count b₀ c R, lt-leb i c.scopes h) refl); left = tt; beside = beside_refl b₀ }
@@ -97,7 +97,7 @@ module _ (image : List ℕ) (b₀ : Body) (c : Counts) (block : BasicBlockId) wh
       }
 
   -- no scope to close
-  pub no_pop : c.scopes ≡ 0 → Pops (λ st. pop_and_drop image st block) c block b₀ (AtBlock.Refused MirLowerError.NoScope) b₀
+  pub no_pop : c.scopes ≡ 0 → Pops (λ st. pop_and_drop image st block) c block b₀ (Err MirLowerError.NoScope) b₀
   unfolding pop_and_drop
   no_pop h =
       record {
@@ -119,8 +119,8 @@ module _ (image : List ℕ) (b₀ : Body) (c : Counts) (block : BasicBlockId) wh
         (entries_of_lem b₀ c (c.scopes - 1) start R (is ∙ rw (lt-ltb (c.scopes - 1) c.scopes (omega arith)) at last) le)))
 
     -- a refusal while they leave
-    pub pop_refused : {err : MirLowerError} {b : Body} → Leaves (λ st. leave_all image st block (last_first b₀.entries start (c.entries - start))) c block b₀ (AtBlock.Refused err) b →
-        Pops (λ st. pop_and_drop image st block) c block b₀ (AtBlock.Refused err) b
+    pub pop_refused : {err : MirLowerError} {b : Body} → Leaves (λ st. leave_all image st block (last_first b₀.entries start (c.entries - start))) c block b₀ (Err err) b →
+        Pops (λ st. pop_and_drop image st block) c block b₀ (Err err) b
     pop_refused L =
         record {
           says = λ R. pop_says R (L.answers R).says;
@@ -130,8 +130,8 @@ module _ (image : List ℕ) (b₀ : Body) (c : Counts) (block : BasicBlockId) wh
 
     -- they have left, and the scope is closed
     pub pop_drops : {c₁ c₂ : Counts} {at : BasicBlockId} {b₁ b₂ : Body} →
-        Leaves (λ st. leave_all image st block (last_first b₀.entries start (c.entries - start))) c block b₀ (AtBlock.At c₁ at) b₁ → Closed c₁ b₁ c₂ b₂ →
-        Pops (λ st. pop_and_drop image st block) c block b₀ (AtBlock.At c₂ at) b₂
+        Leaves (λ st. leave_all image st block (last_first b₀.entries start (c.entries - start))) c block b₀ (Ok (c₁, at)) b₁ → Closed c₁ b₁ c₂ b₂ →
+        Pops (λ st. pop_and_drop image st block) c block b₀ (Ok (c₂, at)) b₂
     pop_drops {at = at} L C =
         record {
           says = λ R.
@@ -197,7 +197,7 @@ module _ (b : Body) (c : Counts) where
         (record { says = closed_says; goes = closed_goes })
 
   -- where there is a scope
-  pub closes : {c₁ : Counts} {b₁ : Body} → 0 < c.scopes → Closed c b c₁ b₁ → Closes c b (Stepped.Now c₁) b₁
+  pub closes : {c₁ : Counts} {b₁ : Body} → 0 < c.scopes → Closed c b c₁ b₁ → Closes c b (Ok c₁) b₁
   unfolding pop_assume_dropped
   closes pos C =
       record {
@@ -207,7 +207,7 @@ module _ (b : Body) (c : Counts) where
       }
 
   -- where there is none
-  pub closes_none : c.scopes ≡ 0 → Closes c b (Stepped.Refused MirLowerError.NoScope) b
+  pub closes_none : c.scopes ≡ 0 → Closes c b (Err MirLowerError.NoScope) b
   unfolding pop_assume_dropped
   closes_none h =
       record {

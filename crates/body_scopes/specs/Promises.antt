@@ -2,7 +2,7 @@
 use Rattle.std.specs.Prelude.{◌≡◌}
 use Rattle.std.proofs.Math.Option.{none}
 use Rattle.mir.specs.declared.Counts.{Counts}
-use Rattle.state.specs.declared.Stepped.{Stepped}
+use Rattle.state.specs.Results.{Stepped}
 use Rattle.state.specs.State.{Body, decode}
 use Rattle.state.specs.Steps.{try_scope, pop_scope}
 use Rattle.state.specs.Promises.{Ready, stepped_result, stepped_counts}

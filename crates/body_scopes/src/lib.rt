@@ -12,21 +12,18 @@ ghost use Rattle.body_scopes.specs.Promises.{Opens, Closes, Closed};
 use body_leaving::emit_drop_and_storage_dead_for_scope;
 use body_scope_tables::{clear_entries, clear_scope, push_scope, scope_word};
 use body_tables::BODY_WORDS;
-use drop_scopes_spec::AtBlock;
 use image::Tables;
-use mir::scopes::Counted;
 use mir::{BasicBlockId, Counts};
 use refusals::MirLowerError;
-use state::Stepped;
 
 // A new scope, with no entry.
-pub fn push_drop_scope(body: &mut [u16; BODY_WORDS], counts: Counts) -> Stepped
+pub fn push_drop_scope(
+    body: &mut [u16; BODY_WORDS],
+    counts: Counts,
+) -> Result<Counts, MirLowerError>
     ensures { Opens counts (body_of body.old) result (body_of body.new) }
 {
-    match push_scope(body, counts) {
-        Counted::Full => Stepped::Refused(MirLowerError::Limit),
-        Counted::Now(c1) => Stepped::Now(c1),
-    }
+    push_scope(body, counts).ok_or(MirLowerError::Limit)
 }
 
 // Where the entries of the scope i begin; those of a scope that there is not would begin behind the last.
@@ -48,13 +45,13 @@ pub fn drop_until_scope(
     counts: Counts,
     i: u16,
     block: BasicBlockId,
-) -> AtBlock
+) -> Result<(Counts, BasicBlockId), MirLowerError>
     requires whole { Whole image.now tables × (counts.locals ≤ 512) × (counts.scopes ≤ 32) × (counts.entries ≤ 1024) × (block.0 < counts.blocks) }
     requires entries_named { EntriesNamed (body_of body.old).entries counts × ScopesNamed (body_of body.old).scopes counts }
     ensures { Leaves (λ st. drop_until_scope image.now st i block) counts block (body_of body.old) result (body_of body.new) }
 {
     if counts.scopes < i {
-        return AtBlock::Refused(MirLowerError::NoScope);
+        return Err(MirLowerError::NoScope);
     }
     let start = scope_start(body, counts, i);
     emit_drop_and_storage_dead_for_scope(image, tables, body, counts, block, start, counts.entries)
@@ -70,23 +67,24 @@ fn pop_scope(body: &mut [u16; BODY_WORDS], counts: Counts) -> Counts
     clear_scope(body, last);
     clear_entries(body, start, counts.entries);
     Counts {
-        blocks: counts.blocks,
-        statements: counts.statements,
-        locals: counts.locals,
         scopes: last,
         entries: start,
+        ..counts
     }
 }
 
 // The last scope is closed, its locals having left before.
-pub fn pop_assume_dropped(body: &mut [u16; BODY_WORDS], counts: Counts) -> Stepped
+pub fn pop_assume_dropped(
+    body: &mut [u16; BODY_WORDS],
+    counts: Counts,
+) -> Result<Counts, MirLowerError>
     requires { (counts.scopes ≤ 32) × (counts.entries ≤ 1024) × ScopesNamed (body_of body.old).scopes counts }
     ensures { Closes counts (body_of body.old) result (body_of body.new) }
 {
     if counts.scopes == 0 {
-        return Stepped::Refused(MirLowerError::NoScope);
+        return Err(MirLowerError::NoScope);
     }
-    Stepped::Now(pop_scope(body, counts))
+    Ok(pop_scope(body, counts))
 }
 
 // The last scope is closed, and its locals leave.
@@ -96,16 +94,16 @@ pub fn pop_and_drop(
     body: &mut [u16; BODY_WORDS],
     counts: Counts,
     block: BasicBlockId,
-) -> AtBlock
+) -> Result<(Counts, BasicBlockId), MirLowerError>
     requires whole { Whole image.now tables × (counts.locals ≤ 512) × (counts.scopes ≤ 32) × (counts.entries ≤ 1024) × (block.0 < counts.blocks) }
     requires entries_named { EntriesNamed (body_of body.old).entries counts × ScopesNamed (body_of body.old).scopes counts }
     ensures { Pops (λ st. pop_and_drop image.now st block) counts block (body_of body.old) result (body_of body.new) }
 {
     if counts.scopes == 0 {
-        return AtBlock::Refused(MirLowerError::NoScope);
+        return Err(MirLowerError::NoScope);
     }
     let start = scope_word(body, counts.scopes - 1);
-    match emit_drop_and_storage_dead_for_scope(
+    let (c1, b1) = emit_drop_and_storage_dead_for_scope(
         image,
         tables,
         body,
@@ -113,8 +111,6 @@ pub fn pop_and_drop(
         block,
         start,
         counts.entries,
-    ) {
-        AtBlock::Refused(e) => AtBlock::Refused(e),
-        AtBlock::At(c1, b1) => AtBlock::At(pop_scope(body, c1), b1),
-    }
+    )?;
+    Ok((pop_scope(body, c1), b1))
 }

@@ -25,14 +25,7 @@ fn elems_hold(variants: u16, statements: &[u16], i: u16, count: u16) -> bool
     requires { (length statements.now ≡ statement_words) × (i < 1024) × (count ≤ 16) }
     ensures { result ≡ all_below (elem_at_holds variants statements.now i) count }
 {
-    let mut j = 0u16;
-    while j < count {
-        if !elem_at_holds(variants, statements, i, j) {
-            return false;
-        }
-        j += 1;
-    }
-    true
+    (0..count).all(|j| elem_at_holds(variants, statements, i, j))
 }
 
 // The place in the statement i.

@@ -10,12 +10,12 @@ use Rattle.place.specs.declared.LocalId.{LocalId}
 use Rattle.mir.specs.declared.BasicBlockId.{BasicBlockId}
 use Rattle.mir.specs.declared.Counts.{Counts}
 use Rattle.mir.specs.declared.blocks.Terminator.{Terminator}
-use Rattle.mir.specs.declared.locals.NewLocal.{NewLocal}
-use Rattle.mir.specs.declared.scopes.Counted.{Counted}
+use Rattle.mir.specs.Results.{NewLocal}
+use Rattle.mir.specs.Results.{Counted}
 use Rattle.mir.specs.Blocks.{term_row, new_block, block_width}
 use Rattle.mir.specs.Statements.{new_statement, statements_after, statement_width}
 use Rattle.mir.specs.Locals.{new_local, locals_after}
-use Rattle.mir.specs.declared.blocks.NewBlock.{NewBlock}
+use Rattle.mir.specs.Results.{NewBlock}
 use Rattle.mir.specs.Scopes.{new_scope, scopes_after, new_entry, entries_after}
 use Rattle.state.specs.State.{Body, decode}
 use Rattle.state.specs.Steps.{set_terminator, try_block, try_statement, try_local, try_scope, try_entry}

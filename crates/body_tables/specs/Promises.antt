@@ -2,7 +2,7 @@
 use Rattle.std.specs.Prelude.{ℕ}
 use Rattle.refusals.specs.Refusals.{Result}
 use Rattle.mir.specs.declared.Counts.{Counts}
-use Rattle.state.specs.declared.Stepped.{Stepped}
+use Rattle.state.specs.Results.{Stepped}
 use Rattle.state.specs.State.{Body, State, decode}
 use Rattle.state.specs.Promises.{Ready, Answers, stepped_result, stepped_counts}
 

@@ -5,11 +5,10 @@ ghost use Rattle.body_tables.specs.Layout.{body_words, body_of, with_locals};
 
 use super::{LOCALS, SCOPES};
 use mir::Counts;
-use mir::locals::NewLocal;
 use place::LocalId;
 
 // A new local of the type that the word says.
-pub fn new_local(body: &mut [u16], counts: Counts, ty: u16) -> NewLocal
+pub fn new_local(body: &mut [u16], counts: Counts, ty: u16) -> Option<(Counts, LocalId)>
     requires { length body.old ≡ body_words }
     ensures { (result ≡ new_local counts) × (body_of body.new ≡ with_locals (body_of body.old) (locals_after counts (body_of body.old).locals ty)) }
 {

@@ -5,12 +5,16 @@ ghost use Rattle.mir.specs.Rvalues.{live_row, dead_row};
 ghost use Rattle.body_tables.specs.Layout.{body_words, body_of, with_statements};
 
 use super::{LOCALS, STATEMENTS};
-use mir::scopes::Counted;
 use mir::{BasicBlockId, Counts};
 use place::LocalId;
 
 // StorageLive of a local.
-pub fn push_live(body: &mut [u16], counts: Counts, block: BasicBlockId, l: LocalId) -> Counted
+pub fn push_live(
+    body: &mut [u16],
+    counts: Counts,
+    block: BasicBlockId,
+    l: LocalId,
+) -> Option<Counts>
     requires { length body.old ≡ body_words }
     ensures { (result ≡ new_statement counts) × (body_of body.new ≡ with_statements (body_of body.old) (statements_after counts (body_of body.old).statements (live_row block l))) }
 {
@@ -18,7 +22,12 @@ pub fn push_live(body: &mut [u16], counts: Counts, block: BasicBlockId, l: Local
 }
 
 // StorageDead of a local.
-pub fn push_dead(body: &mut [u16], counts: Counts, block: BasicBlockId, l: LocalId) -> Counted
+pub fn push_dead(
+    body: &mut [u16],
+    counts: Counts,
+    block: BasicBlockId,
+    l: LocalId,
+) -> Option<Counts>
     requires { length body.old ≡ body_words }
     ensures { (result ≡ new_statement counts) × (body_of body.new ≡ with_statements (body_of body.old) (statements_after counts (body_of body.old).statements (dead_row block l))) }
 {

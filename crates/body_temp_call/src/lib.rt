@@ -12,14 +12,14 @@ ghost use Rattle.body_tables.specs.Layout.{body_of};
 ghost use Rattle.calls_spec.specs.Promises.{Gives};
 ghost use Rattle.body_calls_spec.specs.Answers.{temp_way};
 
-use body_calls_spec::{Opened, TempCall};
+use body_calls_spec::CallError;
 use body_clearing::clear_above;
 use body_opening::open;
 use body_row_rules::rows::is_type_word;
 use body_tables::BODY_WORDS;
 use image::Tables;
-use lower_spec::temps::NewTemp;
 use mir::{BasicBlockId, Counts};
+use place::LocalId;
 
 // The call's own step, on an image and a body that were looked at: zeros are written above the counts first, so that a new row lies among zeros.
 fn temp_step(
@@ -29,16 +29,16 @@ fn temp_step(
     counts: Counts,
     word: u16,
     block: BasicBlockId,
-) -> TempCall
+) -> Result<(Counts, LocalId), CallError>
     requires { Whole image.now tables × Sized (body_of body.old) counts }
     ensures { Gives temp_way (body_of body.old) counts (by_step (temp image.now (decode (body_of body.old) counts) word block)) result (body_of body.new) }
 {
     clear_above(body, counts);
     match body_temps::temp(image, tables, body, counts, word, block) {
-        NewTemp::Local(c1, l) => TempCall::Local(c1, l),
-        NewTemp::Refused(e) => {
+        Ok((c1, l)) => Ok((c1, l)),
+        Err(e) => {
             clear_above(body, counts);
-            TempCall::Refused(e)
+            Err(CallError::Refused(e))
         }
     }
 }
@@ -50,20 +50,15 @@ pub fn temp(
     counts: Counts,
     word: u16,
     block: BasicBlockId,
-) -> TempCall
+) -> Result<(Counts, LocalId), CallError>
     ensures { Gives temp_way (body_of body.old) counts (temp_call image.now (body_of body.old) counts word block) result (body_of body.new) }
 {
-    match open(image, body, counts) {
-        Opened::BadImage => TempCall::BadImage,
-        Opened::BadCall => TempCall::BadCall,
-        Opened::Image(tables) => {
-            if !is_type_word(tables.types.count, word) {
-                return TempCall::BadCall;
-            }
-            if counts.blocks <= block.0 {
-                return TempCall::BadCall;
-            }
-            temp_step(image, tables, body, counts, word, block)
-        }
+    let tables = open(image, body, counts)?;
+    if !is_type_word(tables.types.count, word) {
+        return Err(CallError::BadCall);
     }
+    if counts.blocks <= block.0 {
+        return Err(CallError::BadCall);
+    }
+    temp_step(image, tables, body, counts, word, block)
 }

@@ -1,4 +1,5 @@
 -- Temporaries, by the ways through the code. Assumes nothing.
+use Rattle.std.specs.Prelude.{Some, None, Ok, Err}
 use mathlib.Core.Path.{◌≡◌, refl, subst, ◌∙◌}
 use mathlib.Core.Bool.{true, false}
 use mathlib.Core.Logic.{inl}
@@ -14,15 +15,14 @@ use Rattle.image.specs.Rows.{type_at}
 use Rattle.place.specs.declared.LocalId.{LocalId}
 use Rattle.mir.specs.declared.BasicBlockId.{BasicBlockId}
 use Rattle.mir.specs.declared.Counts.{Counts}
-use Rattle.mir.specs.declared.locals.NewLocal.{NewLocal}
 use Rattle.mir.specs.Locals.{new_local, locals_after}
 use Rattle.state.specs.State.{Body, decode}
 use Rattle.state.specs.Steps.{next_local, try_local}
 use Rattle.state.specs.Promises.{Ready, Answers, stepped_counts, stepped_result}
-use Rattle.state.specs.declared.Stepped.{Stepped}
+use Rattle.state.specs.Results.{Stepped}
 use Rattle.state.proofs.Answering.{next_local_lem, then, stops, refuses}
 use Rattle.state.proofs.Calls.{local_number}
-use Rattle.lower_spec.specs.declared.temps.NewTemp.{NewTemp}
+use Rattle.lower_spec.specs.Results.{NewTemp}
 use Rattle.lower_spec.specs.Temps.{is_slice, temp, mark_live}
 use Rattle.body_tables.specs.Layout.{with_locals}
 use Rattle.body_tables.specs.Promises.{Adds}
@@ -47,20 +47,20 @@ module _ (image : List ℕ) (b₀ : Body) (c : Counts) (word : ℕ) (block : Bas
   Temp = Makes (λ st. temp image st word block) c b₀
 
   -- a slice is refused
-  pub temp_slice : is_slice image word ≡ true → Temp (NewTemp.Refused MirLowerError.UnsizedTemporary) b₀
+  pub temp_slice : is_slice image word ≡ true → Temp (Err MirLowerError.UnsizedTemporary) b₀
   unfolding temp
   temp_slice slice = record { answers = λ current R. refuses MirLowerError.UnsizedTemporary (rw slice refl); number = tt }
 
   module _ (sized : is_slice image word ≡ false) where
     -- there is no room for the local
-    pub temp_no_local : {b : Body} → NewLocal.Full ≡ new_local c → b ≡ with_locals b₀ (locals_after c b₀.locals word) → Temp (NewTemp.Refused MirLowerError.Limit) b
+    pub temp_no_local : {b : Body} → None ≡ new_local c → b ≡ with_locals b₀ (locals_after c b₀.locals word) → Temp (Err MirLowerError.Limit) b
     unfolding temp
     temp_no_local full after = record {
       answers = λ current R. rw sized (stops (λ st₁. mark_live false st₁ (next_local (decode b₀ c)) block) (local_made b₀ c current word full after R));
       number = tt;
     }
 
-    module _ {c₁ : Counts} {n : LocalId} {b₁ b : Body} (is : NewLocal.Local c₁ n ≡ new_local c) (after : b₁ ≡ with_locals b₀ (locals_after c b₀.locals word)) where
+    module _ {c₁ : Counts} {n : LocalId} {b₁ b : Body} (is : Some (c₁, n) ≡ new_local c) (after : b₁ ≡ with_locals b₀ (locals_after c b₀.locals word)) where
       -- the local, and then what its mark gives
       temp_marked : (r : Stepped) → Adds (λ st. mark_live false st n block) c₁ b₁ r b → (current : ℕ) → Ready b₀ c →
           Answers b₀ c current b (stepped_counts r) (stepped_result r b) (temp image (decode b₀ c) word block)
@@ -74,9 +74,9 @@ module _ (image : List ℕ) (b₀ : Body) (c : Counts) (word : ℕ) (block : Bas
           (then (λ st₁. mark_live false st₁ n block) first (inl refl) (M current first.goes.0)))
 
       -- the mark is refused
-      pub temp_stopped : {err : MirLowerError} → Adds (λ st. mark_live false st n block) c₁ b₁ (Stepped.Refused err) b → Temp (NewTemp.Refused err) b
-      temp_stopped {err = err} M = record { answers = temp_marked (Stepped.Refused err) M; number = tt }
+      pub temp_stopped : {err : MirLowerError} → Adds (λ st. mark_live false st n block) c₁ b₁ (Err err) b → Temp (Err err) b
+      temp_stopped {err = err} M = record { answers = temp_marked (Err err) M; number = tt }
 
       -- both are made
-      pub temp_made : {c₂ : Counts} → Adds (λ st. mark_live false st n block) c₁ b₁ (Stepped.Now c₂) b → Temp (NewTemp.Local c₂ n) b
-      temp_made {c₂ = c₂} M = record { answers = temp_marked (Stepped.Now c₂) M; number = local_number c is }
+      pub temp_made : {c₂ : Counts} → Adds (λ st. mark_live false st n block) c₁ b₁ (Ok c₂) b → Temp (Ok (c₂, n)) b
+      temp_made {c₂ = c₂} M = record { answers = temp_marked (Ok c₂) M; number = local_number c is }

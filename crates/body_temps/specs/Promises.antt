@@ -4,7 +4,7 @@ use Rattle.refusals.specs.Refusals.{Result}
 use Rattle.mir.specs.declared.Counts.{Counts}
 use Rattle.state.specs.State.{Body, State, decode}
 use Rattle.state.specs.Promises.{Ready, Answers}
-use Rattle.lower_spec.specs.declared.temps.NewTemp.{NewTemp}
+use Rattle.lower_spec.specs.Results.{NewTemp}
 use Rattle.lower_spec.specs.Promises.{Numbered}
 use Rattle.lower_spec.specs.Replies.{temp_result, temp_counts}
 

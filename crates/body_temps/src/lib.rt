@@ -12,11 +12,10 @@ use body_tables::BODY_WORDS;
 use body_tables::locals::new_local;
 use image::Tables;
 use image::rows::type_at;
-use lower_spec::temps::NewTemp;
-use mir::locals::{I128, NewLocal};
+use mir::locals::I128;
 use mir::{BasicBlockId, Counts};
+use place::LocalId;
 use refusals::MirLowerError;
-use state::Stepped;
 
 // The word of a local's type says a slice.
 fn is_slice(image: &[u8], tables: Tables, word: u16) -> bool
@@ -37,20 +36,16 @@ pub fn temp(
     counts: Counts,
     word: u16,
     block: BasicBlockId,
-) -> NewTemp
+) -> Result<(Counts, LocalId), MirLowerError>
     requires { Whole image.now tables }
     ensures { Makes (λ st. temp image.now st word block) counts (body_of body.old) result (body_of body.new) }
 {
     if is_slice(image, tables, word) {
-        return NewTemp::Refused(MirLowerError::UnsizedTemporary);
+        return Err(MirLowerError::UnsizedTemporary);
     }
-    let NewLocal::Local(c1, l) = new_local(body, counts, word) else {
-        return NewTemp::Refused(MirLowerError::Limit);
-    };
-    match mark_live(body, c1, l, block, false) {
-        Stepped::Refused(e) => NewTemp::Refused(e),
-        Stepped::Now(c2) => NewTemp::Local(c2, l),
-    }
+    let (c1, l) = new_local(body, counts, word).ok_or(MirLowerError::Limit)?;
+    let c2 = mark_live(body, c1, l, block, false)?;
+    Ok((c2, l))
 }
 
 // The local of a test of an enum: a temporary of its own.
@@ -60,7 +55,7 @@ pub fn discr_temp_place(
     body: &mut [u16; BODY_WORDS],
     counts: Counts,
     block: BasicBlockId,
-) -> NewTemp
+) -> Result<(Counts, LocalId), MirLowerError>
     requires { Whole image.now tables }
     ensures { Makes (λ st. discr_temp_place image.now st block) counts (body_of body.old) result (body_of body.new) }
 {

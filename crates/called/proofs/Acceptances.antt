@@ -1,4 +1,5 @@
 -- A call of `pattern_match` on a pattern that fits, with room and a scope open, is accepted. Assumes nothing.
+use Rattle.std.specs.Prelude.{Ok, Err}
 use Prim.Native.Nat.{ℕ}
 use mathlib.Core.Path.{◌≡◌, refl, ap, subst, ◌∙◌}
 use mathlib.Core.List.{List}
@@ -12,7 +13,7 @@ use Rattle.pattern_matching.specs.Walking.{Out, Walk, ok}
 use Rattle.counting.specs.Demand3.{Counted}
 use Rattle.room.specs.Room.{ScopeOpen, Made}
 use Rattle.room.proofs.Rooms as rooms
-use Rattle.pattern_calls_spec.specs.declared.MatchCall.{MatchCall}
+use Rattle.pattern_calls_spec.specs.Results.{MatchCall}
 use Rattle.calls_spec.specs.Promises.{CallHolds}
 use Rattle.pattern_walk_spec.specs.Calls.{by_walk}
 use Rattle.pattern_calls_spec.specs.Calls.{match_answer, pattern_match_call}
@@ -23,6 +24,7 @@ use Rattle.called.specs.Acceptance.{Taken, HasRoom, LimitPassed, IsAcceptance}
 use Rattle.called.proofs.Walked.{walk_of, taken, stopping}
 use Rattle.called.proofs.Given.{given}
 use Rattle.called.proofs.Bodies.{handed, gives, counted}
+use Rattle.body_calls_spec.specs.declared.PatternCallError.{PatternCallError}
 
 -- a call that is taken comes to the walk
 walks : (call : Call) → Taken call →
@@ -42,20 +44,20 @@ pub fit_accepted : {call : Call} → FittingPattern call → Taken call → HasR
     IsAcceptance call r body visits
 fit_accepted {call} fit T room scope r body visits P =
     let (o, gave) = fit_lowered fit T room scope in
-    let is : r ≡ MatchCall.Matched (counts_of o.ctx.state) o.then o.else = P.gives.reply ∙ ap (match_answer call.counts) (walks call T ∙ ap by_walk gave) in
+    let is : r ≡ Ok (counts_of o.ctx.state, o.then, o.else) = P.gives.reply ∙ ap (match_answer call.counts) (walks call T ∙ ap by_walk gave) in
     (record { counts = counts_of o.ctx.state; then = o.then; else = o.else; body = body; visits = visits }, is, refl, refl, subst (λ (x : MatchCall). Promised call x body visits) is P)
 
 -- a refusal by 11 names a limit that is passed, whether the pattern fits or not
 pub refused_limit : (call : Call) (p : PatId) → Refused call MirLowerError.Limit p → LimitPassed call
 refused_limit call p refusal =
-    let (T, W) = taken call (MatchCall.Refused MirLowerError.Limit p) refusal.body refusal.visits tt refusal.promised in
+    let (T, W) = taken call (Err (PatternCallError.Refused MirLowerError.Limit p)) refusal.body refusal.visits tt refusal.promised in
     rooms.refused_limit call.image call.bindings (pattern_of call) (start_of call) call.start call.else call.place (given call T).root call.elements (given call T).within
     (given call T).bound p.0 (stopping (walk_of call) MirLowerError.Limit p W)
 
 -- and one by 14 finds no scope open
 pub refused_scope : (call : Call) (p : PatId) → Refused call MirLowerError.NoScope p → length (before call).scopes ≡ 0
 refused_scope call p refusal =
-    let (T, W) = taken call (MatchCall.Refused MirLowerError.NoScope p) refusal.body refusal.visits tt refusal.promised in
+    let (T, W) = taken call (Err (PatternCallError.Refused MirLowerError.NoScope p)) refusal.body refusal.visits tt refusal.promised in
     rooms.refused_scope call.image call.bindings (pattern_of call) (start_of call) call.start call.else call.place (given call T).root call.elements (given call T).within
     (given call T).bound p.0 (stopping (walk_of call) MirLowerError.NoScope p W)
 
@@ -89,4 +91,4 @@ had_room call out accepted =
     ready : Ready out.body (counts_of (after out))
     ready =
         (subst (λ (w : Walk Out). CallHolds (λ r. r.ctx.state) call.body call.counts (by_walk w) out.body) gave
-        (taken call (MatchCall.Matched out.counts out.then out.else) out.body out.visits tt accepted).1.gives.holds).ready
+        (taken call (Ok (out.counts, out.then, out.else)) out.body out.visits tt accepted).1.gives.holds).ready

@@ -1,4 +1,5 @@
 -- What an accepted call of `pattern_match` hands out is what the definition gives, and what is proved of the definition is so of the call. Assumes nothing.
+use Rattle.std.specs.Prelude.{Some, Ok}
 use Prim.Native.Nat.{ℕ, zero, suc, ◌+◌, ◌≤◌, ◌<◌}
 use mathlib.Core.Path.{◌≡◌, refl, sym, ap, ◌∙◌}
 use mathlib.Core.Logic.{◌⊎◌, ⊎_elim}
@@ -10,7 +11,6 @@ use Rattle.mir.specs.declared.BasicBlockId.{BasicBlockId}
 use Rattle.mir.specs.declared.blocks.Terminator.{Terminator}
 use Rattle.state.specs.State.{decode}
 use Rattle.state.proofs.Answering.{block_count_lem}
-use Rattle.lower_spec.specs.declared.merging.OptBlock.{OptBlock}
 use Rattle.pattern_matching.specs.declared.MatchingMode.{MatchingMode}
 use Rattle.pattern_matching.specs.Walking.{Out, Walk, ok, refused, next}
 use Rattle.pattern_matching.specs.Patterns.{pattern_match}
@@ -20,7 +20,6 @@ use Rattle.counting.specs.Demand3.{Counted}
 use Rattle.counting.specs.Reaching.{Reached}
 use Rattle.counting.proofs.Tallies.{le_or_lt}
 use Rattle.counting.proofs.Ors.{reached_low}
-use Rattle.pattern_calls_spec.specs.declared.MatchCall.{MatchCall}
 use Rattle.called.specs.Call.{Call, HandedOut, Accepted, after, pattern_of, start_of, result_of}
 use Rattle.called.specs.Runs.{place_ty_of, IsReachedIn}
 use Rattle.called.specs.Passes.{pass, TwoPasses}
@@ -30,13 +29,13 @@ use Rattle.called.proofs.Visited.{words_same, visits_512, visits_small}
 
 -- what an accepted call was handed
 pub handed : (call : Call) (out : HandedOut) → Accepted call out → Given call
-handed call out accepted = given call (taken call (MatchCall.Matched out.counts out.then out.else) out.body out.visits tt accepted).0
+handed call out accepted = given call (taken call (Ok (out.counts, out.then, out.else)) out.body out.visits tt accepted).0
 
 -- the theorem: the definition of `pattern_match` gives what is handed out
 pub gives : (call : Call) (out : HandedOut) → Accepted call out →
     pattern_match call.image call.bindings (pattern_of call) (start_of call) call.start call.else call.place ≡ ok (result_of out)
 gives call out accepted =
-    let H : Handing (walk_of call) out = handing (walk_of call) out (taken call (MatchCall.Matched out.counts out.then out.else) out.body out.visits tt accepted).1 in
+    let H : Handing (walk_of call) out = handing (walk_of call) out (taken call (Ok (out.counts, out.then, out.else)) out.body out.visits tt accepted).1 in
     let r = H.result in
     let state : r.ctx.state ≡ after out = sym H.reads ∙ ap (decode out.body) (sym H.counts) in
     let visits : r.ctx.visits ≡ out.visits = sym (H.visits ∙ words_same r.ctx.visits (visits_small call (handed call out accepted) r H.gave)) in
@@ -71,7 +70,7 @@ module _ (call : Call) (out : HandedOut) (accepted : Accepted call out) where
 
   -- "of the new blocks exactly those returned lack a terminator"
   pub only_those_open : (b : ℕ) → call.counts.blocks ≤ b → b < out.counts.blocks → terminator_at (mir_of (after out)) b ≡ Terminator.Open →
-      (b ≡ out.then.0) ⊎ (out.else ≡ OptBlock.Some (record { 0 = b }))
+      (b ≡ out.then.0) ⊎ (out.else ≡ Some (record { 0 = b }))
   only_those_open b new there lacks =
       let m = block_count_lem call.body call.counts in
       let n = block_count_lem out.body out.counts in
@@ -80,7 +79,7 @@ module _ (call : Call) (out : HandedOut) (accepted : Accepted call out) where
 
   -- those returned lack it
   pub those_open : (terminator_at (mir_of (after out)) out.then.0 ≡ Terminator.Open)
-      × ((b : BasicBlockId) → out.else ≡ OptBlock.Some b → call.counts.blocks ≤ b.0 → terminator_at (mir_of (after out)) b.0 ≡ Terminator.Open)
+      × ((b : BasicBlockId) → out.else ≡ Some b → call.counts.blocks ≤ b.0 → terminator_at (mir_of (after out)) b.0 ≡ Terminator.Open)
   those_open =
       let m = block_count_lem call.body call.counts in
       let both = Rattle.growth.proofs.OpenBlocks.those_open call.image call.bindings (pattern_of call) (start_of call) call.start call.else call.place (result_of out)

@@ -1,4 +1,5 @@
 -- What a call gives whose image, body and numbers were taken: where the walk starts, the place that it is about, and the pattern. Assumes nothing.
+use Rattle.std.specs.Prelude.{Some, None}
 use Prim.Native.Nat.{ℕ, zero, suc, ◌+◌, ◌*◌, ◌≤◌, ◌<◌}
 use mathlib.Core.Path.{◌≡◌, sym, ap, subst, ◌∙◌}
 use mathlib.Core.Bool.{Bool, true, not, ◌&&◌, false≢true}
@@ -26,7 +27,7 @@ use Rattle.state.proofs.Answering.{block_count_lem}
 use Rattle.state.proofs.Words.{length_words}
 use Rattle.body_row_rules.specs.Bodies.{is_block, is_local, counts_within, block_holds, elem_holds, rvalue_holds, statement_holds, local_holds, scope_holds, entry_holds, entries_belong, body_holds}
 use Rattle.body_row_rules.proofs.Checked.{within}
-use Rattle.lower_spec.specs.declared.merging.OptBlock.{OptBlock}
+use Rattle.lower_spec.specs.Results.{OptBlock}
 use Rattle.views.specs.Views.{terminator_of, line_of, mir_of}
 use Rattle.body_calls_spec.specs.Calls.{body_taken}
 use Rattle.growth.specs.Opened.{terminator, lines, Below, ElseReady, Ready, Starts}
@@ -108,8 +109,8 @@ statement_block types variants b c h i l =
 -- an else that is taken is another block, or none
 else_ready : (b : Body) (c : Counts) (current : BasicBlockId) (els : OptBlock) → else_holds c current els ≡ true → ElseReady (decode b c) current els
 unfolding else_holds
-else_ready b c current OptBlock.None e = tt
-else_ready b c current (OptBlock.Some x) e =
+else_ready b c current None e = tt
+else_ready b c current (Some x) e =
     let inside = ltb-true x.0 c.blocks (and_left (is_block c x.0) (not (eqb x.0 current.0)) e) in
     let n = block_count_lem b c in
     (omega (arith, inside, n), λ same. false≢true (subst (λ (t : Bool). not t ≡ true) (eq-eqb x.0 current.0 same) (and_right (is_block c x.0) (not (eqb x.0 current.0)) e)))

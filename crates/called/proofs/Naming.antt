@@ -1,6 +1,6 @@
 -- Nothing names a local from the count of locals on, in the body that an accepted call was handed and in the one that it hands out. Assumes nothing.
+use Rattle.std.specs.Prelude.{Ok}
 use Rattle.image.specs.Tables.{type_count, variant_count}
-use Rattle.pattern_calls_spec.specs.declared.MatchCall.{MatchCall}
 use Rattle.named.specs.Named.{NamedBelow}
 use Rattle.named.proofs.Taken.{handed_named}
 use Rattle.named.proofs.Keeping.{kept_start}
@@ -19,7 +19,7 @@ named_before call T = handed_named (type_count call.image) (variant_count call.i
 -- the theorem
 pub named_throughout : (call : Call) (out : HandedOut) → Accepted call out → NoneUnmade call out
 named_throughout call out accepted =
-    let T : Taken call = (taken call (MatchCall.Matched out.counts out.then out.else) out.body out.visits tt accepted).0 in
+    let T : Taken call = (taken call (Ok (out.counts, out.then, out.else)) out.body out.visits tt accepted).0 in
     let G : Given call = handed call out accepted in
     record {
       handed_in = named_before call T;

@@ -1,4 +1,5 @@
 -- What an accepted call of `lower_params_and_bindings` hands out is what the definition gives, and what is proved of the definition is so of the call. Assumes nothing.
+use Rattle.std.specs.Prelude.{None, Ok, Err}
 use Prim.Native.Nat.{ℕ, zero, suc, ◌+◌, ◌*◌, ◌≤◌, ◌<◌}
 use mathlib.Core.Path.{◌≡◌, refl, sym, ap, subst, ◌∙◌}
 use mathlib.Core.Bool.{Bool, true, false, cond, ◌&&◌}
@@ -13,13 +14,13 @@ use Rattle.image.specs.Valid.{valid}
 use Rattle.image.proofs.Bools.{and_left, and_right, all_true_at}
 use Rattle.refusals.specs.Refusals.{done}
 use Rattle.place.specs.declared.LocalId.{LocalId}
+use Rattle.mir.specs.declared.BasicBlockId.{BasicBlockId}
 use Rattle.mir.specs.declared.Counts.{Counts}
 use Rattle.mir.specs.declared.blocks.Terminator.{Terminator}
 use Rattle.state.specs.State.{Body, decode, counts_of}
 use Rattle.state.proofs.Answering.{block_count_lem, statement_count}
 use Rattle.state.proofs.Words.{length_words}
 use Rattle.body_row_rules.proofs.Checked.{within}
-use Rattle.lower_spec.specs.declared.merging.OptBlock.{OptBlock}
 use Rattle.body_calls_spec.specs.Calls.{body_taken}
 use Rattle.views.specs.Views.{Mir, mir_of}
 use Rattle.views.specs.Growing.{terminator_at, GoesOn}
@@ -29,7 +30,7 @@ use Rattle.pattern_walk_spec.specs.Answers.{visit_word}
 use Rattle.handed.specs.Handed.{bindings_hold, start_holds, else_holds}
 use Rattle.meaning.specs.Values.{Value}
 use Rattle.meaning.specs.Running.{Env}
-use Rattle.params_spec.specs.declared.ParamsCall.{ParamsCall}
+use Rattle.params_spec.specs.Results.{ParamsCall}
 use Rattle.params_spec.specs.Params.{Declared, ParamsOut}
 use Rattle.calls_spec.specs.Calls.{bad_image, bad_call}
 use Rattle.calls_spec.specs.Calls.{call as calling}
@@ -45,13 +46,14 @@ use Rattle.param_runs.proofs.Runs.{comes_through}
 use Rattle.called.specs.Params.{ParamsHanded, ListTaken, NumbersTaken, defined_of, ParamsHandedOut, AcceptedParams, parameters_of, start_of_params, declared_of, lowered_of, after_params, result_of_params, CountedParams, FittingParams, ComesThroughParams}
 use Rattle.called.proofs.Given.{few_patterns, may_start}
 use Rattle.called.proofs.Visited.{words_same}
+use Rattle.body_calls_spec.specs.declared.PatternCallError.{PatternCallError}
 
 -- an answer that accepts
 abbrev IsLowered : ParamsCall → Type 0
-IsLowered (ParamsCall.Lowered c then first) = Unit {0}
-IsLowered (ParamsCall.Refused e p) = ⊥
-IsLowered ParamsCall.BadCall = ⊥
-IsLowered ParamsCall.BadImage = ⊥
+IsLowered (Ok (c, then, first)) = Unit {0}
+IsLowered (Err (PatternCallError.Refused e p)) = ⊥
+IsLowered (Err PatternCallError.BadCall) = ⊥
+IsLowered (Err PatternCallError.BadImage) = ⊥
 
 -- what an accepted call was handed: the four tests were passed
 record Taken (call : ParamsHanded) : Type 0 where
@@ -81,10 +83,10 @@ record Handing (w : Walk ParamsOut) (c : Counts) (out : ParamsHandedOut) : Type 
   bindings : out.tables.bindings ≡ result.bindings
 
 handing : (w : Walk ParamsOut) (out : ParamsHandedOut) {m : List ℕ} {b : Body} {before : List ℕ} {c : Counts} →
-    GivesParams m b before c (by_walk w) (ParamsCall.Lowered out.counts out.then out.first) out.tables.bindings out.tables.body out.tables.visits → Handing w c out
-handing (ok r) out P =
-    let reply = P.visits.gives.reply in
-    record { result = r; gave = refl; counts = cc; then = cc; first = cc; reads = P.visits.gives.holds.reads; visits = P.visits.visits; bindings = P.locals }
+    GivesParams m b before c (by_walk w) (Ok (out.counts, out.then, out.first)) out.tables.bindings out.tables.body out.tables.visits → Handing w c out
+handing (ok r) out {c = c} P =
+    let same : ◌≡◌ {A = Counts × BasicBlockId × LocalId} (out.counts, out.then, out.first) (counts_of r.ctx.state, r.then, record { 0 = c.locals }) = let reply = P.visits.gives.reply in cc in
+    record { result = r; gave = refl; counts = ap (λ (given : Counts × BasicBlockId × LocalId). given.0) same; then = ap (λ (given : Counts × BasicBlockId × LocalId). given.1) same; first = ap (λ (given : Counts × BasicBlockId × LocalId). given.2) same; reads = P.visits.gives.holds.reads; visits = P.visits.visits; bindings = P.locals }
 handing (refused e p) out P = let reply = P.visits.gives.reply in absurd (let z : ◌≡◌ {A = ℕ} 0 1 = cc in omega arith)
 
 -- a list has as many parameters as it is said to have
@@ -99,7 +101,7 @@ module _ (call : ParamsHanded) (out : ParamsHandedOut) (accepted : AcceptedParam
   both =
       let (v, q, t, n, w) = passed (valid call.image) (list_holds call.image call.self call.list) (body_taken call.image call.body call.counts)
       (params_hold call.image call.self call.bindings call.body.blocks call.counts call.start) (lowered_of call)
-      (ParamsCall.Lowered out.counts out.then out.first) tt accepted in
+      (Ok (out.counts, out.then, out.first)) tt accepted in
       (record { image_valid = v; list = q; body = t; names = n }, handing (lowered_of call) out w)
 
   taken : Taken call
@@ -155,9 +157,9 @@ module _ (call : ParamsHanded) (out : ParamsHandedOut) (accepted : AcceptedParam
   locals_same = ap (λ (c : Counts). c.locals) counts_same
 
   -- the walk may start
-  starts : Starts (start_of_params call) call.start OptBlock.None
+  starts : Starts (start_of_params call) call.start None
   unfolding else_holds
-  starts = may_start call.image call.body call.counts call.start OptBlock.None taken.body (test 2) refl
+  starts = may_start call.image call.body call.counts call.start None taken.body (test 2) refl
 
   -- what is handed in is what numbers 1 and 2 do not refuse
   handed : ((i : ℕ) → get_or call.image i 0 < 256) → Handed call.image call.self (parameters_of call) call.bindings (start_of_params call) call.start

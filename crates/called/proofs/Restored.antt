@@ -10,19 +10,19 @@ use Rattle.refusals.specs.Refusals.{Refusal, number_of, refusal_at, breaks_a_rul
 use Rattle.mir.specs.declared.BasicBlockId.{BasicBlockId}
 use Rattle.mir.specs.declared.Counts.{Counts}
 use Rattle.state.specs.State.{Body, State, decode}
-use Rattle.lower_spec.specs.declared.merging.OptBlock.{OptBlock}
+use Rattle.lower_spec.specs.Results.{OptBlock}
 use Rattle.calls_spec.specs.Calls.{Called, bad_image, bad_call, refused_at, accepted, refusal_of, body_after}
 use Rattle.calls_spec.specs.Promises.{Way, CallHolds, Gives}
-use Rattle.body_calls_spec.specs.declared.TempCall.{TempCall}
-use Rattle.body_calls_spec.specs.declared.MergeCall.{MergeCall}
-use Rattle.body_calls_spec.specs.declared.ScopeCall.{ScopeCall}
-use Rattle.body_calls_spec.specs.declared.DropCall.{DropCall}
+use Rattle.body_calls_spec.specs.Results.{TempCall}
+use Rattle.body_calls_spec.specs.Results.{MergeCall}
+use Rattle.body_calls_spec.specs.Results.{ScopeCall}
+use Rattle.body_calls_spec.specs.Results.{DropCall}
 use Rattle.body_calls_spec.specs.Answers.{temp_refusal, merge_refusal, scope_refusal, drop_refusal}
 use Rattle.pattern_matching.specs.Walking.{Ctx}
 use Rattle.pattern_walk_spec.specs.Calls.{visits_after, Visits}
-use Rattle.pattern_calls_spec.specs.declared.MatchCall.{MatchCall}
+use Rattle.pattern_calls_spec.specs.Results.{MatchCall}
 use Rattle.pattern_calls_spec.specs.Calls.{match_refusal}
-use Rattle.params_spec.specs.declared.ParamsCall.{ParamsCall}
+use Rattle.params_spec.specs.Results.{ParamsCall}
 use Rattle.params_spec.specs.Params.{ParamsOut}
 use Rattle.params_spec.specs.Calls.{params_refusal, bindings_after}
 use Rattle.called.specs.Call.{Call, Promised}

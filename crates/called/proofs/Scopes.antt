@@ -1,4 +1,5 @@
 -- Of every public call, accepted or refused: a local that stands in the scopes at most once still does. Assumes nothing.
+use Rattle.std.specs.Prelude.{None, Ok}
 use Prim.Native.Nat.{ℕ, ◌<◌}
 use native.Mathlib.Omega.{arith}
 use mathlib.Core.Path.{◌≡◌, refl, sym, ap, ap₂, subst, ◌∙◌}
@@ -18,12 +19,12 @@ use Rattle.state.specs.State.{Body, State, decode, counts_of}
 use Rattle.state.proofs.Words.{length_words}
 use Rattle.body_row_rules.specs.Bodies.{is_local}
 use Rattle.body_row_rules.proofs.Checked.{within}
-use Rattle.lower_spec.specs.declared.merging.OptBlock.{OptBlock}
+use Rattle.lower_spec.specs.Results.{OptBlock}
 use Rattle.lower_spec.specs.Recorded.{OncePerLocal}
-use Rattle.body_calls_spec.specs.declared.TempCall.{TempCall}
-use Rattle.body_calls_spec.specs.declared.MergeCall.{MergeCall}
-use Rattle.body_calls_spec.specs.declared.ScopeCall.{ScopeCall}
-use Rattle.body_calls_spec.specs.declared.DropCall.{DropCall}
+use Rattle.body_calls_spec.specs.Results.{TempCall}
+use Rattle.body_calls_spec.specs.Results.{MergeCall}
+use Rattle.body_calls_spec.specs.Results.{ScopeCall}
+use Rattle.body_calls_spec.specs.Results.{DropCall}
 use Rattle.calls_spec.specs.Lengths.{Lengths}
 use Rattle.calls_spec.specs.Calls.{Called, bad_image, bad_call, refused_at, accepted, by_step, leaves, body_after}
 use Rattle.calls_spec.specs.Promises.{Way, CallHolds, Gives}
@@ -34,10 +35,10 @@ use Rattle.pattern_matching.specs.declared.MatchingMode.{MatchingMode}
 use Rattle.pattern_matching.specs.Walking.{Out, Walk, ok, refused}
 use Rattle.pattern_matching.specs.Patterns.{pattern_match_assignment}
 use Rattle.handed.specs.Handed.{start_holds, binding_local_holds, bindings_hold, self_holds}
-use Rattle.pattern_calls_spec.specs.declared.MatchCall.{MatchCall}
+use Rattle.pattern_calls_spec.specs.Results.{MatchCall}
 use Rattle.pattern_walk_spec.specs.Calls.{by_walk, start_ctx}
 use Rattle.pattern_calls_spec.specs.Calls.{named_in, match_answer, match_way, pattern_match_call, pattern_match_assignment_call, match_self_param_call}
-use Rattle.params_spec.specs.declared.ParamsCall.{ParamsCall}
+use Rattle.params_spec.specs.Results.{ParamsCall}
 use Rattle.params_spec.specs.Params.{ParamsOut}
 use Rattle.params_spec.specs.Calls.{list_holds, params_hold, self_named, params_call, params_answer, params_way}
 use Rattle.drop_scopes_spec.specs.Dropping.{At}
@@ -220,7 +221,7 @@ without_else call =
       counts = call.counts;
       pattern = call.pattern;
       start = call.start;
-      else = OptBlock.None;
+      else = None;
       place = call.place;
       lengths = call.lengths;
       elements = call.elements;
@@ -234,7 +235,7 @@ assignment_still_once call r body visits P =
     on_pattern call.image call.body call.counts _ _
     (λ T v n o e.
     let G = given (without_else call) (record { image_valid = v; body = T; names = n }) in
-    inner_once call.image call.bindings (pattern_of call) (start_of call) call.start OptBlock.None call.place o
+    inner_once call.image call.bindings (pattern_of call) (start_of call) call.start None call.place o
     (taken_named call.image call.body call.counts call.lengths T) G.bound G.root MatchingMode.Assign e)
     r body P.gives
 
@@ -289,6 +290,6 @@ params_still_once call r tables P =
 pub marks_recorded : (call : Call) (out : HandedOut) → Accepted call out → MarksRecorded (before call) (after out)
 marks_recorded call out is-accepted =
     let G = handed call out is-accepted in
-    let T : Taken call = (taken call (MatchCall.Matched out.counts out.then out.else) out.body out.visits tt is-accepted).0 in
+    let T : Taken call = (taken call (Ok (out.counts, out.then, out.else)) out.body out.visits tt is-accepted).0 in
     match_recorded call.image call.bindings (pattern_of call) (start_of call) call.start call.else call.place (result_of out)
     (taken_named call.image call.body call.counts call.lengths T.body) G.bound G.root (gives call out is-accepted)

@@ -1,4 +1,7 @@
 -- What the promise of a call says that came to the walk: image, body and numbers were taken, and what the walk gives. Assumes nothing.
+use Rattle.lower_spec.specs.Results.{OptBlock}
+use Rattle.mir.specs.declared.BasicBlockId.{BasicBlockId}
+use Rattle.std.specs.Prelude.{Ok, Err}
 use Prim.Native.Nat.{ℕ}
 use mathlib.Core.Path.{◌≡◌, refl, sym, ap, ap₂, subst}
 use mathlib.Core.Bool.{Bool, true, false, cond, ◌&&◌}
@@ -13,7 +16,7 @@ use Rattle.body_calls_spec.specs.Calls.{body_taken}
 use Rattle.pattern_matching.specs.Walking.{Out, Walk, ok, refused}
 use Rattle.pattern_matching.specs.Patterns.{pattern_match}
 use Rattle.pattern_walk_spec.specs.Answers.{visit_word}
-use Rattle.pattern_calls_spec.specs.declared.MatchCall.{MatchCall}
+use Rattle.pattern_calls_spec.specs.Results.{MatchCall}
 use Rattle.handed.specs.Handed.{match_holds}
 use Rattle.calls_spec.specs.Calls.{bad_image, bad_call}
 use Rattle.calls_spec.specs.Calls.{call as calling}
@@ -21,13 +24,14 @@ use Rattle.pattern_walk_spec.specs.Calls.{by_walk, Visits}
 use Rattle.pattern_calls_spec.specs.Calls.{named_in, pattern_match_call, match_way, match_ctx}
 use Rattle.called.specs.Call.{Call, HandedOut, Promised, pattern_of, start_of}
 use Rattle.called.specs.Acceptance.{Taken}
+use Rattle.body_calls_spec.specs.declared.PatternCallError.{PatternCallError}
 
 -- an answer of the walk
 abbrev pub OfTheWalk : MatchCall → Type 0
-OfTheWalk (MatchCall.Matched c then els) = Unit {0}
-OfTheWalk (MatchCall.Refused e p) = Unit {0}
-OfTheWalk MatchCall.BadCall = ⊥
-OfTheWalk MatchCall.BadImage = ⊥
+OfTheWalk (Ok (c, then, els)) = Unit {0}
+OfTheWalk (Err (PatternCallError.Refused e p)) = Unit {0}
+OfTheWalk (Err PatternCallError.BadCall) = ⊥
+OfTheWalk (Err PatternCallError.BadImage) = ⊥
 
 -- the walk of the definition
 abbrev pub walk_of : Call → Walk Out
@@ -62,15 +66,15 @@ pub record Handing (w : Walk Out) (out : HandedOut) : Type 0 where
 
 -- it is what the promise says
 pub handing : (w : Walk Out) (out : HandedOut) {b : Body} {before : List ℕ} {c : Counts} →
-    Visits match_way match_ctx b before c (by_walk w) (MatchCall.Matched out.counts out.then out.else) out.body out.visits → Handing w out
+    Visits match_way match_ctx b before c (by_walk w) (Ok (out.counts, out.then, out.else)) out.body out.visits → Handing w out
 handing (ok r) out P =
-    let reply = P.gives.reply in
-    record { result = r; gave = refl; counts = cc; then = cc; else = cc; reads = P.gives.holds.reads; visits = P.visits }
+    let same : ◌≡◌ {A = Counts × BasicBlockId × OptBlock} (out.counts, out.then, out.else) (counts_of r.ctx.state, r.then, r.else) = let reply = P.gives.reply in cc in
+    record { result = r; gave = refl; counts = ap (λ (given : Counts × BasicBlockId × OptBlock). given.0) same; then = ap (λ (given : Counts × BasicBlockId × OptBlock). given.1) same; else = ap (λ (given : Counts × BasicBlockId × OptBlock). given.2) same; reads = P.gives.holds.reads; visits = P.visits }
 handing (refused e p) out P = let reply = P.gives.reply in absurd (let z : ◌≡◌ {A = ℕ} 0 1 = cc in omega arith)
 
 -- what a refused walk gave
 pub stopping : (w : Walk Out) (e : MirLowerError) (p : PatId) {b b' : Body} {before after : List ℕ} {c : Counts} →
-    Visits match_way match_ctx b before c (by_walk w) (MatchCall.Refused e p) b' after → w ≡ refused e p.0
+    Visits match_way match_ctx b before c (by_walk w) (Err (PatternCallError.Refused e p)) b' after → w ≡ refused e p.0
 stopping (ok r) e p P = let reply = P.gives.reply in absurd (let z : ◌≡◌ {A = ℕ} 0 1 = cc in omega arith)
 stopping (refused e₁ q) e p P =
     let reply = P.gives.reply in

@@ -1,10 +1,11 @@
 -- Calls that document 01's numbers 1 and 2 do not refuse, those with room, and their acceptance. Assumes nothing: these are definitions.
+use Rattle.std.specs.Prelude.{Ok}
 use Rattle.std.specs.Prelude.{ℕ, ◌≡◌, true, List}
 use Rattle.image.specs.Valid.{valid}
 use Rattle.state.specs.State.{Body}
 use Rattle.body_calls_spec.specs.Calls.{body_taken}
 use Rattle.handed.specs.Handed.{match_holds}
-use Rattle.pattern_calls_spec.specs.declared.MatchCall.{MatchCall}
+use Rattle.pattern_calls_spec.specs.Results.{MatchCall}
 use Rattle.pattern_calls_spec.specs.Calls.{named_in}
 use Rattle.room.specs.Room.{Room, Passed}
 use Rattle.called.specs.Call.{Call, HandedOut, Accepted, pattern_of, start_of}
@@ -26,4 +27,4 @@ LimitPassed call = Passed call.image call.bindings (pattern_of call) (start_of c
 -- the answer is an acceptance, with this in the tables
 abbrev pub IsAcceptance : Call → MatchCall → Body → List ℕ → Type 0
 IsAcceptance call r body visits =
-    (out : HandedOut) × (r ≡ MatchCall.Matched out.counts out.then out.else) × (out.body ≡ body) × (out.visits ≡ visits) × Accepted call out
+    (out : HandedOut) × (r ≡ Ok (out.counts, out.then, out.else)) × (out.body ≡ body) × (out.visits ≡ visits) × Accepted call out

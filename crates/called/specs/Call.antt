@@ -1,4 +1,5 @@
 -- A call of `pattern_match`, what it hands out, and what its contract promises. Assumes nothing: these are definitions.
+use Rattle.std.specs.Prelude.{Ok, Err}
 use Rattle.std.specs.Prelude.{ℕ, ◌≡◌, List, length}
 use Rattle.row_tables.specs.Rows.{zeros}
 use Rattle.image.specs.declared.PatId.{PatId}
@@ -8,11 +9,12 @@ use Rattle.place.specs.declared.Place.{Place}
 use Rattle.mir.specs.declared.BasicBlockId.{BasicBlockId}
 use Rattle.mir.specs.declared.Counts.{Counts}
 use Rattle.state.specs.State.{Body, State, decode}
-use Rattle.lower_spec.specs.declared.merging.OptBlock.{OptBlock}
+use Rattle.lower_spec.specs.Results.{OptBlock}
 use Rattle.calls_spec.specs.Lengths.{Lengths}
 use Rattle.pattern_matching.specs.Walking.{Ctx, Out}
-use Rattle.pattern_calls_spec.specs.declared.MatchCall.{MatchCall}
+use Rattle.pattern_calls_spec.specs.Results.{MatchCall}
 use Rattle.pattern_calls_spec.specs.Calls.{MatchGives}
+use Rattle.body_calls_spec.specs.declared.PatternCallError.{PatternCallError}
 
 -- what a call is handed: the image, the bindings' locals, the body, the words of the visits', the counts, the pattern's
 -- number, the block to start from, an else or none, and a place
@@ -44,13 +46,13 @@ Promised call = MatchGives call.image call.bindings call.counts call.pattern cal
 
 -- the call is accepted, and hands this out
 abbrev pub Accepted : Call → HandedOut → Type 0
-Accepted call out = Promised call (MatchCall.Matched out.counts out.then out.else) out.body out.visits
+Accepted call out = Promised call (Ok (out.counts, out.then, out.else)) out.body out.visits
 
 -- the call is refused in the walk, for this reason and at this pattern
 pub record Refused (call : Call) (e : MirLowerError) (p : PatId) : Type 0 where
   pub body : Body
   pub visits : List ℕ
-  pub promised : Promised call (MatchCall.Refused e p) body visits
+  pub promised : Promised call (Err (PatternCallError.Refused e p)) body visits
 
 -- the body before the call and after it, as rows
 abbrev pub before : Call → State

@@ -1,4 +1,5 @@
 -- A call of `lower_params_and_bindings`, what it hands out, and what its contract promises. Assumes nothing: these are definitions.
+use Rattle.std.specs.Prelude.{Ok}
 use Rattle.std.specs.Prelude.{ℕ, ◌<◌, ◌≡◌, true, List, get_or}
 use Rattle.row_tables.specs.Rows.{zeros}
 use Rattle.refusals.specs.Refusals.{Result}
@@ -12,8 +13,8 @@ use Rattle.meaning.specs.Values.{Value}
 use Rattle.meaning.specs.Running.{Env}
 use Rattle.calls_spec.specs.Lengths.{Lengths}
 use Rattle.calls_spec.specs.Calls.{Called}
-use Rattle.params_spec.specs.declared.SelfParam.{SelfParam}
-use Rattle.params_spec.specs.declared.ParamsCall.{ParamsCall}
+use Rattle.params_spec.specs.Results.{SelfParam}
+use Rattle.params_spec.specs.Results.{ParamsCall}
 use Rattle.params_spec.specs.Params.{Param, Declared, ParamsOut, declare, lower_params_and_bindings}
 use Rattle.params_spec.specs.Calls.{params_of, list_holds, params_hold, params_call, ParamsGives}
 use Rattle.param_runs.specs.Totals.{ParamsCounted}
@@ -64,7 +65,7 @@ pub record ParamsHandedOut : Type 0 where
 
 -- the call is accepted, and hands this out
 abbrev pub AcceptedParams : ParamsHanded → ParamsHandedOut → Type 0
-AcceptedParams call out = PromisedParams call (ParamsCall.Lowered out.counts out.then out.first) out.tables
+AcceptedParams call out = PromisedParams call (Ok (out.counts, out.then, out.first)) out.tables
 
 -- the parameters that the list names
 abbrev pub parameters_of : ParamsHanded → List Param

@@ -1,7 +1,7 @@
 -- The two passes of a call of `pattern_match`: the pattern is walked in Check, and then in Bind. Assumes nothing: these are definitions.
 use Rattle.std.specs.Prelude.{◌≡◌}
 use Rattle.mir.specs.declared.BasicBlockId.{BasicBlockId}
-use Rattle.lower_spec.specs.declared.merging.OptBlock.{OptBlock}
+use Rattle.lower_spec.specs.Results.{OptBlock}
 use Rattle.pattern_matching.specs.declared.MatchingMode.{MatchingMode}
 use Rattle.pattern_matching.specs.Walking.{Ctx, Out, Walk, ok}
 use Rattle.pattern_matching.specs.Patterns.{pattern_match_inner}

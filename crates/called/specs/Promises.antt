@@ -4,16 +4,16 @@ use Rattle.place.specs.declared.LocalId.{LocalId}
 use Rattle.mir.specs.declared.BasicBlockId.{BasicBlockId}
 use Rattle.mir.specs.declared.Counts.{Counts}
 use Rattle.state.specs.State.{Body}
-use Rattle.lower_spec.specs.declared.merging.OptBlock.{OptBlock}
-use Rattle.body_calls_spec.specs.declared.TempCall.{TempCall}
-use Rattle.body_calls_spec.specs.declared.MergeCall.{MergeCall}
-use Rattle.body_calls_spec.specs.declared.ScopeCall.{ScopeCall}
-use Rattle.body_calls_spec.specs.declared.DropCall.{DropCall}
+use Rattle.lower_spec.specs.Results.{OptBlock}
+use Rattle.body_calls_spec.specs.Results.{TempCall}
+use Rattle.body_calls_spec.specs.Results.{MergeCall}
+use Rattle.body_calls_spec.specs.Results.{ScopeCall}
+use Rattle.body_calls_spec.specs.Results.{DropCall}
 use Rattle.body_calls_spec.specs.Calls.{temp_call, merge_blocks_call, push_drop_scope_call, pop_assume_dropped_call, pop_and_drop_call, drop_until_scope_call}
 use Rattle.calls_spec.specs.Lengths.{Lengths}
 use Rattle.calls_spec.specs.Promises.{Gives}
 use Rattle.body_calls_spec.specs.Answers.{temp_way, merge_way, scope_way, drop_way}
-use Rattle.pattern_calls_spec.specs.declared.MatchCall.{MatchCall}
+use Rattle.pattern_calls_spec.specs.Results.{MatchCall}
 use Rattle.pattern_calls_spec.specs.Calls.{AssignmentGives, SelfGives}
 use Rattle.called.specs.Call.{Call}
 

@@ -1,9 +1,9 @@
 -- A pattern that fits the place of its call, a value on it, and where the run comes. Assumes nothing: these are definitions.
+use Rattle.std.specs.Prelude.{Some}
 use Rattle.std.specs.Prelude.{ℕ, ◌<◌, ◌≡◌, Bool, true, List, get_or, drop}
 use Rattle.image.specs.Tables.{type_count}
 use Rattle.place.specs.declared.place_ty.PlaceTy.{PlaceTy}
 use Rattle.mir.specs.declared.BasicBlockId.{BasicBlockId}
-use Rattle.lower_spec.specs.declared.merging.OptBlock.{OptBlock}
 use Rattle.pattern_matching.specs.Variants.{place_ty}
 use Rattle.views.specs.Views.{Line, Mir, mir_of}
 use Rattle.counting.specs.Reaching.{Reached}
@@ -75,14 +75,14 @@ module _ {call : Call} {out : HandedOut} (on : FittingValue call out) where
 
   -- it reaches the else, which there is, with these
   abbrev pub ComesToElse : Mir → Env → List Bound → Type 0
-  ComesToElse M env bs = (e : BasicBlockId) × (out.else ≡ OptBlock.Some e) × ComesTo M env bs e.0 M.lines
+  ComesToElse M env bs = (e : BasicBlockId) × (out.else ≡ Some e) × ComesTo M env bs e.0 M.lines
 
   -- it stops at the end of then, or on reaching the else
   abbrev pub StopsAtThen : Mir → Env → Type 0
   StopsAtThen M env = StopsAt M env out.then.0 (behind_then M)
 
   abbrev pub StopsAtElse : Mir → Env → Type 0
-  StopsAtElse M env = (e : BasicBlockId) × (out.else ≡ OptBlock.Some e) × StopsAt M env e.0 M.lines
+  StopsAtElse M env = (e : BasicBlockId) × (out.else ≡ Some e) × StopsAt M env e.0 M.lines
 
   -- the run as a function comes to the end of then, with these bindings
   abbrev pub FunctionComesToThen : Env → List Bound → Type 0
@@ -94,4 +94,4 @@ module _ {call : Call} {out : HandedOut} (on : FittingValue call out) where
   abbrev pub FunctionComesToElse : Env → List Bound → Type 0
   FunctionComesToElse env bs =
       let M = mir_of (after out) in
-      (e : BasicBlockId) × (out.else ≡ OptBlock.Some e) × (c : ComesTo M env bs e.0 M.lines) × EndsWhere env e.0 M.lines c.stops at_else
+      (e : BasicBlockId) × (out.else ≡ Some e) × (c : ComesTo M env bs e.0 M.lines) × EndsWhere env e.0 M.lines c.stops at_else

@@ -1,4 +1,5 @@
 -- One byte further in a unicode escape, and the bound of its value. Assumes nothing.
+use Rattle.std.specs.Prelude.{None}
 use Prim.Native.Nat.{ℕ, ◌+◌, ◌*◌, ◌^◌, ◌<◌, ◌≤◌}
 use mathlib.Core.Path.{◌≡◌}
 use mathlib.Core.Bool.{cond}
@@ -8,21 +9,20 @@ use native.Mathlib.Numerals.{add-one}
 use native.Mathlib.Nat.{pow-suc, pow-le-pow_right}
 use lib.Dec.{eqb, ltb}
 use lib.ListN.{length, get_or, drop}
-use Rattle.text_chars.specs.declared.Scalar.{Scalar}
 use Rattle.text_chars.proofs.Loops.{on, over}
 use Rattle.pattern_tokens.specs.Literals.{hex_digit, escaped, unicode_from}
 
 module _ (bytes : List ℕ) (at digits v : ℕ) where
   pub unicode_on : at < length bytes → unicode_from at digits v (drop at bytes)
-      ≡ cond (ltb (hex_digit (get_or bytes at 0)) 16) (cond (ltb digits 6) (unicode_from (at + 1) (digits + 1) (v * 16 + hex_digit (get_or bytes at 0)) (drop (at + 1) bytes)) Scalar.Nothing)
-      (cond (eqb digits 0) Scalar.Nothing
+      ≡ cond (ltb (hex_digit (get_or bytes at 0)) 16) (cond (ltb digits 6) (unicode_from (at + 1) (digits + 1) (v * 16 + hex_digit (get_or bytes at 0)) (drop (at + 1) bytes)) None)
+      (cond (eqb digits 0) None
       (cond (eqb (get_or bytes at 0) 95) (unicode_from (at + 1) digits v (drop (at + 1) bytes))
       (cond (eqb (get_or bytes at 0) 125) (escaped v at)
-      Scalar.Nothing)))
+      None)))
   unfolding unicode_from
   unicode_on h = rw (on bytes at h, add-one at, add-one digits)
 
-  pub unicode_over : length bytes ≤ at → unicode_from at digits v (drop at bytes) ≡ Scalar.Nothing
+  pub unicode_over : length bytes ≤ at → unicode_from at digits v (drop at bytes) ≡ None
   unfolding unicode_from
   unicode_over h = rw (over bytes at h)
 

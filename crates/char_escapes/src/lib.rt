@@ -6,8 +6,8 @@ ghost use Rattle.pattern_tokens.specs.Literals.{hex_digit, simple_escape, byte_e
 
 use pattern_words::words::is_between;
 use scalar_values::is_scalar_value;
+use text_chars::byte_of;
 use text_chars::scalars::wide;
-use text_chars::{Scalar, byte_of};
 
 fn hex_digit(b: u8) -> u32
     ensures { result ≡ hex_digit b }
@@ -24,80 +24,77 @@ fn hex_digit(b: u8) -> u32
     16
 }
 
-fn simple_escape(b: u8) -> Scalar
+fn simple_escape(b: u8) -> Option<(u32, usize)>
     ensures { result ≡ simple_escape b }
 {
     match b {
-        b'n' => Scalar::Of(0xA, 1),
-        b'r' => Scalar::Of(0xD, 1),
-        b't' => Scalar::Of(0x9, 1),
-        b'0' => Scalar::Of(0, 1),
-        b'\\' => Scalar::Of(0x5C, 1),
-        b'\'' => Scalar::Of(0x27, 1),
-        b'"' => Scalar::Of(0x22, 1),
-        _ => Scalar::Nothing,
+        b'n' => Some((0xA, 1)),
+        b'r' => Some((0xD, 1)),
+        b't' => Some((0x9, 1)),
+        b'0' => Some((0, 1)),
+        b'\\' => Some((0x5C, 1)),
+        b'\'' => Some((0x27, 1)),
+        b'"' => Some((0x22, 1)),
+        _ => None,
     }
 }
 
-fn byte_escape(b: u8, c: u8) -> Scalar
+fn byte_escape(b: u8, c: u8) -> Option<(u32, usize)>
     ensures { result ≡ byte_escape b c }
 {
     let high = hex_digit(b);
     if 8 <= high {
-        return Scalar::Nothing;
+        return None;
     }
     let low = hex_digit(c);
     if 16 <= low {
-        return Scalar::Nothing;
+        return None;
     }
-    Scalar::Of(high * 16 + low, 3)
+    Some((high * 16 + low, 3))
 }
 
-fn escaped_value(v: u32, more: usize) -> Scalar
+fn escaped_value(v: u32, more: usize) -> Option<(u32, usize)>
     ensures { result ≡ escaped v more }
 {
     if is_scalar_value(v) {
-        return Scalar::Of(v, more);
+        return Some((v, more));
     }
-    Scalar::Nothing
+    None
 }
 
 // An escape `\u{ }`.
-fn unicode_escape(bytes: &[u8]) -> Scalar
+fn unicode_escape(bytes: &[u8]) -> Option<(u32, usize)>
     ensures { result ≡ unicode_from 3 0 0 (drop 3 bytes.now) }
 {
-    let mut at: usize = 3;
     let mut digits: usize = 0;
     let mut v: u32 = 0;
-    while at < bytes.len() {
+    for at in 3..bytes.len() {
         let b = bytes[at];
         let digit = hex_digit(b);
         if digit < 16 {
             if 6 <= digits {
-                return Scalar::Nothing;
+                return None;
             }
             v = v * 16 + digit;
             digits += 1;
-            at += 1;
             continue;
         }
         if digits == 0 {
-            return Scalar::Nothing;
+            return None;
         }
         if b == b'_' {
-            at += 1;
             continue;
         }
         if b == b'}' {
             return escaped_value(v, at);
         }
-        return Scalar::Nothing;
+        return None;
     }
-    Scalar::Nothing
+    None
 }
 
 // What an escape means: the bytes begin with one.
-pub fn escape_of(bytes: &[u8]) -> Scalar
+pub fn escape_of(bytes: &[u8]) -> Option<(u32, usize)>
     ensures { result ≡ escape_of bytes.now }
 {
     let b = byte_of(bytes, 1);

@@ -8,25 +8,23 @@ use char_escapes::escape_of;
 use pattern_tokens::byte_behind;
 use pattern_words::words::{is_in_word, is_letter};
 use pattern_words::{Kind, Piece};
-use text_chars::{Scalar, byte_of, scalar_of};
+use text_chars::{byte_of, scalar_of};
 
-fn plain_char(scalar: Scalar) -> Scalar
+fn plain_char(scalar: Option<(u32, usize)>) -> Option<(u32, usize)>
     ensures { result ≡ plain_char scalar }
 {
-    match scalar {
-        Scalar::Of(v, more) => match v {
-            0x27 => Scalar::Nothing,
-            0xA => Scalar::Nothing,
-            0xD => Scalar::Nothing,
-            0x9 => Scalar::Nothing,
-            _ => Scalar::Of(v, more),
-        },
-        Scalar::Nothing => Scalar::Nothing,
+    let (v, more) = scalar?;
+    match v {
+        0x27 => None,
+        0xA => None,
+        0xD => None,
+        0x9 => None,
+        _ => Some((v, more)),
     }
 }
 
 // What stands between the quotes of a char.
-fn char_of(bytes: &[u8]) -> Scalar
+fn char_of(bytes: &[u8]) -> Option<(u32, usize)>
     ensures { result ≡ char_of bytes.now }
 {
     if byte_of(bytes, 0) == b'\\' {
@@ -74,8 +72,8 @@ pub fn char_piece(bytes: &[u8]) -> Piece
     ensures { result ≡ char_piece bytes.now }
 {
     match char_of(&bytes[1..]) {
-        Scalar::Of(v, more) => closed_char(bytes, v, more),
-        Scalar::Nothing => Piece {
+        Some((v, more)) => closed_char(bytes, v, more),
+        None => Piece {
             kind: Kind::Fails,
             size: 0,
         },

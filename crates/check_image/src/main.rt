@@ -3,12 +3,12 @@
 #![tactic(auto)]
 
 use image_report::report;
-use program_io::{Input, read_input};
+use program_io::read_input;
 
 fn main(rt: HostRuntime) {
     let mut buffer = [0u8; 65536];
     match read_input(&rt, &mut rt.stdin(), &mut buffer) {
-        Input::Failed => {}
-        Input::Bytes(n) => report(&rt, &buffer[..n]),
+        None => {}
+        Some(n) => report(&rt, &buffer[..n]),
     }
 }

@@ -17,7 +17,7 @@ use Rattle.place.specs.declared.place_ty.PlaceTy.{PlaceTy}
 use Rattle.mir.specs.declared.BasicBlockId.{BasicBlockId}
 use Rattle.mir.specs.Rvalues.{place_rvalue_row}
 use Rattle.state.specs.Steps.{try_statement}
-use Rattle.lower_spec.specs.declared.merging.OptBlock.{OptBlock}
+use Rattle.lower_spec.specs.Results.{OptBlock}
 use Rattle.lower_spec.specs.Temps.{is_held, binding_local, push_storage_live_for_local}
 use Rattle.views.specs.Views.{of_place, set, Mir, mir_of}
 use Rattle.views.specs.Growing.{GoesOn}

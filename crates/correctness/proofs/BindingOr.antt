@@ -1,4 +1,5 @@
 -- An Or in Bind: the first of its alternatives that matches is tested and then binds. Assumes nothing.
+use Rattle.std.specs.Prelude.{None}
 use Prim.Native.Nat.{ℕ}
 use mathlib.Core.Path.{◌≡◌, refl, sym, subst}
 use mathlib.Core.Logic.{inl}
@@ -8,7 +9,6 @@ use mathlib.Core.List.{List, [], map}
 use Rattle.place.specs.declared.Place.{Place}
 use Rattle.place.specs.declared.place_ty.PlaceTy.{PlaceTy}
 use Rattle.mir.specs.declared.BasicBlockId.{BasicBlockId}
-use Rattle.lower_spec.specs.declared.merging.OptBlock.{OptBlock}
 use Rattle.views.specs.Views.{Mir, mir_of}
 use Rattle.views.specs.Growing.{GoesOn}
 use Rattle.pattern_matching.specs.declared.MatchingMode.{MatchingMode}
@@ -35,7 +35,7 @@ use Rattle.correctness.proofs.BindingFields.{FillsOn, Can, AllCan, no_child, chi
 
 module _ (scene : Scene) (word : ℕ) (bindings : List ℕ) (M : Mir) where
   -- tests, and then the bindings where they led on: a mismatch goes where the tests led it
-  twice : {ctx : Ctx} {c : BasicBlockId} {env : Env} {bs : List Bound} {b : Bool} (r n : Out) → Leaves ctx.state c OptBlock.None r → Leaves r.ctx.state r.then OptBlock.None n →
+  twice : {ctx : Ctx} {c : BasicBlockId} {env : Env} {bs : List Bound} {b : Bool} (r n : Out) → Leaves ctx.state c None r → Leaves r.ctx.state r.then None n →
       Lands scene bindings M ctx c.0 env [] r b →
       ((env : Env) → b ≡ true → Walked scene bindings M r.ctx r.then.0 env bs n.ctx n.then.0 (rest n.ctx.state M)) →
       Lands scene bindings M ctx c.0 env bs (record { ctx = n.ctx; then = n.then; else = r.else }) b
@@ -51,17 +51,17 @@ module _ (scene : Scene) (word : ℕ) (bindings : List ℕ) (M : Mir) where
         record {
           grows = h.grows;
           lands = λ ctx c root ready r e x env.
-              walked (l MatchingMode.Check ctx c OptBlock.None place) _ e (λ r₁ e₁ e₂.
-              walked (l MatchingMode.Bind r₁.ctx r₁.then OptBlock.None place) _ e₂ (λ n e₃ e₄.
-              let q : Leaves ctx.state c OptBlock.None r₁ = (h.grows MatchingMode.Check ctx c OptBlock.None place).leaves ready r₁ e₁ in
-              let again : Ready r₁.ctx.state r₁.then OptBlock.None = record { inside = q.ready.inside; opened = q.ready.opened; else = tt; lines = q.ready.lines } in
-              let q' : Leaves r₁.ctx.state r₁.then OptBlock.None n = (h.grows MatchingMode.Bind r₁.ctx r₁.then OptBlock.None place).leaves again n e₃ in
+              walked (l MatchingMode.Check ctx c None place) _ e (λ r₁ e₁ e₂.
+              walked (l MatchingMode.Bind r₁.ctx r₁.then None place) _ e₂ (λ n e₃ e₄.
+              let q : Leaves ctx.state c None r₁ = (h.grows MatchingMode.Check ctx c None place).leaves ready r₁ e₁ in
+              let again : Ready r₁.ctx.state r₁.then None = record { inside = q.ready.inside; opened = q.ready.opened; else = tt; lines = q.ready.lines } in
+              let q' : Leaves r₁.ctx.state r₁.then None n = (h.grows MatchingMode.Bind r₁.ctx r₁.then None place).leaves again n e₃ in
               let y : GoesOn (mir_of n.ctx.state) M = subst (λ (z : Out). GoesOn (mir_of z.ctx.state) M) (sym (ok_is e₄)) x in
               subst (λ (z : Out). Lands scene bindings M ctx c.0 env (b (place_path place) w) z (m w)) (ok_is e₄)
               (twice r₁ n q q'
-              (h.lands t fits ctx c OptBlock.None place w root stands value ready r₁ e₁ (goes_on_trans (goes_on_lem q'.worked q.ready.opened) y) env)
+              (h.lands t fits ctx c None place w root stands value ready r₁ e₁ (goes_on_trans (goes_on_lem q'.worked q.ready.opened) y) env)
               (λ env matches.
-              ((k.fills t w fits matches value).fill r₁.ctx r₁.then OptBlock.None place n (rooted_after r₁ q root) again stands e₃).walked y env))));
+              ((k.fills t w fits matches value).fill r₁.ctx r₁.then None place n (rooted_after r₁ q root) again stands e₃).walked y env))));
         }
 
     -- all alternatives

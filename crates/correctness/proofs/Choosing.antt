@@ -1,4 +1,5 @@
 -- The alternatives of an Or, in every mode: the first that matches leads to the block where they join. Assumes nothing.
+use Rattle.std.specs.Prelude.{Some, None}
 use lib.ListN.{length}
 use Prim.Native.Nat.{ℕ, ◌≤◌, ◌<◌}
 use native.Mathlib.Nat.{lt_of_lt_of_le}
@@ -12,7 +13,7 @@ use Rattle.mir.specs.declared.BasicBlockId.{BasicBlockId}
 use Rattle.mir.specs.declared.blocks.Terminator.{Terminator}
 use Rattle.state.specs.State.{State}
 use Rattle.state.specs.Steps.{set_terminator}
-use Rattle.lower_spec.specs.declared.merging.OptBlock.{OptBlock}
+use Rattle.lower_spec.specs.Results.{OptBlock}
 use Rattle.lower_spec.specs.Merging.{set_goto}
 use Rattle.views.specs.Views.{Line, Mir, mir_of}
 use Rattle.views.specs.Growing.{Closed, Quiet, GoesOn}
@@ -47,7 +48,7 @@ waits_carry {st} {st₁} {current} next b w f i =
 -- what the loop over alternatives leads to: the block where they join, on reaching it, or the block where the last of them does not match, behind its lines
 pub data Tries (scene : Scene) (bindings : List ℕ) (M : Mir) (ctx : Ctx) (current : ℕ) (env : Env) (bs : List Bound) (join : BasicBlockId) (l : Alternatives) : Bool → Type 0 where
   found : Walked scene bindings M ctx current env bs l.ctx join.0 M.lines → Tries scene bindings M ctx current env bs join l true
-  missed : (b : BasicBlockId) → l.left ≡ OptBlock.Some b → Walked scene bindings M ctx current env [] l.ctx b.0 (rest l.ctx.state M) →
+  missed : (b : BasicBlockId) → l.left ≡ Some b → Walked scene bindings M ctx current env [] l.ctx b.0 (rest l.ctx.state M) →
       Tries scene bindings M ctx current env bs join l false
 
 -- one of them holds
@@ -64,7 +65,7 @@ first_where (b ∷ bs) (x ∷ bss) = cond b x (first_where bs bss)
 -- In a mode, an alternative at a place leads on with the bindings bs where b says, from every context of which Inv holds
 pub record Choice (Inv : Ctx → Type 0) (scene : Scene) (bindings : List ℕ) (M : Mir) (mode : MatchingMode) (place : Place) (l : Lowering) (b : Bool) (bs : List Bound) : Type 0 where
   pub grows : Grows l
-  pub lands : (ctx : Ctx) (c : BasicBlockId) → Inv ctx → Ready ctx.state c OptBlock.None → (r : Out) → alternative l mode ctx c place ≡ ok r → GoesOn (mir_of r.ctx.state) M →
+  pub lands : (ctx : Ctx) (c : BasicBlockId) → Inv ctx → Ready ctx.state c None → (r : Out) → alternative l mode ctx c place ≡ ok r → GoesOn (mir_of r.ctx.state) M →
       (env : Env) → Lands scene bindings M ctx c.0 env bs r b
 
 pub data Choices (Inv : Ctx → Type 0) (scene : Scene) (bindings : List ℕ) (M : Mir) (mode : MatchingMode) (place : Place) : List Lowering → List Bool → List (List Bound) → Type 0 where
@@ -98,7 +99,7 @@ module _ {scene : Scene} {bindings : List ℕ} {M : Mir} {ctx : Ctx} {c : BasicB
       subst (λ (z : List Bound). Walked scene bindings M ctx c.0 env z ctx₂ t.0 M.lines) (append-nil bs) (walked_seq w u s h h₁ x o f)
 
   -- an alternative that matched, at the block where the alternatives join
-  matched : {bs : List Bound} (join : BasicBlockId) (r : Out) → Leaves ctx.state c OptBlock.None r → Waits ctx.state c.0 join.0 →
+  matched : {bs : List Bound} (join : BasicBlockId) (r : Out) → Leaves ctx.state c None r → Waits ctx.state c.0 join.0 →
       GoesOn (mir_of (set_goto r.ctx.state r.then join)) M → Walked scene bindings M ctx c.0 env bs r.ctx r.then.0 (rest r.ctx.state M) →
       Walked scene bindings M ctx c.0 env bs (with_state r.ctx (set_goto r.ctx.state r.then join)) join.0 M.lines
   unfolding set_terminator rest
@@ -122,16 +123,16 @@ module _ {scene : Scene} {bindings : List ℕ} {M : Mir} {ctx : Ctx} {c : BasicB
       (inl (subst (LeftFrom ctx₁.state e.0 l.ctx.state) q t.left).1) fe)
 
   -- an alternative behind which there is none
-  pub tries_last : {bs : List Bound} {b : Bool} (bs' : List Bound) (b' : Bool) (join : BasicBlockId) (r : Out) → r.else ≡ OptBlock.None → Leaves ctx.state c OptBlock.None r →
+  pub tries_last : {bs : List Bound} {b : Bool} (bs' : List Bound) (b' : Bool) (join : BasicBlockId) (r : Out) → r.else ≡ None → Leaves ctx.state c None r →
       Waits ctx.state c.0 join.0 → GoesOn (mir_of (set_goto r.ctx.state r.then join)) M → Lands scene bindings M ctx c.0 env bs r b →
-      Tries scene bindings M ctx c.0 env (cond b bs bs') join (tried (with_state r.ctx (set_goto r.ctx.state r.then join)) OptBlock.None) (b || b')
+      Tries scene bindings M ctx c.0 env (cond b bs bs') join (tried (with_state r.ctx (set_goto r.ctx.state r.then join)) None) (b || b')
   tries_last bs' b' join r none q i x (on w) = found (matched join r q i x w)
   tries_last bs' b' join r none q i x (off e k w) = absurd (not_none (sym none ∙ k))
 
   -- an alternative that can fail, and those behind it
-  pub tries_more : {bs bs' : List Bound} {b b' : Bool} (join : BasicBlockId) (r : Out) (e : BasicBlockId) (l : Alternatives) → r.else ≡ OptBlock.Some e →
-      Leaves ctx.state c OptBlock.None r → Waits ctx.state c.0 join.0 →
-      Tried (set_goto r.ctx.state r.then join) e.0 l → Ready (set_goto r.ctx.state r.then join) e OptBlock.None → GoesOn (mir_of l.ctx.state) M →
+  pub tries_more : {bs bs' : List Bound} {b b' : Bool} (join : BasicBlockId) (r : Out) (e : BasicBlockId) (l : Alternatives) → r.else ≡ Some e →
+      Leaves ctx.state c None r → Waits ctx.state c.0 join.0 →
+      Tried (set_goto r.ctx.state r.then join) e.0 l → Ready (set_goto r.ctx.state r.then join) e None → GoesOn (mir_of l.ctx.state) M →
       Lands scene bindings M ctx c.0 env bs r b →
       ((env : Env) → Waits (set_goto r.ctx.state r.then join) e.0 join.0 →
       Tries scene bindings M (with_state r.ctx (set_goto r.ctx.state r.then join)) e.0 env bs' join l b') →
@@ -144,8 +145,8 @@ module _ {scene : Scene} {bindings : List ℕ} {M : Mir} {ctx : Ctx} {c : BasicB
       let st₁ = r.ctx.state in
       let g = worked_terminator st₁ r.then (Terminator.Goto join) in
       let ctx₁ = with_state r.ctx (set_goto st₁ r.then join) in
-      let new : ElseLeft ctx.state OptBlock.None st₁ (OptBlock.Some e) = subst (ElseLeft ctx.state OptBlock.None st₁) is q.else in
-      let there : ElseReady st₁ r.then (OptBlock.Some e) = subst (ElseReady st₁ r.then) is q.ready.else in
+      let new : ElseLeft ctx.state None st₁ (Some e) = subst (ElseLeft ctx.state None st₁) is q.else in
+      let there : ElseReady st₁ r.then (Some e) = subst (ElseReady st₁ r.then) is q.ready.else in
       let same : e'.0 ≡ e.0 = some_block (sym is' ∙ is) in
       let idle = idle_carry e.0 g there.0 there.1 new.1 new.2 in
       let w₁ : Walked scene bindings M ctx c.0 env [] r.ctx e.0 M.lines = subst (λ (z : ℕ). Walked scene bindings M ctx c.0 env [] r.ctx z M.lines) same w in
@@ -160,36 +161,36 @@ module _ {Inv : Ctx → Type 0} {scene : Scene} {bindings : List ℕ} {M : Mir} 
     (keep : (ctx ctx₁ : Ctx) (c : ℕ) → Worked ctx.state c ctx₁.state → Inv ctx → Inv ctx₁) where
   -- the loop over alternatives
   pub tries : {ls : List Lowering} {bs : List Bool} {bss : List (List Bound)} (p : ℕ) → Choices Inv scene bindings M mode place ls bs bss → (ctx : Ctx) (join c : BasicBlockId) → Inv ctx →
-      Ready ctx.state c OptBlock.None → Waits ctx.state c.0 join.0 → (l : Alternatives) → alternatives p ls mode ctx join c place ≡ ok l → GoesOn (mir_of l.ctx.state) M →
+      Ready ctx.state c None → Waits ctx.state c.0 join.0 → (l : Alternatives) → alternatives p ls mode ctx join c place ≡ ok l → GoesOn (mir_of l.ctx.state) M →
       (env : Env) → Tries scene bindings M ctx c.0 env (first_where bs bss) join l (any_of bs)
   unfolding alternatives any_of first_where
   tries p nil ctx join c inv h i l is x env =
       subst (λ (y : Alternatives). Tries scene bindings M ctx c.0 env [] join y false) (ok_is is) (missed c refl (walked_here ctx c.0 env h.inside))
   tries {ls = alt ∷ ls} {bs = b ∷ bs} {bss = xs ∷ bss} p (cons m a) ctx join c inv h i l is x env =
       walked (alternative alt mode ctx c place) _ is (λ r e₁ e₂.
-      let q : Leaves ctx.state c OptBlock.None r = (good_alternative alt m.grows mode ctx c place).leaves h r e₁ in
+      let q : Leaves ctx.state c None r = (good_alternative alt m.grows mode ctx c place).leaves h r e₁ in
       let ctx₁ = with_state r.ctx (set_goto r.ctx.state r.then join) in
       let f = worked_seq q.worked q.then (worked_terminator r.ctx.state r.then (Terminator.Goto join)) in
       let inv₁ : Inv ctx₁ = keep ctx ctx₁ c.0 f inv in
       ended r r.else refl q (m.lands ctx c inv h r e₁)
       (λ e h₁ e₃ env i₁. tries p a ctx₁ join e inv₁ h₁ i₁ l e₃ x env) e₂)
     where
-      ended : (r : Out) (els : OptBlock) → r.else ≡ els → Leaves ctx.state c OptBlock.None r →
+      ended : (r : Out) (els : OptBlock) → r.else ≡ els → Leaves ctx.state c None r →
           (GoesOn (mir_of r.ctx.state) M → (env : Env) → Lands scene bindings M ctx c.0 env xs r b) →
-          ((e : BasicBlockId) → Ready (set_goto r.ctx.state r.then join) e OptBlock.None → alternatives p ls mode (with_state r.ctx (set_goto r.ctx.state r.then join)) join e place ≡ ok l → (env : Env) →
+          ((e : BasicBlockId) → Ready (set_goto r.ctx.state r.then join) e None → alternatives p ls mode (with_state r.ctx (set_goto r.ctx.state r.then join)) join e place ≡ ok l → (env : Env) →
           Waits (set_goto r.ctx.state r.then join) e.0 join.0 →
           Tries scene bindings M (with_state r.ctx (set_goto r.ctx.state r.then join)) e.0 env (first_where bs bss) join l (any_of bs)) →
           behind els (with_state r.ctx (set_goto r.ctx.state r.then join)) (λ e. alternatives p ls mode (with_state r.ctx (set_goto r.ctx.state r.then join)) join e place) ≡ ok l →
           Tries scene bindings M ctx c.0 env (cond b xs (first_where bs bss)) join l (b || any_of bs)
-      ended r OptBlock.None none q lands k is =
+      ended r None none q lands k is =
           let g = worked_terminator r.ctx.state r.then (Terminator.Goto join) in
           subst (λ (y : Alternatives). GoesOn (mir_of y.ctx.state) M → Tries scene bindings M ctx c.0 env (cond b xs (first_where bs bss)) join y (b || any_of bs)) (ok_is is)
           (λ x. tries_last (first_where bs bss) (any_of bs) join r none q i x (lands (goes_on_trans (goes_on_lem g q.ready.opened) x) env)) x
-      ended r (OptBlock.Some e) some q lands k is =
+      ended r (Some e) some q lands k is =
           let ctx₁ = with_state r.ctx (set_goto r.ctx.state r.then join) in
           let g = worked_terminator r.ctx.state r.then (Terminator.Goto join) in
-          let one : Tried ctx.state c.0 (tried ctx₁ (OptBlock.Some e)) = subst (λ (y : OptBlock). Tried ctx.state c.0 (tried ctx₁ y)) some (tried_one join r q) in
-          let h₁ : Ready ctx₁.state e OptBlock.None = tried_ready ctx₁ e h one in
+          let one : Tried ctx.state c.0 (tried ctx₁ (Some e)) = subst (λ (y : OptBlock). Tried ctx.state c.0 (tried ctx₁ y)) some (tried_one join r q) in
+          let h₁ : Ready ctx₁.state e None = tried_ready ctx₁ e h one in
           let t : Tried ctx₁.state e.0 l = tried_all p ls (choices_grow a) mode ctx₁ join e place l h₁ is in
           let y = goes_on_trans (goes_on_lem t.worked h₁.opened) x in
           tries_more join r e l some q i t h₁ x (lands (goes_on_trans (goes_on_lem g q.ready.opened) y) env) (k e h₁ is)

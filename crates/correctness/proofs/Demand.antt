@@ -1,5 +1,6 @@
 -- Demand 2: a lowered pattern leads a value to the then block, with the bindings that the Reference says, where it matches, and otherwise to the else. Assumes
 -- nothing.
+use Rattle.std.specs.Prelude.{Some}
 use Prim.Native.Nat.{ℕ, ◌<◌}
 use mathlib.Core.Path.{◌≡◌, refl, subst}
 use mathlib.Core.Logic.{◌⊎◌, inl, inr}
@@ -12,7 +13,7 @@ use Rattle.image.specs.Tree.{Pat, tree}
 use Rattle.image.proofs.Bools.{all_true_at}
 use Rattle.place.specs.declared.Place.{Place}
 use Rattle.mir.specs.declared.BasicBlockId.{BasicBlockId}
-use Rattle.lower_spec.specs.declared.merging.OptBlock.{OptBlock}
+use Rattle.lower_spec.specs.Results.{OptBlock}
 use Rattle.views.specs.Views.{Mir, mir_of}
 use Rattle.views.specs.Growing.{GoesOn}
 use Rattle.pattern_matching.specs.declared.MatchingMode.{MatchingMode}
@@ -81,7 +82,7 @@ module _ (image bindings : List ℕ) (pat : Pat) (ctx : Ctx) (current : BasicBlo
 
   -- one that does not comes to the else, with no binding
   pub other_comes : matches image pat v ≡ false →
-      (e : BasicBlockId) × (r.else ≡ OptBlock.Some e) × Comes image bindings M place v ctx current env [] e.0 M.lines
+      (e : BasicBlockId) × (r.else ≡ Some e) × Comes image bindings M place v ctx current env [] e.0 M.lines
   other_comes e =
       let (b, i, w) = led_off (subst (Lands (scene_of image place v) bindings M ctx current.0 env (binds image pat (place_path place) v) r) e lands) in
       (b, i, comes w)
@@ -99,15 +100,15 @@ module _ (image bindings : List ℕ) (p : ℕ) (ctx : Ctx) (current : BasicBlock
   if_it_matches e = matching_comes image bindings (tree image p) ctx current els place t v handed drawn fitting r lowered M onward env e
 
   -- "and otherwise to the else block"
-  pub if_not : matches image (tree image p) v ≡ false → (e : BasicBlockId) × (r.else ≡ OptBlock.Some e) × Comes image bindings M place v ctx current env [] e.0 M.lines
+  pub if_not : matches image (tree image p) v ≡ false → (e : BasicBlockId) × (r.else ≡ Some e) × Comes image bindings M place v ctx current env [] e.0 M.lines
   if_not e = other_comes image bindings (tree image p) ctx current els place t v handed drawn fitting r lowered M onward env e
 
   -- "For every fitting pattern and every fitting value, the run enters no block twice and stops at then or else."
   pub stops_at_then_or_else : Stops image M place v ctx current env r.then.0 (drop (length r.ctx.state.statements) M.lines)
-      ⊎ ((e : BasicBlockId) × (r.else ≡ OptBlock.Some e) × Stops image M place v ctx current env e.0 M.lines)
+      ⊎ ((e : BasicBlockId) × (r.else ≡ Some e) × Stops image M place v ctx current env e.0 M.lines)
   stops_at_then_or_else = by (matches image (tree image p) v) refl
     where
       by : (b : Bool) → matches image (tree image p) v ≡ b → Stops image M place v ctx current env r.then.0 (drop (length r.ctx.state.statements) M.lines)
-          ⊎ ((e : BasicBlockId) × (r.else ≡ OptBlock.Some e) × Stops image M place v ctx current env e.0 M.lines)
+          ⊎ ((e : BasicBlockId) × (r.else ≡ Some e) × Stops image M place v ctx current env e.0 M.lines)
       by true q = inl (if_it_matches q).stops
       by false q = let (e, i, c) = if_not q in inr (e, i, c.stops)

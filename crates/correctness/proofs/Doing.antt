@@ -1,4 +1,5 @@
 -- Lines at the end of a block, and what they do to the locals. Assumes nothing.
+use Rattle.std.specs.Prelude.{Some, None}
 use Prim.Native.Nat.{ℕ, suc, ◌≤◌, ◌<◌, ◌+◌}
 use native.Mathlib.Omega.{arith}
 use mathlib.Core.Path.{◌≡◌, refl, sym, ap, subst, ◌∙◌}
@@ -21,7 +22,7 @@ use Rattle.mir.specs.Scopes.{entry_limit}
 use Rattle.mir.specs.Rvalues.{live_row}
 use Rattle.state.specs.State.{State}
 use Rattle.state.specs.Steps.{within, next_local, new_block, push_statement, new_local, push_entry, set_terminator, try_block, try_statement, try_local, try_entry}
-use Rattle.lower_spec.specs.declared.merging.OptBlock.{OptBlock}
+use Rattle.lower_spec.specs.Results.{OptBlock}
 use Rattle.lower_spec.specs.Temps.{is_slice, record_unless, mark_live, temp}
 use Rattle.views.specs.Views.{Statement, live, Line, Mir, line_of, mir_of}
 use Rattle.views.specs.Growing.{terminator_at, put_terminator, Quiet}
@@ -122,8 +123,8 @@ module _ {scene : Scene} (c : ℕ) where
   -- the else that there is, or a new block
   pub does_else : (st st₁ : State) (els : OptBlock) → else_state st els ≡ done st₁ → Does scene st c st₁ (λ env. env)
   unfolding else_state
-  does_else st st₁ (OptBlock.Some b) e = let same : st₁ ≡ st = cc in does_none st st₁ (ap (λ (s : State). s.statements) same)
-  does_else st st₁ OptBlock.None e = does_block st st₁ e
+  does_else st st₁ (Some b) e = let same : st₁ ≡ st = cc in does_none st st₁ (ap (λ (s : State). s.statements) same)
+  does_else st st₁ None e = does_block st st₁ e
 
   -- a line, read back from its row
   pub does_line : (st st₁ : State) (row : List ℕ) (s : Statement) → line_of row ≡ record { block = c; statement = s } → try_statement st row ≡ done st₁ →

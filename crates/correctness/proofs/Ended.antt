@@ -1,4 +1,5 @@
 -- The run as a function on a lowered pattern: on a value that matches it ends at the end of then, and on any other on reaching the else. Assumes nothing.
+use Rattle.std.specs.Prelude.{Some, None}
 use Prim.Native.Nat.{ℕ, ◌<◌}
 use native.Mathlib.Omega.{arith}
 use mathlib.Core.Path.{◌≡◌, refl, sym, ap, ◌∙◌, subst}
@@ -12,7 +13,7 @@ use Rattle.image.specs.Tree.{tree}
 use Rattle.place.specs.declared.Place.{Place}
 use Rattle.mir.specs.declared.BasicBlockId.{BasicBlockId}
 use Rattle.state.specs.State.{State}
-use Rattle.lower_spec.specs.declared.merging.OptBlock.{OptBlock}
+use Rattle.lower_spec.specs.Results.{OptBlock}
 use Rattle.views.specs.Views.{Line, Mir, mir_of}
 use Rattle.views.specs.Growing.{Closed}
 use Rattle.pattern_matching.specs.Walking.{Ctx, Out, ok}
@@ -39,21 +40,21 @@ use Rattle.correctness.proofs.Demand.{lands}
 -- a block that a run to then has entered is not the else: one that was supplied is older, and a new one is open
 not_else : (st st₁ : State) (current then : BasicBlockId) (els left : OptBlock) (c : ℕ) → ElseReady st current els → ElseLeft st els st₁ left → ElseReady st₁ then left →
     (c ≢ then.0 → Closed (terminator st₁ c)) → From st then.0 c → is_else left c ≡ false
-not_else st st₁ current then els OptBlock.None c h f g closed newer = refl
-not_else st st₁ current then els (OptBlock.Some e) c h f g closed newer = ne_eqb c e.0 (λ q. by els h f q)
+not_else st st₁ current then els None c h f g closed newer = refl
+not_else st st₁ current then els (Some e) c h f g closed newer = ne_eqb c e.0 (λ q. by els h f q)
   where
-    by : (els : OptBlock) → ElseReady st current els → ElseLeft st els st₁ (OptBlock.Some e) → c ≡ e.0 → ⊥
-    by OptBlock.None h f q = subst Closed (ap (terminator st₁) q ∙ f.1) (closed (λ t. g.1 (sym q ∙ t)))
-    by (OptBlock.Some x) h f q =
+    by : (els : OptBlock) → ElseReady st current els → ElseLeft st els st₁ (Some e) → c ≡ e.0 → ⊥
+    by None h f q = subst Closed (ap (terminator st₁) q ∙ f.1) (closed (λ t. g.1 (sym q ∙ t)))
+    by (Some x) h f q =
         let old : e.0 < count st = subst (λ (b : ℕ). b < count st) (sym (some_block f)) h.0 in
         g.1 (sym q ∙ newer (subst (λ (b : ℕ). b < count st) (sym q) old))
 
 -- the block where a walk starts is not the else that it leaves
 start_apart : (st st₁ : State) (current : BasicBlockId) (els left : OptBlock) (e : BasicBlockId) → current.0 < count st → ElseReady st current els → ElseLeft st els st₁ left →
-    left ≡ OptBlock.Some e → current.0 ≢ e.0
-start_apart st st₁ current OptBlock.None OptBlock.None e inside h f i q = not_none i
-start_apart st st₁ current OptBlock.None (OptBlock.Some x) e inside h f i q = let new = f.0 in let same : x.0 ≡ e.0 = some_block i in absurd (omega arith)
-start_apart st st₁ current (OptBlock.Some x) left e inside h f i q = h.1 (some_block (sym f ∙ i) ∙ sym q)
+    left ≡ Some e → current.0 ≢ e.0
+start_apart st st₁ current None None e inside h f i q = not_none i
+start_apart st st₁ current None (Some x) e inside h f i q = let new = f.0 in let same : x.0 ≡ e.0 = some_block i in absurd (omega arith)
+start_apart st st₁ current (Some x) left e inside h f i q = h.1 (some_block (sym f ∙ i) ∙ sym q)
 
 -- The run as a function on the pattern p of an image, in the lowered body.
 module _ (image bindings : List ℕ) (p : ℕ) (ctx : Ctx) (current : BasicBlockId) (els : OptBlock) (place : Place) (t : ℕ) (v : Value)
@@ -87,7 +88,7 @@ module _ (image bindings : List ℕ) (p : ℕ) (ctx : Ctx) (current : BasicBlock
 
   -- and on any other on reaching the else
   pub other_ends : matches image (tree image p) v ≡ false →
-      (e : BasicBlockId) × (r.else ≡ OptBlock.Some e) × (c : Comes image bindings m place v ctx current env [] e.0 m.lines)
+      (e : BasicBlockId) × (r.else ≡ Some e) × (c : Comes image bindings m place v ctx current env [] e.0 m.lines)
       × Ends image m place v ctx current env r.then r.else e.0 m.lines c.stops at_else
   unfolding rest comes
   other_ends q =

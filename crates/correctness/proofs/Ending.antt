@@ -1,4 +1,5 @@
 -- The run as a function stops where the run as a relation comes to: at the end of then, or on reaching the else. Assumes nothing.
+use Rattle.std.specs.Prelude.{Some}
 use Prim.Native.Nat.{ℕ, suc, ◌≤◌}
 use native.Mathlib.Decide.{ℕ_discrete}
 use native.Mathlib.Nat.{le_refl}
@@ -10,7 +11,7 @@ use mathlib.Core.List.{List, [], ◌∷◌, ◌++◌, append-nil, append_assoc}
 use borrow.Author.Tests.{eq-eqb, ne_eqb}
 use lib.ListN.{length}
 use Rattle.mir.specs.declared.blocks.Terminator.{Terminator}
-use Rattle.lower_spec.specs.declared.merging.OptBlock.{OptBlock}
+use Rattle.lower_spec.specs.Results.{OptBlock}
 use Rattle.views.specs.Views.{Line, Mir}
 use Rattle.views.specs.Growing.{terminator_at, Closed}
 use Rattle.meaning.specs.Running.{Scene, Env, execute, switched, Run, here, skip, step, jump, branch}
@@ -94,7 +95,7 @@ module _ (scene : Scene) (m : Mir) (then : ℕ) (els : OptBlock) (opened : termi
 
   -- a block is entered on the way to the else: it is the else, and the run ends there, or it is not
   enters : (b c : ℕ) (env : Env) (seen : List ℕ) (u : Terminator) {b' : ℕ} {lines' : List Line} {env' : Env} {tr : List ℕ} → terminator_at m b ≡ u → Closed u → leap u env ≡ to c →
-      Run scene m c m.lines env b' lines' env' tr → els ≡ OptBlock.Some (record { 0 = b' }) → Distinct (c ∷ tr) → lines' ≡ m.lines →
+      Run scene m c m.lines env b' lines' env' tr → els ≡ Some (record { 0 = b' }) → Distinct (c ∷ tr) → lines' ≡ m.lines →
       (c ≢ b' → Leads scene m then els (standing c m.lines env (seen ++ (c ∷ []))) (at_else (standing b' lines' env' ((seen ++ (c ∷ [])) ++ tr)))) →
       Leads scene m then els (standing b [] env seen) (at_else (standing b' lines' env' (seen ++ (c ∷ tr))))
   enters b c env seen u {b'} {lines'} {env'} {tr} ends closed goes run i d k on = by (ℕ_discrete c b')
@@ -110,7 +111,7 @@ module _ (scene : Scene) (m : Mir) (then : ℕ) (els : OptBlock) (opened : termi
           (l.leads ∙ ap (λ (s : List ℕ). at_else (standing b' lines' env' s)) (append_assoc seen (c ∷ []) tr))
 
   -- a run to the else, which it enters last, from another block: the function stops on reaching it
-  pub leads_to_else : {b b' : ℕ} {lines lines' : List Line} {env env' : Env} {tr : List ℕ} → Run scene m b lines env b' lines' env' tr → els ≡ OptBlock.Some (record { 0 = b' }) → b ≢ b' →
+  pub leads_to_else : {b b' : ℕ} {lines lines' : List Line} {env env' : Env} {tr : List ℕ} → Run scene m b lines env b' lines' env' tr → els ≡ Some (record { 0 = b' }) → b ≢ b' →
       Distinct tr → lines' ≡ m.lines → (seen : List ℕ) → Leads scene m then els (standing b lines env seen) (at_else (standing b' lines' env' (seen ++ tr)))
   leads_to_else here i n d k seen = absurd (n refl)
   leads_to_else (skip other run) i n d k seen = leads_skip other (leads_to_else run i n d k seen)

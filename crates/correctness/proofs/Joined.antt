@@ -1,4 +1,5 @@
 -- An Or leads where its alternatives do: on where one of them matches, and else to the else. Assumes nothing.
+use Rattle.std.specs.Prelude.{Some, None}
 use Prim.Native.Nat.{ℕ, suc, ◌≤◌, ◌<◌}
 use native.Mathlib.Nat.{le_refl, le_trans, lt_of_lt_of_le}
 use native.Mathlib.Omega.{arith}
@@ -15,7 +16,7 @@ use Rattle.mir.specs.declared.blocks.Terminator.{Terminator}
 use Rattle.mir.specs.Blocks.{block_limit}
 use Rattle.state.specs.State.{State}
 use Rattle.state.specs.Steps.{next_block, new_block, try_block, set_terminator}
-use Rattle.lower_spec.specs.declared.merging.OptBlock.{OptBlock}
+use Rattle.lower_spec.specs.Results.{OptBlock}
 use Rattle.lower_spec.specs.Merging.{set_goto}
 use Rattle.views.specs.Views.{Line, Mir, mir_of}
 use Rattle.views.specs.Growing.{Closed, GoesOn}
@@ -57,8 +58,8 @@ walked_start {scene} {bindings} {M} {ctx} {ctx₁} {c} {b} {env} {bs} {left} st�
 -- the lines are the same with an else
 else_lines : (M : Mir) (st st₁ : State) (els : OptBlock) → else_state st els ≡ done st₁ → rest st₁ M ≡ rest st M
 unfolding else_state try_block new_block rest
-else_lines M st st₁ (OptBlock.Some b) e = let same : st₁ ≡ st = cc in ap (λ (s : State). rest s M) same
-else_lines M st st₁ OptBlock.None e = ap (λ (s : State). rest s M) (sym (given (ltb (length st.blocks) block_limit) (new_block st) st₁ e))
+else_lines M st st₁ (Some b) e = let same : st₁ ≡ st = cc in ap (λ (s : State). rest s M) same
+else_lines M st st₁ None e = ap (λ (s : State). rest s M) (sym (given (ltb (length st.blocks) block_limit) (new_block st) st₁ e))
 
 -- and with a terminator set
 set_lines : (M : Mir) (st : State) (b : BasicBlockId) (t : Terminator) → rest (set_terminator st b t) M ≡ rest st M
@@ -78,48 +79,48 @@ module _ {scene : Scene} {bindings : List ℕ} {M : Mir} {ctx : Ctx} {c : BasicB
       Waits st₀ c.0 join.0 → Walked scene bindings M ctx c.0 env bs a join.0 M.lines → alternatives_end p mode (tried a left) join els ≡ ok r → GoesOn (mir_of r.ctx.state) M →
       Walked scene bindings M ctx c.0 env bs r.ctx r.then.0 (rest r.ctx.state M)
   unfolding alternatives_end
-  found_ends p mode a OptBlock.None join els r t i w is x =
+  found_ends p mode a None join els r t i w is x =
       subst (λ (y : Out). GoesOn (mir_of y.ctx.state) M → Walked scene bindings M ctx c.0 env bs y.ctx y.then.0 (rest y.ctx.state M)) (ok_is is)
       (λ x. walked_enter w x (waits_carry c.0 join.0 t.worked (λ _. refl) i).quiet) x
-  found_ends p MatchingMode.Check a (OptBlock.Some b) join els r t i w is x =
+  found_ends p MatchingMode.Check a (Some b) join els r t i w is x =
       let i₁ = waits_carry b.0 join.0 t.worked t.left.2 i in
       stepped p (else_state a.state els) _ is (λ st₂ e₂ is₂.
       let e = else_block a.state els in
       subst (λ (y : Out). GoesOn (mir_of y.ctx.state) M → Walked scene bindings M ctx c.0 env bs y.ctx y.then.0 (rest y.ctx.state M)) (ok_is is₂)
       (λ x. joined a (set_goto st₂ b e) join b w i₁
       (worked_seq (opens_worked t.left.0 (opens_else a.state st₂ b.0 els e₂)) (λ _. refl) (worked_terminator st₂ b (Terminator.Goto e))) t.left.1 x) x)
-  found_ends p MatchingMode.Bind a (OptBlock.Some b) join els r t i w is x =
+  found_ends p MatchingMode.Bind a (Some b) join els r t i w is x =
       let i₁ = waits_carry b.0 join.0 t.worked t.left.2 i in
       subst (λ (y : Out). GoesOn (mir_of y.ctx.state) M → Walked scene bindings M ctx c.0 env bs y.ctx y.then.0 (rest y.ctx.state M)) (ok_is is)
       (λ x. joined a (set_terminator a.state b Terminator.Unreachable) join b w i₁ (worked_terminator a.state b Terminator.Unreachable) t.left.1 x) x
-  found_ends p MatchingMode.Assign a (OptBlock.Some b) join els r t i w is x =
+  found_ends p MatchingMode.Assign a (Some b) join els r t i w is x =
       let i₁ = waits_carry b.0 join.0 t.worked t.left.2 i in
       subst (λ (y : Out). GoesOn (mir_of y.ctx.state) M → Walked scene bindings M ctx c.0 env bs y.ctx y.then.0 (rest y.ctx.state M)) (ok_is is)
       (λ x. joined a (set_terminator a.state b Terminator.Unreachable) join b w i₁ (worked_terminator a.state b Terminator.Unreachable) t.left.1 x) x
 
   -- the end of the alternatives in Check: where none of them matched
-  missed_ends : (p : ℕ) (a : Ctx) (left : OptBlock) (join : BasicBlockId) (els : OptBlock) (b : BasicBlockId) (r : Out) → left ≡ OptBlock.Some b → count ctx.state ≤ count a.state →
+  missed_ends : (p : ℕ) (a : Ctx) (left : OptBlock) (join : BasicBlockId) (els : OptBlock) (b : BasicBlockId) (r : Out) → left ≡ Some b → count ctx.state ≤ count a.state →
       From ctx.state c.0 b.0 → b.0 < count a.state → terminator a.state b.0 ≡ Terminator.Open → length ctx.state.locals ≤ length a.state.locals →
       Walked scene bindings M ctx c.0 env [] a b.0 (rest a.state M) → Ready ctx.state c els → alternatives_end p MatchingMode.Check (tried a left) join els ≡ ok r →
       Leaves ctx.state c els r → GoesOn (mir_of r.ctx.state) M → Lands scene bindings M ctx c.0 env bs r false
   unfolding alternatives_end
-  missed_ends p a OptBlock.None join els b r q grew fb ib o s w h is k x = absurd (not_none q)
-  missed_ends p a (OptBlock.Some b') join els b r q grew fb ib o s w h is k x =
+  missed_ends p a None join els b r q grew fb ib o s w h is k x = absurd (not_none q)
+  missed_ends p a (Some b') join els b r q grew fb ib o s w h is k x =
       stepped p (else_state a.state els) _ is (λ st₂ e₂ is₂.
       let e = else_block a.state els in
       let same : b'.0 ≡ b.0 = some_block q in
-      let is₃ = subst (λ (z : ℕ). ok (record { ctx = with_state a (set_goto st₂ (record { 0 = z }) e); then = join; else = OptBlock.Some e }) ≡ ok r) same is₂ in
+      let is₃ = subst (λ (z : ℕ). ok (record { ctx = with_state a (set_goto st₂ (record { 0 = z }) e); then = join; else = Some e }) ≡ ok r) same is₂ in
       subst (λ (y : Out). Leaves ctx.state c els y → GoesOn (mir_of y.ctx.state) M → Lands scene bindings M ctx c.0 env bs y false) (ok_is is₃)
       (λ k x. by st₂ e (set_goto st₂ b e) e₂ refl k x) k x)
     where
       by : (st₂ : State) (e : BasicBlockId) (st₃ : State) → else_state a.state els ≡ done st₂ → st₃ ≡ set_goto st₂ b e →
-          Leaves ctx.state c els (record { ctx = with_state a st₃; then = join; else = OptBlock.Some e }) → GoesOn (mir_of st₃) M →
-          Lands scene bindings M ctx c.0 env bs (record { ctx = with_state a st₃; then = join; else = OptBlock.Some e }) false
+          Leaves ctx.state c els (record { ctx = with_state a st₃; then = join; else = Some e }) → GoesOn (mir_of st₃) M →
+          Lands scene bindings M ctx c.0 env bs (record { ctx = with_state a st₃; then = join; else = Some e }) false
       by st₂ e st₃ e₂ set k x =
           let u = opens_else a.state st₂ b.0 els e₂ in
           let g : Worked a.state b.0 st₃ = subst (Worked a.state b.0) (sym set) (worked_seq (opens_worked ib u) (λ _. refl) (worked_terminator st₂ b (Terminator.Goto e))) in
           let et : terminator st₃ b.0 ≡ Terminator.Goto e = ap (λ (z : State). terminator z b.0) set ∙ terminator_is st₂ b (Terminator.Goto e) (lt_of_lt_of_le ib u.blocks) tt in
-          let land : Landing ctx.state c.0 st₃ e.0 = landing_else ctx.state st₃ c els (OptBlock.Some e) e h.else k.else refl in
+          let land : Landing ctx.state c.0 st₃ e.0 = landing_else ctx.state st₃ c els (Some e) e h.else k.else refl in
           off e refl (walked_goto a (with_state a st₃) b e w s grew fb g.blocks ib k.ready.else.0 (goes_on_lem g o) x
           (ap (λ (z : State). rest z M) set ∙ set_lines M st₂ b (Terminator.Goto e) ∙ else_lines M a.state st₂ els e₂) et (apart (subst Closed (sym et) tt) land) land)
         where
@@ -131,19 +132,19 @@ module _ {scene : Scene} {bindings : List ℕ} {M : Mir} {ctx : Ctx} {c : BasicB
 end_goes_on : {M : Mir} {st₀ : State} {c : ℕ} (p : ℕ) (mode : MatchingMode) (a : Ctx) (left : OptBlock) (join : BasicBlockId) (els : OptBlock) (r : Out) → Tried st₀ c (tried a left) →
     alternatives_end p mode (tried a left) join els ≡ ok r → GoesOn (mir_of r.ctx.state) M → GoesOn (mir_of a.state) M
 unfolding alternatives_end
-end_goes_on {M} p mode a OptBlock.None join els r t is x = subst (λ (y : Out). GoesOn (mir_of y.ctx.state) M) (sym (ok_is is)) x
-end_goes_on {M} p MatchingMode.Check a (OptBlock.Some b) join els r t is x =
+end_goes_on {M} p mode a None join els r t is x = subst (λ (y : Out). GoesOn (mir_of y.ctx.state) M) (sym (ok_is is)) x
+end_goes_on {M} p MatchingMode.Check a (Some b) join els r t is x =
     stepped p (else_state a.state els) _ is (λ st₂ e₂ is₂.
     goes_on_trans (goes_on_lem (worked_seq (opens_worked t.left.0 (opens_else a.state st₂ b.0 els e₂)) (λ _. refl) (worked_terminator st₂ b (Terminator.Goto (else_block a.state els)))) t.left.1)
     (subst (λ (y : Out). GoesOn (mir_of y.ctx.state) M) (sym (ok_is is₂)) x))
-end_goes_on {M} p MatchingMode.Bind a (OptBlock.Some b) join els r t is x =
+end_goes_on {M} p MatchingMode.Bind a (Some b) join els r t is x =
     goes_on_trans (goes_on_lem (worked_terminator a.state b Terminator.Unreachable) t.left.1) (subst (λ (y : Out). GoesOn (mir_of y.ctx.state) M) (sym (ok_is is)) x)
-end_goes_on {M} p MatchingMode.Assign a (OptBlock.Some b) join els r t is x =
+end_goes_on {M} p MatchingMode.Assign a (Some b) join els r t is x =
     goes_on_trans (goes_on_lem (worked_terminator a.state b Terminator.Unreachable) t.left.1) (subst (λ (y : Out). GoesOn (mir_of y.ctx.state) M) (sym (ok_is is)) x)
 
 -- where the alternatives start, and the block where they join
 pub record Started (st : State) (c : BasicBlockId) (st₀ : State) : Type 0 where
-  pub ready : Ready st₀ c OptBlock.None
+  pub ready : Ready st₀ c None
   pub waits : Waits st₀ c.0 (count st)
   pub worked : Worked st c.0 st₀
 

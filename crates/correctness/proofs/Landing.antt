@@ -1,4 +1,5 @@
 -- One walk after another, and where they land. Assumes nothing.
+use Rattle.std.specs.Prelude.{Some, None}
 use Prim.Native.Nat.{ℕ, ◌<◌}
 use mathlib.Core.Path.{◌≡◌, refl, sym, ◌∙◌, subst}
 use mathlib.Core.Logic.{inl, inr}
@@ -7,7 +8,7 @@ use mathlib.Core.List.{List, [], ◌++◌}
 use Rattle.mir.specs.declared.BasicBlockId.{BasicBlockId}
 use Rattle.mir.specs.declared.blocks.Terminator.{Terminator}
 use Rattle.state.specs.State.{State}
-use Rattle.lower_spec.specs.declared.merging.OptBlock.{OptBlock}
+use Rattle.lower_spec.specs.Results.{OptBlock}
 use Rattle.views.specs.Views.{Line, Mir}
 use Rattle.pattern_matching.specs.Walking.{Ctx, Out}
 use Rattle.growth.specs.Opened.{count, terminator, lines, ElseReady, Ready, ElseLeft, Leaves}
@@ -19,13 +20,13 @@ use Rattle.correctness.proofs.Trails.{Landing}
 use Rattle.correctness.proofs.Walking.{rest, worked_locals, Walked, Lands, on, off, walked_seq, walked_later}
 
 -- a run may end at the else that a walk leaves
-pub landing_else : (st st₁ : State) (c : BasicBlockId) (els left : OptBlock) (e : BasicBlockId) → ElseReady st c els → ElseLeft st els st₁ left → left ≡ OptBlock.Some e →
+pub landing_else : (st st₁ : State) (c : BasicBlockId) (els left : OptBlock) (e : BasicBlockId) → ElseReady st c els → ElseLeft st els st₁ left → left ≡ Some e →
     Landing st c.0 st₁ e.0
-landing_else st st₁ c (OptBlock.Some x) left e h f q =
+landing_else st st₁ c (Some x) left e h f q =
     let same : x.0 ≡ e.0 = some_block (sym f ∙ q) in
     inr (subst (λ (b : ℕ). b < count st) same h.0, λ k. h.1 (same ∙ k))
-landing_else st st₁ c OptBlock.None OptBlock.None e h f q = absurd (not_none q)
-landing_else st st₁ c OptBlock.None (OptBlock.Some y) e h f q = inl (subst (λ (b : ℕ). terminator st₁ b ≡ Terminator.Open) (some_block q) f.1)
+landing_else st st₁ c None None e h f q = absurd (not_none q)
+landing_else st st₁ c None (Some y) e h f q = inl (subst (λ (b : ℕ). terminator st₁ b ≡ Terminator.Open) (some_block q) f.1)
 
 -- where a walk led on, and where it did not
 pub led_on : {scene : Scene} {bindings : List ℕ} {M : Mir} {ctx : Ctx} {c : ℕ} {env : Env} {bs : List Bound} {r : Out} → Lands scene bindings M ctx c env bs r true →
@@ -34,11 +35,11 @@ led_on (on w) = w
 
 -- and where it led to the else
 pub led_off : {scene : Scene} {bindings : List ℕ} {M : Mir} {ctx : Ctx} {c : ℕ} {env : Env} {bs : List Bound} {r : Out} → Lands scene bindings M ctx c env bs r false →
-    (e : BasicBlockId) × (r.else ≡ OptBlock.Some e) × Walked scene bindings M ctx c env [] r.ctx e.0 M.lines
+    (e : BasicBlockId) × (r.else ≡ Some e) × Walked scene bindings M ctx c env [] r.ctx e.0 M.lines
 led_off (off e i w) = (e, i, w)
 
 -- an else that there is stays
-pub else_stays : (st st₁ : State) (els left : OptBlock) (e : BasicBlockId) → els ≡ OptBlock.Some e → ElseLeft st els st₁ left → left ≡ OptBlock.Some e
+pub else_stays : (st st₁ : State) (els left : OptBlock) (e : BasicBlockId) → els ≡ Some e → ElseLeft st els st₁ left → left ≡ Some e
 else_stays st st₁ els left e q f = subst (λ (x : OptBlock). ElseLeft st x st₁ left) q f
 
 module _ {scene : Scene} {bindings : List ℕ} {M : Mir} {ctx : Ctx} {c : BasicBlockId} {els : OptBlock} {env : Env} (r r' : Out)

@@ -20,7 +20,7 @@ use Rattle.mir.specs.declared.rvalues.PlaceRvalue.{PlaceRvalue}
 use Rattle.mir.specs.Rvalues.{place_rvalue_row}
 use Rattle.state.specs.State.{State}
 use Rattle.state.specs.Steps.{next_block, next_local, try_block, try_statement}
-use Rattle.lower_spec.specs.declared.merging.OptBlock.{OptBlock}
+use Rattle.lower_spec.specs.Results.{OptBlock}
 use Rattle.lower_spec.specs.Temps.{temp, discr_temp_place}
 use Rattle.views.specs.Views.{of_place, Mir, mir_of}
 use Rattle.views.specs.Views.{set as puts}

@@ -12,7 +12,7 @@ use Rattle.image.specs.Types.{Shape, integer, bool, char, str, tuple, adt, refer
 use Rattle.image.specs.Tree.{Target, unresolved, variant, local, constant, other, PatOpt}
 use Rattle.place.specs.declared.Place.{Place}
 use Rattle.mir.specs.declared.BasicBlockId.{BasicBlockId}
-use Rattle.lower_spec.specs.declared.merging.OptBlock.{OptBlock}
+use Rattle.lower_spec.specs.Results.{OptBlock}
 use Rattle.views.specs.Views.{Mir}
 use Rattle.pattern_matching.specs.declared.MatchingMode.{MatchingMode}
 use Rattle.pattern_matching.specs.Walking.{Ctx, Out, ok, Lowering, visited}

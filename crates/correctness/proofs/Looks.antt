@@ -1,4 +1,5 @@
 -- Each kind of pattern, behind its derefs: where its walk in Check leads, if its subpatterns' lead as they mean. Assumes nothing.
+use Rattle.std.specs.Prelude.{None}
 use Prim.Native.Nat.{ℕ, ◌/◌, ◌<◌}
 use mathlib.Core.Path.{◌≡◌, refl, sym, ap, subst, ◌∙◌}
 use mathlib.Core.Bool.{Bool, true, false, ◌&&◌}
@@ -17,7 +18,7 @@ use Rattle.place.specs.declared.place_ty.PlaceTy.{PlaceTy}
 use Rattle.mir.specs.declared.BasicBlockId.{BasicBlockId}
 use Rattle.mir.specs.declared.rvalues.Constant.{Constant}
 use Rattle.mir.specs.declared.rvalues.BinOp.{BinOp}
-use Rattle.lower_spec.specs.declared.merging.OptBlock.{OptBlock}
+use Rattle.lower_spec.specs.Results.{OptBlock}
 use Rattle.literals.specs.Literals.{lower_literal_to_operand, lower_const_to_operand, lower_literal_or_const_to_operand}
 use Rattle.views.specs.Views.{Mir, mir_of}
 use Rattle.views.specs.Growing.{GoesOn}
@@ -207,7 +208,7 @@ module _ {scene : Scene} {bindings : List ℕ} {M : Mir} {word : ℕ} where
           and-choice (record {
             grows = y.grows;
             lands = λ ctx c root h r is x env.
-                y.lands u (and_left (f (some u)) (items_all_fit fs (some u)) fit) ctx c OptBlock.None place w root s fits h r (handed (l MatchingMode.Check ctx c OptBlock.None place) r is) x env;
+                y.lands u (and_left (f (some u)) (items_all_fit fs (some u)) fit) ctx c None place w root s fits h r (handed (l MatchingMode.Check ctx c None place) r is) x env;
           }) (choices a (and_right (f (some u)) (items_all_fit fs (some u)) fit) place w s fits)
 
       -- an Or

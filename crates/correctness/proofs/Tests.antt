@@ -1,4 +1,5 @@
 -- Each test leads where the value says. Assumes nothing.
+use Rattle.std.specs.Prelude.{Some}
 use Prim.Native.Nat.{ℕ, ◌+◌, ◌*◌, ◌≤◌, ◌<◌}
 use native.Mathlib.Nat.{lt_of_lt_of_le}
 use native.Mathlib.Omega.{arith}
@@ -17,7 +18,7 @@ use Rattle.mir.specs.declared.rvalues.Left.{Left}
 use Rattle.mir.specs.Rvalues.{binary_row}
 use Rattle.state.specs.State.{State}
 use Rattle.state.specs.Steps.{next_local, set_terminator, try_statement}
-use Rattle.lower_spec.specs.declared.merging.OptBlock.{OptBlock}
+use Rattle.lower_spec.specs.Results.{OptBlock}
 use Rattle.lower_spec.specs.Temps.{temp}
 use Rattle.views.specs.Views.{binary, Mir, mir_of}
 use Rattle.views.specs.Views.{set as puts}
@@ -48,7 +49,7 @@ module _ {scene : Scene} {bindings : List ℕ} {M : Mir} (ctx : Ctx) (c : BasicB
   -- the end of a test, over any lines before it: the switch goes on at t where the local is the value, and else at e
   pub lands_switch : {st₁ : State} {f : Env → Env} (l : LocalId) (low high : ℕ) (t e : BasicBlockId) (v : List ℕ) (r : Out) → Ready ctx.state c els →
       Does scene ctx.state c.0 st₁ f → count ctx.state ≤ t.0 → low < 18446744073709551616 → high < 18446744073709551616 →
-      ok (result (set_terminator st₁ c (Terminator.Switch l low high t e)) v t (OptBlock.Some e)) ≡ ok r → Leaves ctx.state c els r → GoesOn (mir_of r.ctx.state) M →
+      ok (result (set_terminator st₁ c (Terminator.Switch l low high t e)) v t (Some e)) ≡ ok r → Leaves ctx.state c els r → GoesOn (mir_of r.ctx.state) M →
       (env : Env) → ((k : ℕ) → k < length ctx.state.locals → f env k ≡ env k) →
       (b : Bool) → eqb (switch_number (scalar_of (value_of (f env l.0)))) (low + 18446744073709551616 * high) ≡ b →
       Lands scene bindings M ctx c.0 env [] r b
@@ -63,7 +64,7 @@ module _ {scene : Scene} {bindings : List ℕ} {M : Mir} (ctx : Ctx) (c : BasicB
       st₂ = set_terminator st₁ c end
 
       out : Out
-      out = result st₂ v t (OptBlock.Some e)
+      out = result st₂ v t (Some e)
 
       target : Bool → ℕ
       target b = cond b t.0 e.0
@@ -97,7 +98,7 @@ module _ {scene : Scene} {bindings : List ℕ} {M : Mir} (ctx : Ctx) (c : BasicB
             entered = e.0 ∷ [];
             run = walk false tested q x;
             locals = kept;
-            trail = trail_one (elsewhere (shut q) (landing_else ctx.state st₂ c els (OptBlock.Some e) e h.else q.else refl)) (shut q) (lt_of_lt_of_le h.inside q.worked.blocks) q.ready.else.0;
+            trail = trail_one (elsewhere (shut q) (landing_else ctx.state st₂ c els (Some e) e h.else q.else refl)) (shut q) (lt_of_lt_of_le h.inside q.worked.blocks) q.ready.else.0;
           })
         where
           elsewhere : Closed (terminator st₂ c.0) → Landing ctx.state c.0 st₂ e.0 → c.0 ≢ e.0

@@ -20,7 +20,7 @@ use Rattle.mir.specs.Rvalues.{constant_row, binary_row}
 use Rattle.state.specs.State.{State}
 use Rattle.state.specs.Steps.{next_block, next_local, try_block, try_statement}
 use Rattle.literals.specs.Literals.{lower_const_to_operand, lower_literal_or_const_to_operand}
-use Rattle.lower_spec.specs.declared.merging.OptBlock.{OptBlock}
+use Rattle.lower_spec.specs.Results.{OptBlock}
 use Rattle.lower_spec.specs.Temps.{temp}
 use Rattle.views.specs.Views.{of_constant, binary, Mir, mir_of}
 use Rattle.views.specs.Views.{set as puts}

@@ -16,7 +16,7 @@ use Rattle.place.specs.declared.Place.{Place}
 use Rattle.place.specs.declared.elems.ProjectionElem.{ProjectionElem}
 use Rattle.place.specs.declared.place_ty.PlaceTy.{PlaceTy}
 use Rattle.mir.specs.declared.BasicBlockId.{BasicBlockId}
-use Rattle.lower_spec.specs.declared.merging.OptBlock.{OptBlock}
+use Rattle.lower_spec.specs.Results.{OptBlock}
 use Rattle.views.specs.Views.{Mir, mir_of}
 use Rattle.views.specs.Growing.{GoesOn}
 use Rattle.pattern_matching.specs.declared.MatchingMode.{MatchingMode}

@@ -1,4 +1,5 @@
 -- Runs from one state of the lowering to another, in a body that goes on from there. Assumes nothing.
+use Rattle.std.specs.Prelude.{Some}
 use native.Mathlib.Omega.{arith}
 use Prim.Native.Nat.{ℕ, ◌≤◌, ◌<◌, ◌+◌}
 use native.Mathlib.Nat.{lt_of_lt_of_le}
@@ -12,7 +13,6 @@ use Rattle.place.specs.declared.LocalId.{LocalId}
 use Rattle.mir.specs.declared.BasicBlockId.{BasicBlockId}
 use Rattle.mir.specs.declared.blocks.Terminator.{Terminator}
 use Rattle.state.specs.State.{State}
-use Rattle.lower_spec.specs.declared.merging.OptBlock.{OptBlock}
 use Rattle.views.specs.Views.{Line, Mir, line_of, mir_of}
 use Rattle.views.specs.Growing.{Closed, Quiet, GoesOn}
 use Rattle.pattern_matching.specs.Walking.{Ctx, Out}
@@ -121,7 +121,7 @@ pub record Walked (scene : Scene) (bindings : List ℕ) (M : Mir) (ctx : Ctx) (c
 -- with true: to the block that goes on, behind its lines, with the bindings bs; with false: to the else, on reaching it
 pub data Lands (scene : Scene) (bindings : List ℕ) (M : Mir) (ctx : Ctx) (current : ℕ) (env : Env) (bs : List Bound) (r : Out) : Bool → Type 0 where
   on : Walked scene bindings M ctx current env bs r.ctx r.then.0 (rest r.ctx.state M) → Lands scene bindings M ctx current env bs r true
-  off : (e : BasicBlockId) → r.else ≡ OptBlock.Some e → Walked scene bindings M ctx current env [] r.ctx e.0 M.lines → Lands scene bindings M ctx current env bs r false
+  off : (e : BasicBlockId) → r.else ≡ Some e → Walked scene bindings M ctx current env [] r.ctx e.0 M.lines → Lands scene bindings M ctx current env bs r false
 
 module _ {scene : Scene} {bindings : List ℕ} {M : Mir} where
   -- nothing done

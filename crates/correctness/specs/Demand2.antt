@@ -8,7 +8,7 @@ use Rattle.place.specs.declared.Place.{Place}
 use Rattle.place.specs.declared.place_ty.PlaceTy.{PlaceTy}
 use Rattle.place.specs.Places.{projection_of}
 use Rattle.mir.specs.declared.BasicBlockId.{BasicBlockId}
-use Rattle.lower_spec.specs.declared.merging.OptBlock.{OptBlock}
+use Rattle.lower_spec.specs.Results.{OptBlock}
 use Rattle.views.specs.Views.{Path, Line, Mir}
 use Rattle.pattern_matching.specs.Walking.{Ctx}
 use Rattle.pattern_matching.specs.Variants.{place_ty}

@@ -9,7 +9,7 @@ use Rattle.place.specs.declared.place_ty.PlaceTy.{PlaceTy}
 use Rattle.place.specs.Elems.{Fits}
 use Rattle.place.specs.PlaceTypes.{projection_ty, multi_projection_ty}
 use Rattle.mir.specs.declared.BasicBlockId.{BasicBlockId}
-use Rattle.lower_spec.specs.declared.merging.OptBlock.{OptBlock}
+use Rattle.lower_spec.specs.Results.{OptBlock}
 use Rattle.pattern_matching.specs.Walking.{Ctx, Out, Walk, Lowering, next, project}
 use Rattle.pattern_matching.specs.Variants.{pattern_match_adt}
 use Rattle.counting.specs.Reaching.{zip, some_argument, Reaching, Reached, through_arguments}

@@ -20,7 +20,7 @@ use Rattle.mir.specs.declared.BasicBlockId.{BasicBlockId}
 use Rattle.mir.specs.Rvalues.{place_rvalue_row}
 use Rattle.state.specs.State.{State}
 use Rattle.state.specs.Steps.{try_statement}
-use Rattle.lower_spec.specs.declared.merging.OptBlock.{OptBlock}
+use Rattle.lower_spec.specs.Results.{OptBlock}
 use Rattle.lower_spec.specs.Temps.{is_held, binding_local, push_storage_live_for_local}
 use Rattle.pattern_matching.specs.Walking.{Ctx, Out, Walk, ok, Lowering, next, step, out, with_state, project, visited, in_check}
 use Rattle.pattern_matching.specs.Tests.{binding_rvalue, pattern_match_binding}

@@ -1,4 +1,5 @@
 -- The bounds on what is counted, and the counts of both passes together. Assumes nothing.
+use Rattle.std.specs.Prelude.{Some, None}
 use mathlib.Core.Path.{◌≡◌, refl, sym, ap, ◌∙◌}
 use mathlib.Core.Bool.{Bool, true, false, cond}
 use mathlib.Core.Option.{Option, none, some}
@@ -10,7 +11,7 @@ use lib.Dec.{eqb}
 use lib.ListN.{length}
 use Rattle.image.specs.Tree.{Pat}
 use Rattle.place.specs.declared.place_ty.PlaceTy.{PlaceTy}
-use Rattle.lower_spec.specs.declared.merging.OptBlock.{OptBlock}
+use Rattle.lower_spec.specs.Results.{OptBlock}
 use Rattle.counting.specs.Reaching.{Reached, reached}
 use Rattle.counting.specs.Counting.{one, total, check_visits, visits_of, blocks_of, bind_statements, statements_of, else_made, most_ors}
 use Rattle.counting.proofs.Going.{block, statement, visit}
@@ -81,8 +82,8 @@ pub blocks_bound : (rs : List Reached) (fails : Bool) (els : OptBlock) → AllSm
 blocks_bound rs fails els small there = bounded blocks_of 3 (else_made fails els) each rs small there (few fails els)
   where
     few : (fails : Bool) (els : OptBlock) → else_made fails els ≤ 1
-    few fails OptBlock.None = at_most_one fails
-    few fails (OptBlock.Some e) = omega arith
+    few fails None = at_most_one fails
+    few fails (Some e) = omega arith
 
     by : (r : Reached) (b : Bool) (t : ℕ) (f : Bool) → t + 2 * one b ≤ 2 → check_visits r * (t + one f) + one b * (check_visits r + 1) + 1 ≤ 3 * (r.ors + 2)
     by r true t f h = let a = at_most_one f in let t₁ : t + one f ≤ 1 = omega (arith, h, a) in let b = mul-le-mul_left (check_visits r) t₁ in omega (arith, b)

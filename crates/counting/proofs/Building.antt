@@ -1,4 +1,5 @@
 -- What each step of the builder adds to a state. Assumes nothing.
+use Rattle.std.specs.Prelude.{Some, None}
 use mathlib.Core.Path.{◌≡◌, refl}
 use mathlib.Core.Bool.{Bool, true, false, cond}
 use mathlib.Core.List.{List, [], ◌∷◌, ◌++◌}
@@ -20,7 +21,7 @@ use Rattle.mir.specs.Scopes.{entry_limit}
 use Rattle.mir.specs.Rvalues.{live_row}
 use Rattle.state.specs.State.{State}
 use Rattle.state.specs.Steps.{new_block, set_terminator, push_statement, new_local, push_entry, within, try_block, try_statement, try_local, try_entry, next_local}
-use Rattle.lower_spec.specs.declared.merging.OptBlock.{OptBlock}
+use Rattle.lower_spec.specs.Results.{OptBlock}
 use Rattle.lower_spec.specs.Temps.{is_slice, record_unless, mark_live, temp}
 use Rattle.pattern_matching.specs.Walking.{else_state}
 use Rattle.counting.specs.Counting.{else_made}
@@ -108,5 +109,5 @@ gives_temp image st word block =
 -- an else, where there is none
 pub gives_else : (st : State) (els : OptBlock) → Gives (λ st₁. Built st st₁ (else_made true els) 0) (else_state st els)
 unfolding else_state
-gives_else st OptBlock.None = gives_block st
-gives_else st (OptBlock.Some b) = gives (λ st₁. Built st st₁ 0 0) st (built_none st)
+gives_else st None = gives_block st
+gives_else st (Some b) = gives (λ st₁. Built st st₁ 0 0) st (built_none st)

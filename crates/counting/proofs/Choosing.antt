@@ -1,4 +1,5 @@
 -- Or patterns add what is counted of them. Assumes nothing.
+use Rattle.std.specs.Prelude.{Some, None}
 use mathlib.Core.Path.{◌≡◌, refl, sym, ap, subst, ◌∙◌}
 use mathlib.Core.Bool.{Bool, true, false, ◌&&◌, true≢false, false≢true}
 use mathlib.Core.List.{List, [], ◌∷◌, ◌++◌, append-nil}
@@ -12,7 +13,7 @@ use Rattle.mir.specs.declared.BasicBlockId.{BasicBlockId}
 use Rattle.mir.specs.declared.blocks.Terminator.{Terminator}
 use Rattle.state.specs.State.{State}
 use Rattle.state.specs.Steps.{next_block, try_block, set_terminator}
-use Rattle.lower_spec.specs.declared.merging.OptBlock.{OptBlock}
+use Rattle.lower_spec.specs.Results.{OptBlock}
 use Rattle.lower_spec.specs.Merging.{set_goto}
 use Rattle.pattern_matching.specs.declared.MatchingMode.{MatchingMode}
 use Rattle.pattern_matching.specs.Walking.{Ctx, Out, Walk, ok, Lowering, next, out, with_state, else_state, else_block, visited}
@@ -30,28 +31,28 @@ use Rattle.counting.proofs.Testing.{plain_test}
 use Rattle.counting.proofs.Arguments.{Counts, Each, none_left, one_more_lem, on_after}
 
 -- an else where none was is left if the pattern can fail
-left_if : (f : Bool) (els : OptBlock) (from to : ℕ) → ElseIs f OptBlock.None els from to → given els ≡ f
-left_if true OptBlock.None from to h = absurd h
-left_if true (OptBlock.Some b) from to h = refl
+left_if : (f : Bool) (els : OptBlock) (from to : ℕ) → ElseIs f None els from to → given els ≡ f
+left_if true None from to h = absurd h
+left_if true (Some b) from to h = refl
 left_if false els from to h = ap given h
 
 -- no else is made where nothing fails
 no_else : (els : OptBlock) → else_made false els ≡ 0
-no_else OptBlock.None = refl
-no_else (OptBlock.Some e) = refl
+no_else None = refl
+no_else (Some e) = refl
 
-module _ {c : Ctx} {fails : Bool} {k : ℕ} {rs : List Reached} {r : Out} (a : After checks c OptBlock.None fails k fails rs r) (then : BasicBlockId) (els : OptBlock) where
+module _ {c : Ctx} {fails : Bool} {k : ℕ} {rs : List Reached} {r : Out} (a : After checks c None fails k fails rs r) (then : BasicBlockId) (els : OptBlock) where
   -- what an alternative adds in Check, its own else among it
   check_tried : (k' : ℕ) → After checks c els false k' false rs (record { ctx = r.ctx; then = then; else = els })
   check_tried k' = record { steps = record { went = went_as same a.steps.went; else = same_else els _ _ }; small = a.small }
     where
-      same : (w : What) → flag fails w + (total (tested w) rs + extra w false els) ≡ flag false w + (total (tested w) rs + extra w fails OptBlock.None)
+      same : (w : What) → flag fails w + (total (tested w) rs + extra w false els) ≡ flag false w + (total (tested w) rs + extra w fails None)
       same block = let e = no_else els in omega (arith, e)
       same statement = refl
       same (visit n) = refl
 
   -- and in Bind, where it is tested first
-  bind_tried : (k' : ℕ) (r' : Out) → After binds r.ctx OptBlock.None fails (k' + 1) fails rs r' →
+  bind_tried : (k' : ℕ) (r' : Out) → After binds r.ctx None fails (k' + 1) fails rs r' →
       After binds c els false k' false rs (record { ctx = r'.ctx; then = then; else = els })
   bind_tried k' r' a' =
       record {
@@ -59,16 +60,16 @@ module _ {c : Ctx} {fails : Bool} {k : ℕ} {rs : List Reached} {r : Out} (a : A
         small = a.small;
       }
     where
-      its : (w : What) → extra w fails OptBlock.None ≡ flag fails w
+      its : (w : What) → extra w fails None ≡ flag fails w
       its block = refl
       its statement = refl
       its (visit n) = refl
 
       same : (w : What) → flag fails w + (k' + 1) * total (tested w) rs + (total (bound w) rs + extra w false els) ≡
-          k' * total (tested w) rs + (total (tested w) rs + extra w fails OptBlock.None + (total (bound w) rs + extra w false OptBlock.None))
+          k' * total (tested w) rs + (total (tested w) rs + extra w fails None + (total (bound w) rs + extra w false None))
       same w =
           let e₁ = none_extra w els in
-          let e₂ = none_extra w OptBlock.None in
+          let e₂ = none_extra w None in
           let e₃ = its w in
           let e₄ = add-mul k' 1 (total (tested w) rs) in
           let e₅ = one-mul (total (tested w) rs) in
@@ -82,18 +83,18 @@ Tried pass c then els k fails rs r = After pass c els false k false rs (record {
 holds_alternative : {image : List ℕ} {alt : Lowering} {fails : PlaceTy → Bool} {reach : Reaching} → Counts image alt fails reach → (pass : Pass) (c : Ctx) (current then : BasicBlockId) (els : OptBlock)
     (place : Place) (ty : PlaceTy) (k : ℕ) → On image c place ty → Holds (Tried pass c then els k (fails ty) (reach ty (k + 1) (fails ty))) (alternative alt (mode_of pass) c current place)
 holds_alternative {alt = alt} {fails = fails} {reach = reach} h checks c current then els place ty k o =
-    holds_next (alt MatchingMode.Check c current OptBlock.None place) (λ r. ok r) (h.goes checks c current OptBlock.None place ty (k + 1) (fails ty) o) (λ r a.
+    holds_next (alt MatchingMode.Check c current None place) (λ r. ok r) (h.goes checks c current None place ty (k + 1) (fails ty) o) (λ r a.
     holds (Tried checks c then els k (fails ty) (reach ty (k + 1) (fails ty))) r (check_tried a then els k, left_if (fails ty) r.else _ _ a.steps.else))
 holds_alternative {alt = alt} {fails = fails} {reach = reach} h binds c current then els place ty k o =
-    holds_next (alt MatchingMode.Check c current OptBlock.None place) again (h.goes checks c current OptBlock.None place ty (k + 1) (fails ty) o) (λ r a.
-    holds_next (alt MatchingMode.Bind r.ctx r.then OptBlock.None place) (last r) (h.goes binds r.ctx r.then OptBlock.None place ty (k + 1) (fails ty) (on_after a o)) (λ r' a'.
+    holds_next (alt MatchingMode.Check c current None place) again (h.goes checks c current None place ty (k + 1) (fails ty) o) (λ r a.
+    holds_next (alt MatchingMode.Bind r.ctx r.then None place) (last r) (h.goes binds r.ctx r.then None place ty (k + 1) (fails ty) (on_after a o)) (λ r' a'.
     holds (Tried binds c then els k (fails ty) (reach ty (k + 1) (fails ty))) _ (bind_tried a then els k r' a', left_if (fails ty) r.else _ _ a.steps.else)))
   where
     last : Out → Out → Walk Out
     last r r' = out r'.ctx r'.then r.else
 
     again : Out → Walk Out
-    again r = next (alt MatchingMode.Bind r.ctx r.then OptBlock.None place) (last r)
+    again r = next (alt MatchingMode.Bind r.ctx r.then None place) (last r)
 
 -- what alternatives add, and whether the last leaves a block where it does not match
 abbrev Chosen : Pass → Ctx → BasicBlockId → OptBlock → ℕ → Bool → List Reached → Alternatives → Type 0
@@ -114,15 +115,15 @@ through_next ty k fails fs reach rs e = rw e
 -- the walk ends behind an alternative that leaves no block
 holds_last : (pass : Pass) (c c₁ : Ctx) (join : BasicBlockId) (els : OptBlock) (k : ℕ) (rs : List Reached) (left : OptBlock) (others : BasicBlockId → Walk Alternatives) → given left ≡ false →
     After pass c els false k false rs (record { ctx = c₁; then = join; else = els }) → Holds (Chosen pass c join els k false rs) (behind left c₁ others)
-holds_last pass c c₁ join els k rs OptBlock.None others e a = holds (Chosen pass c join els k false rs) _ (a, refl)
-holds_last pass c c₁ join els k rs (OptBlock.Some x) others e a = absurd (true≢false e)
+holds_last pass c c₁ join els k rs None others e a = holds (Chosen pass c join els k false rs) _ (a, refl)
+holds_last pass c c₁ join els k rs (Some x) others e a = absurd (true≢false e)
 
 -- and goes on behind one that leaves one
 holds_others : (pass : Pass) (c c₁ : Ctx) (join : BasicBlockId) (els : OptBlock) (k : ℕ) (all : Bool) (rs rs' : List Reached) (left : OptBlock) (others : BasicBlockId → Walk Alternatives) →
     given left ≡ true → After pass c els false k false rs (record { ctx = c₁; then = join; else = els }) →
     ((current : BasicBlockId) → Holds (Chosen pass c₁ join els k all rs') (others current)) → Holds (Chosen pass c join els k all (rs ++ rs')) (behind left c₁ others)
-holds_others pass c c₁ join els k all rs rs' OptBlock.None others e a then = absurd (false≢true e)
-holds_others pass c c₁ join els k all rs rs' (OptBlock.Some x) others e a then = holds_as (λ r t. (after_more a t.0, t.1)) (then x)
+holds_others pass c c₁ join els k all rs rs' None others e a then = absurd (false≢true e)
+holds_others pass c c₁ join els k all rs rs' (Some x) others e a then = holds_as (λ r t. (after_more a t.0, t.1)) (then x)
 
 -- alternatives, up to the first that cannot fail
 holds_alternatives : {image : List ℕ} {ls : List Lowering} {fs : List (PlaceTy → Bool)} {rs : List Reaching} (p : ℕ) → Each image ls fs rs → (pass : Pass) (c : Ctx) (join current : BasicBlockId)
@@ -173,8 +174,8 @@ holds_alternatives {image = image} p (one_more_lem {l = l} {fails = fails} {reac
 holds_end : (p : ℕ) (pass : Pass) (c : Ctx) (left : OptBlock) (join : BasicBlockId) (els : OptBlock) (k : ℕ) →
     Holds (After pass c els (given left) k false []) (alternatives_end p (mode_of pass) (record { ctx = c; left = left }) join els)
 unfolding alternatives_end total
-holds_end p pass c OptBlock.None join els k = holds (After pass c els false k false []) _ (after_none pass c join els k)
-holds_end p checks c (OptBlock.Some b) join els k =
+holds_end p pass c None join els k = holds (After pass c els false k false []) _ (after_none pass c join els k)
+holds_end p checks c (Some b) join els k =
     holds_step p (else_state c.state els) last (gives_else c.state els) (λ st g.
     let end = built_terminator st b (Terminator.Goto (else_block c.state els)) in
     holds (After checks c els true k false []) _
@@ -185,8 +186,8 @@ holds_end p checks c (OptBlock.Some b) join els k =
     }))
   where
     last : State → Walk Out
-    last st = out (with_state c (set_goto st b (else_block c.state els))) join (OptBlock.Some (else_block c.state els))
-holds_end p binds c (OptBlock.Some b) join els k =
+    last st = out (with_state c (set_goto st b (else_block c.state els))) join (Some (else_block c.state els))
+holds_end p binds c (Some b) join els k =
     let a = after_same binds {c = c} {c' = with_state c (set_terminator c.state b Terminator.Unreachable)} join els k (built_terminator c.state b Terminator.Unreachable) refl in
     holds (After binds c els true k false []) _ (record { steps = a.steps; small = a.small })
 

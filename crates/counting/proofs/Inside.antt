@@ -13,7 +13,7 @@ use Rattle.place.specs.declared.elems.ProjectionElem.{ProjectionElem}
 use Rattle.place.specs.declared.place_ty.PlaceTy.{PlaceTy}
 use Rattle.place.specs.PlaceTypes.{projection_ty}
 use Rattle.mir.specs.declared.BasicBlockId.{BasicBlockId}
-use Rattle.lower_spec.specs.declared.merging.OptBlock.{OptBlock}
+use Rattle.lower_spec.specs.Results.{OptBlock}
 use Rattle.pattern_matching.specs.Walking.{Ctx, Out, Lowering, project, visited, entered}
 use Rattle.pattern_matching.specs.Variants.{place_ty, shape_of, needed, tuple_on, tuple_pattern, ref_on, ref_pattern}
 use Rattle.pattern_matching.specs.Patterns.{refusing, passing}

@@ -16,7 +16,7 @@ use Rattle.place.specs.declared.elems.ProjectionElem.{ProjectionElem}
 use Rattle.place.specs.declared.place_ty.PlaceTy.{PlaceTy}
 use Rattle.place.specs.PlaceTypes.{projection_ty, multi_projection_ty}
 use Rattle.mir.specs.declared.BasicBlockId.{BasicBlockId}
-use Rattle.lower_spec.specs.declared.merging.OptBlock.{OptBlock}
+use Rattle.lower_spec.specs.Results.{OptBlock}
 use Rattle.pattern_matching.specs.Walking.{Ctx, Out, Walk, refused, Lowering, step, out, project, visited, in_check}
 use Rattle.pattern_matching.specs.Variants.{AdtPatternShape, needed, variant_fields, discriminant_test, variant_on, adt_on}
 use Rattle.counting.specs.Reaching.{Argument, is_enum, downcast, in_a_row, by_fields, some_argument, Reaching, Reached, naming, through_arguments}

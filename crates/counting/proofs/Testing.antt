@@ -1,4 +1,5 @@
 -- What each test adds. Assumes nothing.
+use Rattle.std.specs.Prelude.{Some, None}
 use mathlib.Core.Path.{◌≡◌, refl, subst}
 use mathlib.Core.Bool.{true, false}
 use mathlib.Core.Option.{Option, none, some}
@@ -19,7 +20,7 @@ use Rattle.mir.specs.Rvalues.{place_rvalue_row, constant_row, binary_row}
 use Rattle.state.specs.State.{State}
 use Rattle.state.specs.Steps.{next_block, next_local, try_block, try_statement, set_terminator}
 use Rattle.literals.specs.Literals.{lower_const_to_operand, lower_literal_or_const_to_operand}
-use Rattle.lower_spec.specs.declared.merging.OptBlock.{OptBlock}
+use Rattle.lower_spec.specs.Results.{OptBlock}
 use Rattle.lower_spec.specs.Temps.{temp, discr_temp_place}
 use Rattle.pattern_matching.specs.declared.MatchingMode.{MatchingMode}
 use Rattle.pattern_matching.specs.Walking.{Ctx, Out, Walk, step, out, with_state, local_place, else_state, else_block}
@@ -41,15 +42,15 @@ built_as {st = st} {st' = st'} {s = s} {b' = b'} e f g = subst (λ (n : ℕ). Bu
 
 -- the else of a test
 else_tested : (els : OptBlock) (st : State) (from to : ℕ) → from ≤ length st.blocks → length st.blocks + else_made true els ≤ to →
-    ElseIs true els (OptBlock.Some (else_block st els)) from to
+    ElseIs true els (Some (else_block st els)) from to
 unfolding else_block
-else_tested (OptBlock.Some e) st from to h k = refl
-else_tested OptBlock.None st from to h k = (h, omega arith)
+else_tested (Some e) st from to h k = refl
+else_tested None st from to h k = (h, omega arith)
 
 -- a test that makes so many blocks and statements, where st is the state in which an else is numbered
 test_made : {c c' : Ctx} {t s : ℕ} (then : BasicBlockId) (els : OptBlock) (st : State) → Built c.state c'.state (t + else_made true els) s →
     c'.visits ≡ c.visits → length c.state.blocks ≤ length st.blocks → length st.blocks + else_made true els ≤ length c'.state.blocks →
-    Steps c els (record { ctx = c'; then = then; else = OptBlock.Some (else_block st els) }) true nothing (made t s)
+    Steps c els (record { ctx = c'; then = then; else = Some (else_block st els) }) true nothing (made t s)
 test_made {c = c} {t = t} {s = s} then els st g v h k =
     record { went = went_as same (went_built g v); else = else_tested els st _ _ h k }
   where
@@ -61,12 +62,12 @@ test_made {c = c} {t = t} {s = s} then els st g v h k =
 -- its blocks and statements counted otherwise
 pub plain_test : {c : Ctx} {t s b n : ℕ} (st' : State) (then : BasicBlockId) (els : OptBlock) (st : State) → Built c.state st' b n → b ≡ t + else_made true els → n ≡ s →
     length c.state.blocks ≤ length st.blocks → length st.blocks + else_made true els ≤ length st'.blocks →
-    Steps c els (record { ctx = with_state c st'; then = then; else = OptBlock.Some (else_block st els) }) true nothing (made t s)
+    Steps c els (record { ctx = with_state c st'; then = then; else = Some (else_block st els) }) true nothing (made t s)
 plain_test st' then els st g e f h k = test_made then els st (built_as e f g) refl h k
 
 -- a comparison: a temporary, a statement, and the block's end
 holds_compare : {Q : Out → Type 0} (image : List ℕ) (p : ℕ) (op : BinOp) (left : Left) (place : Place) (c : Ctx) (st : State) (current then else : BasicBlockId) →
-    ((st' : State) → Built st st' 0 2 → Q (record { ctx = with_state c st'; then = then; else = OptBlock.Some else })) → Holds Q (compare image p op left place c st current then else)
+    ((st' : State) → Built st st' 0 2 → Q (record { ctx = with_state c st'; then = then; else = Some else })) → Holds Q (compare image p op left place c st current then else)
 unfolding compare
 holds_compare {Q = Q} image p op left place c st current then else q =
     holds_step p (temp image st bool_word current) k₁ (gives_temp image st bool_word current) (λ st₁ g₁.
@@ -77,7 +78,7 @@ holds_compare {Q = Q} image p op left place c st current then else q =
     row = binary_row current (next_local st) op left place
 
     k₂ : State → Walk Out
-    k₂ st₂ = out (with_state c (if_true st₂ current (next_local st) then else)) then (OptBlock.Some else)
+    k₂ st₂ = out (with_state c (if_true st₂ current (next_local st) then else)) then (Some else)
 
     k₁ : State → Walk Out
     k₁ st₁ = step p (try_statement st₁ row) k₂
@@ -122,7 +123,7 @@ holds_constant_path image p ty operand c current els place =
     compared st₂ = binary_row current (next_local st₂) BinOp.Eq (Left.Local (next_local c.state)) place
 
     k₆ : State → State → State → State → Walk Out
-    k₆ st₂ st₄ st₅ st₆ = out (with_state c (if_true st₆ current (next_local st₂) (next_block st₄) (else_block st₅ els))) (next_block st₄) (OptBlock.Some (else_block st₅ els))
+    k₆ st₂ st₄ st₅ st₆ = out (with_state c (if_true st₆ current (next_local st₂) (next_block st₄) (else_block st₅ els))) (next_block st₄) (Some (else_block st₅ els))
 
     k₅ : State → State → State → Walk Out
     k₅ st₂ st₄ st₅ = step p (else_state st₅ els) (k₆ st₂ st₄ st₅)
@@ -194,7 +195,7 @@ holds_discriminant image p v c current els place =
     k₄ : State → State → State → Walk Out
     k₄ st₂ st₃ st₄ =
         out (record { state = set_terminator st₄ current (ending st₂ st₃); visits = c.visits })
-        (next_block st₂) (OptBlock.Some (else_block st₃ els))
+        (next_block st₂) (Some (else_block st₃ els))
 
     k₃ : State → State → Walk Out
     k₃ st₂ st₃ = step p (else_state st₃ els) (k₄ st₂ st₃)

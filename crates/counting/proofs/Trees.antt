@@ -11,7 +11,7 @@ use Rattle.refusals.specs.declared.MirLowerError.{MirLowerError}
 use Rattle.place.specs.declared.Place.{Place}
 use Rattle.place.specs.declared.place_ty.PlaceTy.{PlaceTy}
 use Rattle.mir.specs.declared.BasicBlockId.{BasicBlockId}
-use Rattle.lower_spec.specs.declared.merging.OptBlock.{OptBlock}
+use Rattle.lower_spec.specs.Results.{OptBlock}
 use Rattle.pattern_matching.specs.Walking.{Ctx, Lowering, visited}
 use Rattle.pattern_matching.specs.Slices.{slice_on}
 use Rattle.pattern_matching.specs.Patterns.{bind_pattern, or_pattern, rest_of, pattern_match_inner, lowerings, lowering?}

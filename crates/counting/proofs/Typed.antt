@@ -18,7 +18,7 @@ use Rattle.place.specs.PlaceTypes.{projection_ty, multi_projection_ty}
 use Rattle.place.proofs.Projecting.{longer}
 use Rattle.mir.specs.declared.BasicBlockId.{BasicBlockId}
 use Rattle.mir.specs.Locals.{local_ty}
-use Rattle.lower_spec.specs.declared.merging.OptBlock.{OptBlock}
+use Rattle.lower_spec.specs.Results.{OptBlock}
 use Rattle.pattern_matching.specs.declared.MatchingMode.{MatchingMode}
 use Rattle.pattern_matching.specs.Walking.{Ctx, Out, Walk, Lowering, visited, project, derefed, entered}
 use Rattle.pattern_matching.specs.Variants.{place_ty}

@@ -10,7 +10,7 @@ use Rattle.image.specs.Valid.{valid}
 use Rattle.image.specs.Tree.{Pat, tree}
 use Rattle.place.specs.declared.Place.{Place}
 use Rattle.mir.specs.declared.BasicBlockId.{BasicBlockId}
-use Rattle.lower_spec.specs.declared.merging.OptBlock.{OptBlock}
+use Rattle.lower_spec.specs.Results.{OptBlock}
 use Rattle.pattern_matching.specs.Walking.{Ctx, Out, ok}
 use Rattle.pattern_matching.specs.Variants.{place_ty}
 use Rattle.pattern_matching.specs.Patterns.{pattern_match}

@@ -1,9 +1,10 @@
 -- Document 01's counts of visits, blocks and statements, for a pattern that `pattern_match` lowers. Assumes nothing: these are definitions.
+use Rattle.std.specs.Prelude.{Some, None}
 use Rattle.std.specs.Prelude.{ℕ, ◌+◌, ◌*◌, max, ◌≡◌, Bool, false, cond, List, [], ◌∷◌, ◌⊎◌, eqb}
 use Rattle.std.proofs.Math.Option.{Option, none, some}
 use Rattle.image.specs.Tree.{Pat}
 use Rattle.place.specs.declared.place_ty.PlaceTy.{PlaceTy}
-use Rattle.lower_spec.specs.declared.merging.OptBlock.{OptBlock}
+use Rattle.lower_spec.specs.Results.{OptBlock}
 use Rattle.counting.specs.Reaching.{Reached, can_fail, reached}
 
 -- one where it holds
@@ -38,8 +39,8 @@ blocks_of r = check_visits r * (r.tests + one r.failing_alternative) + one r.is_
 
 -- "1 more comes if the root can fail and no else was supplied"
 abbrev pub else_made : Bool → OptBlock → ℕ
-else_made fails OptBlock.None = one fails
-else_made fails (OptBlock.Some b) = 0
+else_made fails None = one fails
+else_made fails (Some b) = 0
 
 unfoldable pub new_blocks : List ℕ → Pat → PlaceTy → OptBlock → ℕ
 new_blocks image root ty else = total blocks_of (reached_from image root ty) + else_made (can_fail image root ty) else

@@ -1,9 +1,10 @@
 -- Demand 3 on counts, as it is proved: of every call of `pattern_match` that is accepted, whether its pattern fits or not. Assumes nothing: these are
 -- definitions.
+use Rattle.std.specs.Prelude.{Some, None}
 use Rattle.std.specs.Prelude.{ℕ, ◌+◌, ◌*◌, ◌≤◌, ◌<◌, ◌≡◌, Bool, true, false, List, length, get_or}
 use Rattle.image.specs.Tree.{Pat}
 use Rattle.place.specs.declared.Place.{Place}
-use Rattle.lower_spec.specs.declared.merging.OptBlock.{OptBlock}
+use Rattle.lower_spec.specs.Results.{OptBlock}
 use Rattle.pattern_matching.specs.Walking.{Ctx, Out}
 use Rattle.pattern_matching.specs.Variants.{place_ty}
 use Rattle.counting.specs.Reaching.{can_fail}
@@ -11,10 +12,10 @@ use Rattle.counting.specs.Counting.{reached_from, visits_of, new_blocks, new_sta
 
 -- "the one supplied or, with none supplied, a new block if the pattern can fail and none if not"; a new block has a number from `from` on, and below `to`
 abbrev pub ElseIs : Bool → OptBlock → OptBlock → ℕ → ℕ → Type 0
-ElseIs fails (OptBlock.Some e) r from to = r ≡ OptBlock.Some e
-ElseIs true OptBlock.None OptBlock.None from to = ⊥
-ElseIs true OptBlock.None (OptBlock.Some b) from to = (from ≤ b.0) × (b.0 < to)
-ElseIs false OptBlock.None r from to = r ≡ OptBlock.None
+ElseIs fails (Some e) r from to = r ≡ Some e
+ElseIs true None None from to = ⊥
+ElseIs true None (Some b) from to = (from ≤ b.0) × (b.0 < to)
+ElseIs false None r from to = r ≡ None
 
 -- what is counted of the lowering of a root from ctx on, with the else els or none, which gave r
 pub record Counted (image : List ℕ) (root : Pat) (ctx : Ctx) (els : OptBlock) (place : Place) (r : Out) : Type 0 where

@@ -1,4 +1,5 @@
 -- One digit further, and values in halves. Assumes nothing.
+use Rattle.std.specs.Prelude.{Some, None}
 use Prim.Native.Nat.{ℕ, suc, ◌+◌, ◌-◌, ◌*◌, ◌^◌, ◌/◌, ◌<◌, ◌≤◌}
 use mathlib.Core.Path.{◌≡◌}
 use mathlib.Core.Bool.{Bool, true, false, cond}
@@ -11,7 +12,6 @@ use lib.Seq.{take-nil}
 use lib.Pow as pow
 use Rattle.text_chars.proofs.Loops.{on, over}
 use Rattle.pattern_words.specs.Words.{is_digit}
-use Rattle.decimal_values.specs.declared.Value.{Value}
 use Rattle.decimal_values.specs.Values.{decimal_from, in_halves}
 
 module _ (text : List ℕ) (at to v : ℕ) where
@@ -46,12 +46,12 @@ decimal_grows v (b ∷ bytes) =
     longer false = omega arith
 
 -- a value below the bound, by its halves
-pub halves : (low high : ℕ) → low < 2 ^ 64 → high < 2 ^ 64 → in_halves (high * 2 ^ 64 + low) ≡ Value.Halves low high
+pub halves : (low high : ℕ) → low < 2 ^ 64 → high < 2 ^ 64 → in_halves (high * 2 ^ 64 + low) ≡ Some (low, high)
 unfolding in_halves
 halves low high l h = rw (pow.high high 64 l, pow.low high 64 l, lt-ltb high (2 ^ 64) h)
 
 -- a value that has reached the bound, whatever follows
-pub too_long : (upper low : ℕ) (bytes : List ℕ) → low < 2 ^ 64 → 2 ^ 64 ≤ upper → in_halves (decimal_from (upper * 2 ^ 64 + low) bytes) ≡ Value.Over
+pub too_long : (upper low : ℕ) (bytes : List ℕ) → low < 2 ^ 64 → 2 ^ 64 ≤ upper → in_halves (decimal_from (upper * 2 ^ 64 + low) bytes) ≡ None
 unfolding in_halves
 too_long upper low bytes l h =
     let more = pow.shr_mono 64 (decimal_grows (upper * 2 ^ 64 + low) bytes) in

@@ -6,13 +6,6 @@ ghost use Rattle.decimal_values.specs.Values.{integer_value};
 
 use pattern_words::words::is_digit;
 
-// A value in two halves of eight bytes, the low one first.
-#[derive(Clone, Copy)]
-pub enum Value {
-    Halves(u64, u64),
-    Over,
-}
-
 // Eight bytes and what is carried over.
 #[derive(Clone, Copy)]
 struct Carried {
@@ -34,28 +27,26 @@ fn times_ten(half: u64, plus: u64) -> Carried
 }
 
 // The value of the integer whose digits stand between two positions of a text.
-pub fn integer_value(text: &[u8], from: usize, to: usize) -> Value
+pub fn integer_value(text: &[u8], from: usize, to: usize) -> Option<(u64, u64)>
     ensures { result ≡ integer_value text.now from to }
 {
     let mut low: u64 = 0;
     let mut high: u64 = 0;
-    let mut at = from;
-    while at < to {
+    for at in from..to {
         if text.len() <= at {
-            return Value::Halves(low, high);
+            return Some((low, high));
         }
         let b = text[at];
-        at += 1;
         if !is_digit(b) {
             continue;
         }
         let lower = times_ten(low, (b - b'0') as u64);
         let upper = times_ten(high, lower.carry);
         if upper.carry != 0 {
-            return Value::Over;
+            return None;
         }
         low = lower.half;
         high = upper.half;
     }
-    Value::Halves(low, high)
+    Some((low, high))
 }

@@ -14,7 +14,7 @@ use Rattle.pattern_images.specs.Imaging.{derefs_within, within_image_limits}
 use Rattle.draft_stack.specs.Stack.{Stacked, words_each, stacked_on, emit_one}
 use Rattle.draft_stack.proofs.Growing.{grows_pattern, past_grows}
 use Rattle.draft_tables.specs.declared.DraftCounts.{DraftCounts}
-use Rattle.draft_tables.specs.declared.DraftStep.{DraftStep}
+use Rattle.draft_tables.specs.Results.{DraftStep}
 use Rattle.draft_tables.specs.Layout.{draft_in, stacked_in, height_is, drafted}
 use Rattle.draft_tables.specs.Room.{DraftRoom}
 use Rattle.draft_tables.specs.Steps.{DraftStepped}

@@ -1,4 +1,5 @@
 -- The ways through the code that makes a binding. Assumes nothing.
+use Rattle.std.specs.Prelude.{Some, None}
 use Prim.Native.Nat.{ℕ, ◌+◌, ◌≤◌, ◌<◌}
 use mathlib.Core.Path.{◌≡◌, refl, sym, ap, ap₂, subst, ◌∙◌}
 use mathlib.Core.Bool.{Bool, true, false, cond}
@@ -23,8 +24,7 @@ use Rattle.draft_tables.specs.Layout.{draft_in, stacked_in, WithinDraft, binding
 use Rattle.draft_tables.specs.Room.{DraftRoom}
 use Rattle.draft_tables.specs.Steps.{DraftHeld}
 use Rattle.draft_tables.proofs.Counted.{room_within, binding_length}
-use Rattle.draft_types.specs.declared.TypeStep.{TypeStep}
-use Rattle.draft_types.specs.declared.TypeStep.TheVariants.{Number, PastTypes}
+use Rattle.draft_types.specs.Results.{TypeStep}
 use Rattle.draft_types.specs.Types.{TypeStepped}
 use Rattle.draft_bindings.specs.declared.BoundWords.{BoundWords}
 use Rattle.draft_bindings.specs.Bindings.{bound_at_of, NumberHeld, NumberStepped}
@@ -51,8 +51,8 @@ mode_patterns sheet mode t d = by (eqb mode 0)
 module _ (sheet : List ℕ) (tables : Tables) (table : List ℕ) (c : DraftCounts) where
   -- a type that is looked for, as a step to its number
   type_number_lem : (row : TypeRow) (r : TypeStep) (after : List ℕ) → TypeStepped sheet tables table c row r after → NumberStepped sheet tables table c (with_type sheet row) (number_of_type sheet row) r after
-  type_number_lem row (Number t counts) after held = record { room = held.room; height = held.height; holds = held.holds; numbered = held.number }
-  type_number_lem row PastTypes after past = past
+  type_number_lem row (Some (t, counts)) after held = record { room = held.room; height = held.height; holds = held.holds; numbered = held.number }
+  type_number_lem row None after past = past
 
   -- `with_bound`
   pub bound_type_lem : (at : BoundWords) → at.element ≡ 65535 → DraftRoom tables c → NumberHeld tables table c (with_bound_at sheet (bound_at_of at)) (bound_type sheet (bound_at_of at)) at.ty c table

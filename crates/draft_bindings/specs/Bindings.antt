@@ -1,4 +1,5 @@
 -- What the steps of a binding make: the types that it lacks, and the binding itself. Assumes nothing: these are definitions.
+use Rattle.std.specs.Prelude.{Some, None}
 use Rattle.std.specs.Prelude.{ℕ, ◌<◌, ◌≡◌, cond, List, eqb}
 use Rattle.image.specs.declared.Tables.{Tables}
 use Rattle.pattern_typing.specs.Making.{BoundAt, bound_at_type, bound_at_array}
@@ -6,8 +7,7 @@ use Rattle.pattern_images.specs.Drafts.{Draft, next_type}
 use Rattle.draft_tables.specs.declared.DraftCounts.{DraftCounts}
 use Rattle.draft_tables.specs.Layout.{draft_in, stacked_in, drafted}
 use Rattle.draft_tables.specs.Room.{DraftRoom}
-use Rattle.draft_types.specs.declared.TypeStep.{TypeStep}
-use Rattle.draft_types.specs.declared.TypeStep.TheVariants.{Number, PastTypes}
+use Rattle.draft_types.specs.Results.{TypeStep}
 use Rattle.draft_bindings.specs.declared.BoundWords.{BoundWords}
 
 -- what a name is bound at, by the words of a row
@@ -23,5 +23,5 @@ pub record NumberHeld (tables : Tables) (table : List ℕ) (c : DraftCounts) (be
 
 -- or there would be more than 256 types
 abbrev pub NumberStepped : List ℕ → Tables → List ℕ → DraftCounts → (Draft → Draft) → (Draft → ℕ) → TypeStep → List ℕ → Type 0
-NumberStepped sheet tables table c becomes number (Number t counts) after = NumberHeld tables table c becomes number t counts after
-NumberStepped sheet tables table c becomes number PastTypes after = (names : List ℕ) → 256 < next_type sheet (becomes (draft_in names table c))
+NumberStepped sheet tables table c becomes number (Some (t, counts)) after = NumberHeld tables table c becomes number t counts after
+NumberStepped sheet tables table c becomes number None after = (names : List ℕ) → 256 < next_type sheet (becomes (draft_in names table c))

@@ -10,8 +10,8 @@ ghost use Rattle.draft_tables.specs.Room.{DraftRoom};
 ghost use Rattle.draft_tables.specs.Steps.{DraftStepped};
 ghost use Rattle.draft_bindings.specs.Bindings.{bound_at_of, NumberStepped};
 
-use draft_tables::{DraftCounts, DraftStep, push_binding};
-use draft_types::{TypeStep, with_type};
+use draft_tables::{DraftCounts, push_binding};
+use draft_types::with_type;
 use image::Tables;
 use image::rows::TypeRow;
 
@@ -31,12 +31,12 @@ fn with_bound(
     draft: &mut [u16],
     c: DraftCounts,
     at: BoundWords,
-) -> TypeStep
+) -> Option<(u16, DraftCounts)>
     requires { Whole sheet.now tables × ((length draft.old ≡ 40704) × DraftRoom tables c) }
     ensures { NumberStepped sheet.now tables draft.old c (with_bound_at sheet.now (bound_at_of at)) (bound_type sheet.now (bound_at_of at)) result draft.new }
 {
     if at.element == 65535 {
-        return TypeStep::Number(at.ty, c);
+        return Some((at.ty, c));
     }
     let row = TypeRow {
         kind: 8,
@@ -66,12 +66,12 @@ fn with_mode(
     c: DraftCounts,
     mode: u16,
     t: u16,
-) -> TypeStep
+) -> Option<(u16, DraftCounts)>
     requires { Whole sheet.now tables × ((length draft.old ≡ 40704) × DraftRoom tables c) }
     ensures { NumberStepped sheet.now tables draft.old c (with_mode sheet.now mode t) (mode_type sheet.now mode t) result draft.new }
 {
     if mode == 0 {
-        return TypeStep::Number(t, c);
+        return Some((t, c));
     }
     let row = TypeRow {
         kind: 7,
@@ -93,18 +93,14 @@ pub fn new_binding(
     at: BoundWords,
     from: u16,
     to: u16,
-) -> DraftStep
+) -> Option<DraftCounts>
     requires { Whole sheet.now tables × ((length draft.old ≡ 40704) × DraftRoom tables c) }
     ensures { DraftStepped sheet.now tables draft.old c (λ names s. drafted (new_binding sheet.now mode (bytes_from names from to) (bound_at_of at)) s) result draft.new }
 {
-    let TypeStep::Number(bound, first) = with_bound(sheet, tables, draft, c, at) else {
-        return DraftStep::PastALimit;
-    };
-    let TypeStep::Number(held, second) = with_mode(sheet, tables, draft, first, mode, bound) else {
-        return DraftStep::PastALimit;
-    };
+    let (bound, first) = with_bound(sheet, tables, draft, c, at)?;
+    let (held, second) = with_mode(sheet, tables, draft, first, mode, bound)?;
     if 256 <= tables.bindings.count + second.bindings {
-        return DraftStep::PastALimit;
+        return None;
     }
-    DraftStep::On(push_binding(draft, second, held, from, to))
+    Some(push_binding(draft, second, held, from, to))
 }

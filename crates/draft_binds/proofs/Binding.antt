@@ -1,4 +1,5 @@
 -- The ways through `with_binding`. Assumes nothing.
+use Rattle.std.specs.Prelude.{Some, None}
 use Prim.Native.Nat.{ℕ, ◌+◌, ◌<◌}
 use mathlib.Core.Path.{◌≡◌, refl, sym, ap, ◌∙◌}
 use mathlib.Core.Bool.{false}
@@ -19,8 +20,7 @@ use Rattle.draft_tables.specs.declared.DraftCounts.{DraftCounts}
 use Rattle.draft_tables.specs.Layout.{name_of_words, draft_in, stacked_in, drafted}
 use Rattle.draft_tables.specs.Room.{DraftRoom}
 use Rattle.draft_tables.proofs.Counted.{binding_length, called_length, called_at_row}
-use Rattle.draft_names.specs.declared.FoundBinding.{FoundBinding}
-use Rattle.draft_names.specs.declared.FoundBinding.TheVariants.{At, NotYet}
+use Rattle.draft_names.specs.Results.{FoundBinding}
 use Rattle.draft_names.specs.Names.{found_binding}
 use Rattle.draft_types.proofs.Firsts.{first_same, first_below}
 use Rattle.draft_binds.specs.Named.{HeldFor}
@@ -40,11 +40,11 @@ module _ (names table : List ℕ) (c : DraftCounts) (name : List ℕ) where
       (λ b low high. ap (λ (n : List ℕ). same_word n name) (called_at_row names table c b [] (omega arith)))
 
   -- what the code found is what it finds
-  pub found_at : (r : FoundBinding) (b : ℕ) → r ≡ At b → found_binding r ≡ looked → some b ≡ looked
+  pub found_at : (r : FoundBinding) (b : ℕ) → r ≡ Some b → found_binding r ≡ looked → some b ≡ looked
   unfolding found_binding
   found_at r b e f = sym (ap found_binding e) ∙ f
 
-  pub found_none : (r : FoundBinding) → r ≡ NotYet → found_binding r ≡ looked → none ≡ looked
+  pub found_none : (r : FoundBinding) → r ≡ None → found_binding r ≡ looked → none ≡ looked
   unfolding found_binding
   found_none r e f = sym (ap found_binding e) ∙ f
 

@@ -1,4 +1,5 @@
 -- What the steps of a Bind make: the binding of its name, and its row. Assumes nothing: these are definitions.
+use Rattle.std.specs.Prelude.{Some, None}
 use Rattle.std.specs.Prelude.{ℕ, ◌≡◌, false, List}
 use Rattle.image.specs.declared.Tables.{Tables}
 use Rattle.pattern_syntax.specs.Reduced.{bytes_from}
@@ -10,8 +11,7 @@ use Rattle.pattern_images.specs.Emitting.{with_binding, binding_number}
 use Rattle.pattern_images.specs.Imaging.{within_image_limits}
 use Rattle.draft_tables.specs.declared.DraftCounts.{DraftCounts}
 use Rattle.draft_tables.specs.Layout.{draft_in, drafted}
-use Rattle.draft_binds.specs.declared.BindingStep.{BindingStep}
-use Rattle.draft_binds.specs.declared.BindingStep.TheVariants.{Number, PastBindings}
+use Rattle.draft_binds.specs.Results.{BindingStep}
 use Rattle.draft_binds.specs.Named.{HeldFor}
 
 -- what is made of a row of a Bind
@@ -33,5 +33,5 @@ pub record BindingHeld (names sheet : List ℕ) (tables : Tables) (table : List 
 
 -- or a limit is passed
 abbrev pub BindingStepped : List ℕ → List ℕ → Tables → List ℕ → DraftCounts → ℕ → List ℕ → BoundAt → BindingStep → List ℕ → Type 0
-BindingStepped names sheet tables table c mode name at (Number number counts) after = BindingHeld names sheet tables table c mode name at number counts after
-BindingStepped names sheet tables table c mode name at PastBindings after = within_image_limits sheet (bound_draft sheet mode name at (draft_in names table c)) ≡ false
+BindingStepped names sheet tables table c mode name at (Some (number, counts)) after = BindingHeld names sheet tables table c mode name at number counts after
+BindingStepped names sheet tables table c mode name at None after = within_image_limits sheet (bound_draft sheet mode name at (draft_in names table c)) ≡ false

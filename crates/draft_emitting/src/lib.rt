@@ -10,7 +10,7 @@ use draft_bind_rows::put_bind;
 use draft_joins::put_joined;
 use draft_leaves::put_leaf;
 use draft_nodes::{put_range, put_reference};
-use draft_tables::{DraftCounts, DraftStep};
+use draft_tables::DraftCounts;
 use image::Tables;
 use node_rows::MakingRow;
 
@@ -44,7 +44,7 @@ fn put_node(
     draft: &mut [u16],
     c: DraftCounts,
     row: MakingRow,
-) -> DraftStep
+) -> Option<DraftCounts>
     requires { (Whole sheet.now tables × ((length draft.old ≡ 40704) × ((5 ≤ row.kind) × (row.kind < 8)))) × MakingReady tables c (closed_making_of [] names.now row) }
     ensures { NodeStepped sheet.now names.now tables draft.old c row result draft.new }
 {
@@ -69,7 +69,7 @@ pub fn emit_one(
     i: usize,
     draft: &mut [u16],
     c: DraftCounts,
-) -> DraftStep
+) -> Option<DraftCounts>
     requires { (Whole sheet.now tables × ((length makings.now ≡ 196608) × ((i < 16384) × (length draft.old ≡ 40704)))) × MakingReady tables c (closed_making_of text.now names.now (making_row_at makings.now i)) }
     ensures { MakingStepped sheet.now text.now names.now tables draft.old c (making_row_at makings.now i) result draft.new }
 {

@@ -8,7 +8,7 @@ ghost use Rattle.draft_makings.specs.Makings.{MakingReady, JoinedStepped};
 use draft_lists::put_list;
 use draft_nodes::put_field;
 use draft_slices::put_slice;
-use draft_tables::{DraftCounts, DraftStep};
+use draft_tables::DraftCounts;
 use image::Tables;
 use image::rows::PatRow;
 use node_rows::MakingRow;
@@ -25,7 +25,12 @@ fn list_words(kind: u16, parts: u16) -> u16
 }
 
 // Kinds 8 and up: a row with a list, a Slice, and a field.
-pub fn put_joined(tables: Tables, draft: &mut [u16], c: DraftCounts, row: MakingRow) -> DraftStep
+pub fn put_joined(
+    tables: Tables,
+    draft: &mut [u16],
+    c: DraftCounts,
+    row: MakingRow,
+) -> Option<DraftCounts>
     requires { ((length draft.old ≡ 40704) × (8 ≤ row.kind)) × MakingReady tables c (closed_making_of [] [] row) }
     ensures { JoinedStepped tables draft.old c row result draft.new }
 {

@@ -1,4 +1,5 @@
 -- Nodes that take their parts' words and put none, or put a row's number. Assumes nothing.
+use Rattle.std.specs.Prelude.{Some}
 use Prim.Native.Nat.{ℕ, ◌-◌, ◌≤◌}
 use mathlib.Core.Path.{◌≡◌, refl, sym, ap, ◌∙◌}
 use mathlib.Core.List.{List, append-nil}
@@ -10,8 +11,7 @@ use Rattle.pattern_typing.specs.Closed.{closed_making}
 use Rattle.pattern_images.specs.Emitting.{with_pattern, emit_node}
 use Rattle.draft_stack.specs.Stack.{words_each, words_taken, stacked_on, emit_one}
 use Rattle.draft_tables.specs.declared.DraftCounts.{DraftCounts}
-use Rattle.draft_tables.specs.declared.DraftStep.{DraftStep}
-use Rattle.draft_tables.specs.declared.DraftStep.TheVariants.{On}
+use Rattle.draft_tables.specs.Results.{DraftStep}
 use Rattle.draft_tables.specs.Layout.{stacked_in, height_is}
 use Rattle.draft_tables.specs.Room.{DraftRoom}
 use Rattle.draft_tables.specs.Steps.{DraftStepped}
@@ -33,9 +33,9 @@ module _ (tables : Tables) (table : List ℕ) (size : length table ≡ 40704) (c
       let left = ap (λ (k : ℕ). take k s.stack) cuts ∙ sym (append-nil (take (length s.stack - words_taken (closed_making not_made parts)) s.stack)) in
       λ i. record { stack = left i; draft = s.draft }
 
-  pub none_stepped : DraftStepped sheet tables table c (node_step not_made parts sheet) (On low) table
+  pub none_stepped : DraftStepped sheet tables table c (node_step not_made parts sheet) (Some low) table
   none_stepped =
-      step_same sheet tables table c (λ names s. cut_to base s) (node_step not_made parts sheet) (On low) table none_same
+      step_same sheet tables table c (λ names s. cut_to base s) (node_step not_made parts sheet) (Some low) table none_same
       (cut_only tables table size c room parts enough low e)
 
   -- `put_row`

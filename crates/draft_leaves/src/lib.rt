@@ -14,13 +14,13 @@ use draft_literals::{put_literal, put_operand};
 use draft_nodes::put_constant;
 use draft_operands::literal_bytes;
 use draft_rows::put_pattern;
-use draft_tables::{DraftCounts, DraftStep};
+use draft_tables::DraftCounts;
 use image::Tables;
 use image::rows::PatRow;
 use node_rows::MakingRow;
 
 // A row without a list: its pattern kind in `a`, its words in `b` and `c`.
-fn put_row(tables: Tables, draft: &mut [u16], c: DraftCounts, row: MakingRow) -> DraftStep
+fn put_row(tables: Tables, draft: &mut [u16], c: DraftCounts, row: MakingRow) -> Option<DraftCounts>
     requires { (length draft.old ≡ 40704) × (DraftRoom tables c × ((c.height < 16384) × (row.parts ≤ c.height))) }
     ensures { SheetsStepped tables draft.old c (node_step (row_made (pattern_row row.a row.ty row.derefs row.b row.c 0 0)) row.parts) result draft.new }
 {
@@ -44,12 +44,12 @@ pub fn put_leaf(
     draft: &mut [u16],
     c: DraftCounts,
     row: MakingRow,
-) -> DraftStep
+) -> Option<DraftCounts>
     requires { ((length draft.old ≡ 40704) × (row.kind < 5)) × MakingReady tables c (closed_making_of text.now [] row) }
     ensures { LeafStepped text.now tables draft.old c row result draft.new }
 {
     if row.kind == 0 {
-        return DraftStep::On(at_height(c, c.height - row.parts));
+        return Some(at_height(c, c.height - row.parts));
     }
     if row.kind == 1 {
         return put_row(tables, draft, c, row);

@@ -19,7 +19,7 @@ use Rattle.pattern_images.specs.Imaging.{derefs_within, within_image_limits}
 use Rattle.draft_stack.specs.Stack.{Stacked, words_taken, stacked_on, emit_one}
 use Rattle.draft_stack.proofs.Growing.{past_limit}
 use Rattle.draft_tables.specs.declared.DraftCounts.{DraftCounts}
-use Rattle.draft_tables.specs.declared.DraftStep.{DraftStep}
+use Rattle.draft_tables.specs.Results.{DraftStep}
 use Rattle.draft_tables.specs.Layout.{stacked_in, draft_in, WithinDraft, words_more, height_is, drafted, HoldsWords}
 use Rattle.draft_tables.specs.Room.{DraftRoom}
 use Rattle.draft_tables.specs.Steps.{DraftHeld, DraftStepped}

@@ -6,7 +6,7 @@ use Rattle.pattern_typing.specs.Making.{list_made}
 use Rattle.pattern_typing.specs.Closed.{closed_making}
 use Rattle.draft_stack.specs.Stack.{words_taken}
 use Rattle.draft_tables.specs.declared.DraftCounts.{DraftCounts}
-use Rattle.draft_tables.specs.declared.DraftStep.{DraftStep}
+use Rattle.draft_tables.specs.Results.{DraftStep}
 use Rattle.draft_tables.specs.Steps.{SheetsStepped}
 use Rattle.draft_rows.specs.Nodes.{node_step}
 

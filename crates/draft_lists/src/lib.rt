@@ -9,7 +9,7 @@ ghost use Rattle.draft_lists.specs.Lists.{ListStepped};
 
 use draft_list_starts::list_start;
 use draft_rows::put_pattern;
-use draft_tables::{DraftCounts, DraftStep, push_list};
+use draft_tables::{DraftCounts, push_list};
 use image::Tables;
 use image::rows::PatRow;
 
@@ -18,12 +18,8 @@ pub fn at_height(c: DraftCounts, height: u16) -> DraftCounts
     ensures { result ≡ height_is height c }
 {
     DraftCounts {
-        types: c.types,
-        patterns: c.patterns,
-        bindings: c.bindings,
-        words: c.words,
-        bytes: c.bytes,
         height: height,
+        ..c
     }
 }
 
@@ -31,13 +27,9 @@ fn with_list(row: PatRow, from: u16, parts: u16) -> PatRow
     ensures { result ≡ with_list row from parts }
 {
     PatRow {
-        kind: row.kind,
-        ty: row.ty,
-        derefs: row.derefs,
         a: from,
         b: parts,
-        c: row.c,
-        d: row.d,
+        ..row
     }
 }
 
@@ -49,13 +41,13 @@ pub fn put_list(
     row: PatRow,
     parts: u16,
     many: u16,
-) -> DraftStep
+) -> Option<DraftCounts>
     requires { (length draft.old ≡ 40704) × (DraftRoom tables c × ((c.height < 16384) × (many ≤ c.height))) }
     ensures { ListStepped tables draft.old c row parts many result draft.new }
 {
     let next = tables.list.count + c.words;
     if 2048 < next + many {
-        return DraftStep::PastALimit;
+        return None;
     }
     let base = c.height - many;
     let listed = push_list(draft, c, base, many);

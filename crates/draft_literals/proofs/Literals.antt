@@ -17,7 +17,7 @@ use Rattle.pattern_images.specs.Imaging.{derefs_within, within_image_limits}
 use Rattle.draft_stack.specs.Stack.{Stacked, words_each, words_taken, stacked_on, emit_one}
 use Rattle.draft_stack.proofs.Growing.{grows_pattern}
 use Rattle.draft_tables.specs.declared.DraftCounts.{DraftCounts}
-use Rattle.draft_tables.specs.declared.DraftStep.{DraftStep}
+use Rattle.draft_tables.specs.Results.{DraftStep}
 use Rattle.draft_tables.specs.Layout.{stacked_in, WithinDraft, height_is, drafted, raised, HoldsStack}
 use Rattle.draft_tables.specs.Room.{DraftRoom}
 use Rattle.draft_tables.specs.Steps.{DraftHeld, DraftStepped}

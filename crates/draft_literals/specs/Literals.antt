@@ -4,7 +4,7 @@ use Rattle.image.specs.declared.Tables.{Tables}
 use Rattle.pattern_syntax.specs.Written.{LiteralValue}
 use Rattle.pattern_typing.specs.Making.{Making}
 use Rattle.draft_tables.specs.declared.DraftCounts.{DraftCounts}
-use Rattle.draft_tables.specs.declared.DraftStep.{DraftStep}
+use Rattle.draft_tables.specs.Results.{DraftStep}
 use Rattle.draft_tables.specs.Steps.{SheetsStepped}
 use Rattle.draft_rows.specs.Nodes.{node_step}
 use Rattle.draft_operands.specs.declared.LiteralBytes.{LiteralBytes}

@@ -9,7 +9,7 @@ ghost use Rattle.draft_literals.specs.Literals.{LiteralStepped};
 use draft_lists::at_height;
 use draft_operands::{LiteralBytes, add_operand};
 use draft_rows::put_pattern;
-use draft_tables::{DraftCounts, DraftStep, push_stack};
+use draft_tables::{DraftCounts, push_stack};
 use image::Tables;
 use image::rows::PatRow;
 
@@ -22,7 +22,7 @@ pub fn put_literal(
     derefs: u16,
     operand: LiteralBytes,
     parts: u16,
-) -> DraftStep
+) -> Option<DraftCounts>
     requires { (length draft.old ≡ 40704) × (DraftRoom tables c × ((c.height < 16384) × ((parts ≤ c.height) × ((operand.count ≤ 16) × (length operand.bytes ≡ 16))))) }
     ensures { LiteralStepped tables draft.old c operand (literal_made ty derefs) parts result draft.new }
 {
@@ -36,9 +36,7 @@ pub fn put_literal(
         d: 0,
     };
     let base = c.height - parts;
-    let DraftStep::On(added) = add_operand(tables, draft, c, operand) else {
-        return DraftStep::PastALimit;
-    };
+    let added = add_operand(tables, draft, c, operand)?;
     put_pattern(tables, draft, at_height(added, base), row)
 }
 
@@ -49,15 +47,13 @@ pub fn put_operand(
     c: DraftCounts,
     operand: LiteralBytes,
     parts: u16,
-) -> DraftStep
+) -> Option<DraftCounts>
     requires { (length draft.old ≡ 40704) × (DraftRoom tables c × ((c.height < 16384) × ((parts ≤ c.height) × ((operand.count ≤ 16) × (length operand.bytes ≡ 16))))) }
     ensures { LiteralStepped tables draft.old c operand operand_made parts result draft.new }
 {
     let words = [tables.list.count + c.words];
     let base = c.height - parts;
-    let DraftStep::On(added) = add_operand(tables, draft, c, operand) else {
-        return DraftStep::PastALimit;
-    };
+    let added = add_operand(tables, draft, c, operand)?;
     let low = at_height(added, base);
-    DraftStep::On(push_stack(draft, low, &words, 1))
+    Some(push_stack(draft, low, &words, 1))
 }

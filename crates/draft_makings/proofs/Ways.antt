@@ -16,7 +16,7 @@ use Rattle.node_rows.specs.Nodes.{literal_in}
 use Rattle.node_rows.specs.Makings.{making_of, closed_making_of}
 use Rattle.draft_stack.specs.Stack.{words_each, words_taken, emit_one, may_have_parts}
 use Rattle.draft_tables.specs.declared.DraftCounts.{DraftCounts}
-use Rattle.draft_tables.specs.declared.DraftStep.{DraftStep}
+use Rattle.draft_tables.specs.Results.{DraftStep}
 use Rattle.draft_tables.specs.Layout.{stacked_in}
 use Rattle.draft_tables.specs.Steps.{SheetsStepped}
 use Rattle.draft_operands.specs.Literals.{literal_fits}

@@ -8,7 +8,7 @@ use Rattle.node_rows.specs.declared.MakingRow.{MakingRow}
 use Rattle.node_rows.specs.Makings.{closed_making_of}
 use Rattle.draft_stack.specs.Stack.{Stacked, words_taken, emit_one, may_have_parts}
 use Rattle.draft_tables.specs.declared.DraftCounts.{DraftCounts}
-use Rattle.draft_tables.specs.declared.DraftStep.{DraftStep}
+use Rattle.draft_tables.specs.Results.{DraftStep}
 use Rattle.draft_tables.specs.Room.{DraftRoom}
 use Rattle.draft_operands.specs.Literals.{literal_fits}
 use Rattle.draft_binds.specs.Named.{SteppedFor}

@@ -12,13 +12,6 @@ ghost use Rattle.draft_names.specs.Names.{found_binding};
 use draft_tables::added_name;
 use name_equality::is_same_word;
 
-// The binding's place among those that were added, or that there is none yet.
-#[derive(Clone, Copy)]
-pub enum FoundBinding {
-    At(u16),
-    NotYet,
-}
-
 fn lesser(a: usize, b: usize) -> usize
     ensures { result ≡ min a b }
 {
@@ -38,18 +31,16 @@ fn name_bytes(names: &[u8], from: u16, to: u16) -> &[u8]
 }
 
 // The first of so many added bindings whose name is this.
-pub fn binding_of(names: &[u8], draft: &[u16], many: u16, from: u16, to: u16) -> FoundBinding
+pub fn binding_of(names: &[u8], draft: &[u16], many: u16, from: u16, to: u16) -> Option<u16>
     requires { (length draft.now ≡ 40704) × (many ≤ 256) }
     ensures { found_binding result ≡ first_from (λ b. same_word (name_of_words names.now (row_at 2 (drop 5376 draft.now) b)) (bytes_from names.now from to)) 0 many }
 {
     let name = name_bytes(names, from, to);
-    let mut b = 0;
-    while b < many {
+    for b in 0..many {
         let range = added_name(draft, b);
         if is_same_word(name_bytes(names, range.from, range.to), name) {
-            return FoundBinding::At(b);
+            return Some(b);
         }
-        b += 1;
     }
-    FoundBinding::NotYet
+    None
 }

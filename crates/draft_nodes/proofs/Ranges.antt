@@ -14,7 +14,7 @@ use Rattle.pattern_typing.specs.Making.{range_made, pattern_row}
 use Rattle.pattern_images.specs.Emitting.{with_pattern, emit_node}
 use Rattle.draft_stack.specs.Stack.{words_each, stacked_on, emit_one}
 use Rattle.draft_tables.specs.declared.DraftCounts.{DraftCounts}
-use Rattle.draft_tables.specs.declared.DraftStep.{DraftStep}
+use Rattle.draft_tables.specs.Results.{DraftStep}
 use Rattle.draft_tables.specs.Layout.{stacked_in, height_is}
 use Rattle.draft_tables.specs.Room.{DraftRoom}
 use Rattle.draft_tables.specs.Steps.{DraftStepped}

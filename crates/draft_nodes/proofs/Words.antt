@@ -18,7 +18,7 @@ use Rattle.pattern_images.specs.Emitting.{with_pattern, emit_node}
 use Rattle.pattern_images.specs.Imaging.{derefs_within}
 use Rattle.draft_stack.specs.Stack.{Stacked, words_each, words_taken, stacked_on, emit_one}
 use Rattle.draft_tables.specs.declared.DraftCounts.{DraftCounts}
-use Rattle.draft_tables.specs.declared.DraftStep.{DraftStep}
+use Rattle.draft_tables.specs.Results.{DraftStep}
 use Rattle.draft_tables.specs.Layout.{stacked_in, WithinDraft, height_is, raised, HoldsStack}
 use Rattle.draft_tables.specs.Room.{DraftRoom}
 use Rattle.draft_tables.specs.Steps.{DraftHeld, DraftStepped}

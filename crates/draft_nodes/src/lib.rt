@@ -10,7 +10,7 @@ ghost use Rattle.draft_rows.specs.Nodes.{node_step};
 
 use draft_lists::at_height;
 use draft_rows::put_pattern;
-use draft_tables::{DraftCounts, DraftStep, push_stack, stack_word};
+use draft_tables::{DraftCounts, push_stack, stack_word};
 use image::Tables;
 use image::rows::PatRow;
 
@@ -32,7 +32,7 @@ pub fn put_reference(
     c: DraftCounts,
     ty: u16,
     parts: u16,
-) -> DraftStep
+) -> Option<DraftCounts>
     requires { (length draft.old ≡ 40704) × (DraftRoom tables c × ((c.height < 16384) × (parts ≤ c.height))) }
     ensures { SheetsStepped tables draft.old c (node_step (reference_made ty) parts) result draft.new }
 {
@@ -56,24 +56,29 @@ pub fn put_constant(
     c: DraftCounts,
     word: u16,
     parts: u16,
-) -> DraftStep
+) -> Option<DraftCounts>
     requires { (length draft.old ≡ 40704) × (DraftRoom tables c × ((c.height < 16384) × (parts ≤ c.height))) }
     ensures { SheetsStepped tables draft.old c (node_step (operand_named word) parts) result draft.new }
 {
     let words = [word];
     let low = at_height(c, c.height - parts);
-    DraftStep::On(push_stack(draft, low, &words, 1))
+    Some(push_stack(draft, low, &words, 1))
 }
 
 // A field: its number, and its pattern's.
-pub fn put_field(tables: Tables, draft: &mut [u16], c: DraftCounts, number: u16) -> DraftStep
+pub fn put_field(
+    tables: Tables,
+    draft: &mut [u16],
+    c: DraftCounts,
+    number: u16,
+) -> Option<DraftCounts>
     requires { (length draft.old ≡ 40704) × (DraftRoom tables c × ((c.height < 16384) × (1 ≤ c.height))) }
     ensures { SheetsStepped tables draft.old c (node_step (field_made number) 1) result draft.new }
 {
     let base = c.height - 1;
     let words = [number, stack_word(draft, base)];
     let low = at_height(c, base);
-    DraftStep::On(push_stack(draft, low, &words, 2))
+    Some(push_stack(draft, low, &words, 2))
 }
 
 fn flag_word(flag: u16) -> u16
@@ -107,7 +112,7 @@ pub fn put_range(
     upper: u16,
     dots: u16,
     parts: u16,
-) -> DraftStep
+) -> Option<DraftCounts>
     requires { (length draft.old ≡ 40704) × (DraftRoom tables c × ((c.height < 16384) × ((parts ≤ c.height) × (eqb parts (one_if (eqb lower 1) + one_if (eqb upper 1)) ≡ true)))) }
     ensures { SheetsStepped tables draft.old c (node_step (range_made ty derefs (eqb lower 1) (eqb upper 1) (eqb dots 1)) parts) result draft.new }
 {

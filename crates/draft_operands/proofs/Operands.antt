@@ -1,4 +1,6 @@
 -- The ways through the code that makes a literal's bytes: each is the operand that the definitions say. Assumes nothing.
+use Rattle.decimal_values.specs.Results.{Value}
+use Rattle.std.specs.Prelude.{Some, None}
 use Prim.Native.Nat.{ℕ, zero, suc, ◌+◌, ◌*◌, ◌-◌, ◌/◌, ◌%◌, ◌^◌, ◌<◌}
 use mathlib.Core.Path.{◌≡◌, refl, sym, ap, ap₂, subst, ◌∙◌}
 use mathlib.Core.Bool.{true}
@@ -9,7 +11,6 @@ use native.Mathlib.Nat.{mod-lt, eq-or-lt_of_le}
 use borrow.Author.Tests.{ltb-true, lt-ltb, ne_eqb}
 use lib.Dec.{ltb}
 use lib.Pow as pow
-use Rattle.decimal_values.specs.declared.Value.{Value}
 use Rattle.decimal_values.specs.Values.{decimal_from, in_halves, integer_value}
 use Rattle.pattern_syntax.specs.Written.{LiteralValue, whole_value, minus_value}
 use Rattle.pattern_syntax.specs.Reduced.{bytes_from}
@@ -43,21 +44,22 @@ module _ (text : List ℕ) (from to : ℕ) where
       rw (ne_eqb sort 0 (λ (e : sort ≡ 0). omega (arith, h)), ne_eqb sort 1 (λ (e : sort ≡ 1). omega (arith, h)), ne_eqb sort 2 (λ (e : sort ≡ 2). omega (arith, h)), ne_eqb sort 3 (λ (e : sort ≡ 3). omega (arith, h))) refl
 
 -- a value below the bound is its halves
-value_halves : (v low high : ℕ) → ltb v (2 ^ 128) ≡ true → Value.Halves low high ≡ in_halves v → (v ≡ high * 2 ^ 64 + low) × ((low < 2 ^ 64) × (high < 2 ^ 64))
+value_halves : (v low high : ℕ) → ltb v (2 ^ 128) ≡ true → Some (low, high) ≡ in_halves v → (v ≡ high * 2 ^ 64 + low) × ((low < 2 ^ 64) × (high < 2 ^ 64))
 unfolding in_halves
 value_halves v low high fits e =
     let small : v / 2 ^ 64 < 2 ^ 64 = pow.shr_lt 64 64 (ltb-true v (2 ^ 128) fits) in
-    let same : Value.Halves low high ≡ Value.Halves (v % 2 ^ 64) (v / 2 ^ 64) = rw (lt-ltb (v / 2 ^ 64) (2 ^ 64) small) at e in
-    let l : low ≡ v % 2 ^ 64 = cc in
-    let h : high ≡ v / 2 ^ 64 = cc in
+    let same : ◌≡◌ {A = Value} (Some (low, high)) (Some (v % 2 ^ 64, v / 2 ^ 64)) = rw (lt-ltb (v / 2 ^ 64) (2 ^ 64) small) at e in
+    let halves : ◌≡◌ {A = ℕ × ℕ} (low, high) (v % 2 ^ 64, v / 2 ^ 64) = cc in
+    let l : low ≡ v % 2 ^ 64 = ap (λ (pair : ℕ × ℕ). pair.0) halves in
+    let h : high ≡ v / 2 ^ 64 = ap (λ (pair : ℕ × ℕ). pair.1) halves in
     (sym (pow.split v 64) ∙ ap₂ (λ (a b : ℕ). a * 2 ^ 64 + b) (sym h) (sym l), (subst (λ (k : ℕ). k < 2 ^ 64) (sym l) (mod-lt v {m = 2 ^ 64} (omega arith)), subst (λ (k : ℕ). k < 2 ^ 64) (sym h) small))
 
 -- and never over
-value_not_over : (v : ℕ) → ltb v (2 ^ 128) ≡ true → Value.Over ≡ in_halves v → ⊥
+value_not_over : (v : ℕ) → ltb v (2 ^ 128) ≡ true → None ≡ in_halves v → ⊥
 unfolding in_halves
 value_not_over v fits e =
     let small : v / 2 ^ 64 < 2 ^ 64 = pow.shr_lt 64 64 (ltb-true v (2 ^ 128) fits) in
-    let same : Value.Over ≡ Value.Halves (v % 2 ^ 64) (v / 2 ^ 64) = rw (lt-ltb (v / 2 ^ 64) (2 ^ 64) small) at e in
+    let same : ◌≡◌ {A = Value} None (Some (v % 2 ^ 64, v / 2 ^ 64)) = rw (lt-ltb (v / 2 ^ 64) (2 ^ 64) small) at e in
     let z : ◌≡◌ {A = ℕ} 0 1 = cc in
     omega arith
 
@@ -66,7 +68,7 @@ all_bytes : (kind low high : ℕ) → bytes_in (operand_with kind low high 16) �
 unfolding bytes_in little_endian_bytes
 all_bytes kind low high = refl
 
-as_whole : (v low high : ℕ) → ltb v (2 ^ 128) ≡ true → Value.Halves low high ≡ in_halves v → IsOperandOf (whole_value v) (operand_with 2 low high 16)
+as_whole : (v low high : ℕ) → ltb v (2 ^ 128) ≡ true → Some (low, high) ≡ in_halves v → IsOperandOf (whole_value v) (operand_with 2 low high 16)
 unfolding operand_kind_of literal_bytes
 as_whole v low high fits e =
     let known = value_halves v low high fits e in
@@ -78,7 +80,7 @@ as_whole v low high fits e =
       long = unfold little_endian_bytes in refl;
     }
 
-as_minus : (v low high lower upper : ℕ) → ltb v (2 ^ 128) ≡ true → Value.Halves low high ≡ in_halves v → little_endian_bytes 8 lower ++ little_endian_bytes 8 upper ≡ little_endian_bytes 16 (2 ^ 128 - (high * 2 ^ 64 + low)) → IsOperandOf (minus_value v) (operand_with 1 lower upper 16)
+as_minus : (v low high lower upper : ℕ) → ltb v (2 ^ 128) ≡ true → Some (low, high) ≡ in_halves v → little_endian_bytes 8 lower ++ little_endian_bytes 8 upper ≡ little_endian_bytes 16 (2 ^ 128 - (high * 2 ^ 64 + low)) → IsOperandOf (minus_value v) (operand_with 1 lower upper 16)
 unfolding operand_kind_of literal_bytes
 as_minus v low high lower upper fits e minus =
     let known = value_halves v low high fits e in
@@ -92,19 +94,19 @@ as_minus v low high lower upper fits e minus =
 
 -- `literal_bytes`
 module _ (text : List ℕ) (from to sort : ℕ) (fits : literal_fits (literal_in text sort from to) ≡ true) where
-  pub whole_way : (low high : ℕ) → sort ≡ 3 → Value.Halves low high ≡ integer_value text from to → IsOperandOf (literal_in text sort from to) (operand_with 2 low high 16)
+  pub whole_way : (low high : ℕ) → sort ≡ 3 → Some (low, high) ≡ integer_value text from to → IsOperandOf (literal_in text sort from to) (operand_with 2 low high 16)
   unfolding literal_fits integer_value bytes_from
   whole_way low high e found =
       let is = whole_is text from to sort e in
       subst (λ (v : LiteralValue). IsOperandOf v (operand_with 2 low high 16)) (sym is) (as_whole (value text from to) low high (sym (ap literal_fits is) ∙ fits) found)
 
-  pub minus_way : (low high lower upper : ℕ) → 3 < sort → Value.Halves low high ≡ integer_value text from to → little_endian_bytes 8 lower ++ little_endian_bytes 8 upper ≡ little_endian_bytes 16 (2 ^ 128 - (high * 2 ^ 64 + low)) → IsOperandOf (literal_in text sort from to) (operand_with 1 lower upper 16)
+  pub minus_way : (low high lower upper : ℕ) → 3 < sort → Some (low, high) ≡ integer_value text from to → little_endian_bytes 8 lower ++ little_endian_bytes 8 upper ≡ little_endian_bytes 16 (2 ^ 128 - (high * 2 ^ 64 + low)) → IsOperandOf (literal_in text sort from to) (operand_with 1 lower upper 16)
   unfolding literal_fits integer_value bytes_from
   minus_way low high lower upper h found minus =
       let is = minus_is text from to sort h in
       subst (λ (v : LiteralValue). IsOperandOf v (operand_with 1 lower upper 16)) (sym is) (as_minus (value text from to) low high lower upper (sym (ap literal_fits is) ∙ fits) found minus)
 
-  pub never_over : 2 < sort → Value.Over ≡ integer_value text from to → ⊥
+  pub never_over : 2 < sort → None ≡ integer_value text from to → ⊥
   unfolding literal_fits integer_value bytes_from
   never_over h found =
       ⊎_elim

@@ -1,11 +1,11 @@
 -- The literals that have 16 bytes or fewer, and two halves of eight bytes. Assumes nothing: these are definitions.
+use Rattle.std.specs.Prelude.{Some, None}
 use Rattle.std.specs.Prelude.{ℕ, ◌^◌, ◌≤◌, ◌≡◌, Bool, true, List, ◌++◌, ltb, length, take}
 use Rattle.image.specs.declared.Tables.{Tables}
 use Rattle.pattern_syntax.specs.Written.{LiteralValue, bool_value, char_value, whole_value, minus_value}
 use Rattle.pattern_images.specs.Drafts.{little_endian_bytes, operand_kind_of, literal_bytes, add_operand}
 use Rattle.draft_tables.specs.declared.DraftCounts.{DraftCounts}
-use Rattle.draft_tables.specs.declared.DraftStep.{DraftStep}
-use Rattle.draft_tables.specs.declared.DraftStep.TheVariants.{On, PastALimit}
+use Rattle.draft_tables.specs.Results.{DraftStep}
 use Rattle.draft_tables.specs.Layout.{drafted}
 use Rattle.draft_tables.specs.Room.{DraftRoom}
 use Rattle.draft_tables.specs.Steps.{SheetsStepped}
@@ -36,8 +36,8 @@ pub record IsOperandOf (v : LiteralValue) (b : LiteralBytes) : Type 0 where
 
 -- within the limits, on the same stack
 abbrev pub RoomBehind : Tables → DraftCounts → DraftStep → Type 0
-RoomBehind tables c (On counts) = DraftRoom tables counts × (counts.height ≡ c.height)
-RoomBehind tables c PastALimit = Unit
+RoomBehind tables c (Some counts) = DraftRoom tables counts × (counts.height ≡ c.height)
+RoomBehind tables c None = Unit
 
 -- a step that adds it
 abbrev pub OperandStepped : Tables → List ℕ → DraftCounts → LiteralBytes → DraftStep → List ℕ → Type 0

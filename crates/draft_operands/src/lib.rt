@@ -7,8 +7,8 @@ ghost use Rattle.pattern_images.specs.Drafts.{little_endian_bytes};
 ghost use Rattle.draft_tables.specs.Room.{DraftRoom};
 ghost use Rattle.draft_operands.specs.Literals.{literal_fits, operand_with, IsOperandOf, RoomBehind, OperandStepped};
 
-use decimal_values::{Value, integer_value};
-use draft_tables::{DraftCounts, DraftStep, push_bytes, push_words};
+use decimal_values::integer_value;
+use draft_tables::{DraftCounts, push_bytes, push_words};
 use image::Tables;
 
 // The kind of a literal's operand, sixteen bytes, and how many of them the literal has.
@@ -105,7 +105,7 @@ pub fn literal_bytes(text: &[u8], sort: u16, from: u16, to: u16) -> LiteralBytes
     if sort == 2 {
         return operand_of(3, (to as u64) * 65536 + (from as u64), 0, 4);
     }
-    let Value::Halves(low, high) = integer_value(text, from as usize, to as usize) else {
+    let Some((low, high)) = integer_value(text, from as usize, to as usize) else {
         return operand_of(0, 0, 0, 0);
     };
     if sort == 3 {
@@ -121,19 +121,19 @@ pub fn add_operand(
     draft: &mut [u16],
     c: DraftCounts,
     operand: LiteralBytes,
-) -> DraftStep
+) -> Option<DraftCounts>
     requires { (length draft.old ≡ 40704) × (DraftRoom tables c × ((operand.count ≤ 16) × (length operand.bytes ≡ 16))) }
     ensures { RoomBehind tables c result × OperandStepped tables draft.old c operand result draft.new }
 {
     let from = tables.bytes.count + c.bytes;
     if 2048 < tables.list.count + c.words + 3 {
-        return DraftStep::PastALimit;
+        return None;
     }
     if 16384 < from + operand.count {
-        return DraftStep::PastALimit;
+        return None;
     }
     let words = [operand.kind, from, operand.count];
     let listed = push_words(draft, c, &words, 3);
     let bytes = operand.bytes;
-    DraftStep::On(push_bytes(draft, listed, &bytes, operand.count))
+    Some(push_bytes(draft, listed, &bytes, operand.count))
 }

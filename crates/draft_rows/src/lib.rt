@@ -6,23 +6,28 @@ ghost use Rattle.draft_tables.specs.Room.{DraftRoom};
 ghost use Rattle.draft_tables.specs.Steps.{SheetsStepped};
 ghost use Rattle.draft_rows.specs.Nodes.{row_step};
 
-use draft_tables::{DraftCounts, DraftStep, push_pattern, push_stack};
+use draft_tables::{DraftCounts, push_pattern, push_stack};
 use image::Tables;
 use image::rows::PatRow;
 
 // A pattern behind those that are there, and its number on the stack.
-pub fn put_pattern(tables: Tables, draft: &mut [u16], c: DraftCounts, row: PatRow) -> DraftStep
+pub fn put_pattern(
+    tables: Tables,
+    draft: &mut [u16],
+    c: DraftCounts,
+    row: PatRow,
+) -> Option<DraftCounts>
     requires { (length draft.old ≡ 40704) × (DraftRoom tables c × (c.height < 16384)) }
     ensures { SheetsStepped tables draft.old c (row_step row) result draft.new }
 {
     if 16 < row.derefs {
-        return DraftStep::PastALimit;
+        return None;
     }
     let p = tables.patterns.count + c.patterns;
     if 512 <= p {
-        return DraftStep::PastALimit;
+        return None;
     }
     let added = push_pattern(draft, c, row);
     let number = [p];
-    DraftStep::On(push_stack(draft, added, &number, 1))
+    Some(push_stack(draft, added, &number, 1))
 }

@@ -13,7 +13,7 @@ ghost use Rattle.draft_rows.specs.Nodes.{node_step};
 use draft_list_starts::list_start;
 use draft_lists::{at_height, put_list};
 use draft_rows::put_pattern;
-use draft_tables::{DraftCounts, DraftStep, push_list, stack_word};
+use draft_tables::{DraftCounts, push_list, stack_word};
 use image::Tables;
 use image::rows::PatRow;
 
@@ -26,14 +26,14 @@ fn put_rest_slice(
     derefs: u16,
     before: u16,
     parts: u16,
-) -> DraftStep
+) -> Option<DraftCounts>
     requires { (length draft.old ≡ 40704) × (DraftRoom tables c × ((c.height < 16384) × ((parts ≤ c.height) × (before < parts)))) }
     ensures { SheetsStepped tables draft.old c (node_step (slice_made ty derefs (some before)) parts) result draft.new }
 {
     let next = tables.list.count + c.words;
     let many = parts - 1;
     if 2048 < next + many {
-        return DraftStep::PastALimit;
+        return None;
     }
     let base = c.height - parts;
     let rest = stack_word(draft, base + before);
@@ -61,7 +61,7 @@ pub fn put_slice(
     derefs: u16,
     before: u16,
     parts: u16,
-) -> DraftStep
+) -> Option<DraftCounts>
     requires { (length draft.old ≡ 40704) × (DraftRoom tables c × ((c.height < 16384) × ((parts ≤ c.height) × (rest_within (number_in before) parts ≡ true)))) }
     ensures { SheetsStepped tables draft.old c (node_step (slice_made ty derefs (number_in before)) parts) result draft.new }
 {

@@ -1,4 +1,5 @@
 -- One step behind another, and a step that stops at a limit. Assumes nothing.
+use Rattle.std.specs.Prelude.{Some, None}
 use Prim.Native.Nat.{ℕ}
 use mathlib.Core.Path.{◌≡◌, sym, ap, ◌∙◌}
 use mathlib.Core.Bool.{false}
@@ -10,8 +11,7 @@ use Rattle.pattern_images.specs.Imaging.{within_image_limits}
 use Rattle.draft_stack.specs.Stack.{Stacked}
 use Rattle.draft_stack.proofs.Growing.{Grows, past_grows}
 use Rattle.draft_tables.specs.declared.DraftCounts.{DraftCounts}
-use Rattle.draft_tables.specs.declared.DraftStep.{DraftStep}
-use Rattle.draft_tables.specs.declared.DraftStep.TheVariants.{On, PastALimit}
+use Rattle.draft_tables.specs.Results.{DraftStep}
 use Rattle.draft_tables.specs.Layout.{stacked_in, drafted, WithinDraft}
 use Rattle.draft_tables.specs.Steps.{DraftHeld, DraftStepped}
 use Rattle.draft_tables.proofs.Counted.{room_within, stack_length}
@@ -19,14 +19,14 @@ use Rattle.draft_tables.proofs.Counted.{room_within, stack_length}
 module _ (sheet : List ℕ) (tables : Tables) (table : List ℕ) (c : DraftCounts) where
   -- a step that makes the same
   pub step_same : (f g : List ℕ → Stacked → Stacked) (r : DraftStep) (after : List ℕ) → ((names : List ℕ) → f names (stacked_in names table c) ≡ g names (stacked_in names table c)) → DraftStepped sheet tables table c f r after → DraftStepped sheet tables table c g r after
-  step_same f g (On counts) after same held = record { room = held.room; holds = λ names. held.holds names ∙ same names; derefs = held.derefs }
-  step_same f g PastALimit after same past = λ names. sym (ap (λ (s : Stacked). within_image_limits sheet s.draft) (same names)) ∙ past names
+  step_same f g (Some counts) after same held = record { room = held.room; holds = λ names. held.holds names ∙ same names; derefs = held.derefs }
+  step_same f g None after same past = λ names. sym (ap (λ (s : Stacked). within_image_limits sheet s.draft) (same names)) ∙ past names
 
   -- a step behind one that went on
   pub step_then : (f g : List ℕ → Stacked → Stacked) (first : DraftCounts) (mid : List ℕ) (r : DraftStep) (after : List ℕ) → DraftHeld tables table c f first mid → DraftStepped sheet tables mid first g r after → DraftStepped sheet tables table c (λ names s. g names (f names s)) r after
-  step_then f g first mid (On counts) after one two =
+  step_then f g first mid (Some counts) after one two =
       record { room = two.room; holds = λ names. two.holds names ∙ ap (g names) (one.holds names); derefs = λ kept. two.derefs (one.derefs kept) }
-  step_then f g first mid PastALimit after one past =
+  step_then f g first mid None after one past =
       λ names. sym (ap (λ (s : Stacked). within_image_limits sheet (g names s).draft) (one.holds names)) ∙ past names
 
   -- a step that is part of one that makes more

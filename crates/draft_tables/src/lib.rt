@@ -34,13 +34,6 @@ pub struct DraftCounts {
     pub height: u16,
 }
 
-// The counts behind a step, or that it passes a limit.
-#[derive(Clone, Copy)]
-pub enum DraftStep {
-    On(DraftCounts),
-    PastALimit,
-}
-
 // A type behind those that are there.
 pub fn push_type(draft: &mut [u16], c: DraftCounts, row: TypeRow) -> DraftCounts
     requires { (length draft.old ≡ 40704) × (WithinDraft c × (c.types < 256)) }
@@ -50,11 +43,7 @@ pub fn push_type(draft: &mut [u16], c: DraftCounts, row: TypeRow) -> DraftCounts
     store_row(draft, 5 * (c.types as usize), &words);
     DraftCounts {
         types: c.types + 1,
-        patterns: c.patterns,
-        bindings: c.bindings,
-        words: c.words,
-        bytes: c.bytes,
-        height: c.height,
+        ..c
     }
 }
 
@@ -66,12 +55,8 @@ pub fn push_pattern(draft: &mut [u16], c: DraftCounts, row: PatRow) -> DraftCoun
     let words = [row.kind, row.ty, row.derefs, row.a, row.b, row.c, row.d];
     store_row(draft, PATTERNS + 7 * (c.patterns as usize), &words);
     DraftCounts {
-        types: c.types,
         patterns: c.patterns + 1,
-        bindings: c.bindings,
-        words: c.words,
-        bytes: c.bytes,
-        height: c.height,
+        ..c
     }
 }
 
@@ -85,12 +70,8 @@ pub fn push_binding(draft: &mut [u16], c: DraftCounts, ty: u16, from: u16, to: u
     let range = [from, to];
     store_row(draft, CALLED + 2 * (c.bindings as usize), &range);
     DraftCounts {
-        types: c.types,
-        patterns: c.patterns,
         bindings: c.bindings + 1,
-        words: c.words,
-        bytes: c.bytes,
-        height: c.height,
+        ..c
     }
 }
 
@@ -101,12 +82,8 @@ pub fn push_words(draft: &mut [u16], c: DraftCounts, words: &[u16], many: u16) -
 {
     store_row(draft, WORDS + (c.words as usize), words);
     DraftCounts {
-        types: c.types,
-        patterns: c.patterns,
-        bindings: c.bindings,
         words: c.words + many,
-        bytes: c.bytes,
-        height: c.height,
+        ..c
     }
 }
 
@@ -118,12 +95,8 @@ pub fn push_bytes(draft: &mut [u16], c: DraftCounts, bytes: &[u16], many: u16) -
     let end = many as usize;
     store_row(draft, BYTES + (c.bytes as usize), &bytes[0..end]);
     DraftCounts {
-        types: c.types,
-        patterns: c.patterns,
-        bindings: c.bindings,
-        words: c.words,
         bytes: c.bytes + many,
-        height: c.height,
+        ..c
     }
 }
 
@@ -134,12 +107,8 @@ pub fn push_stack(draft: &mut [u16], c: DraftCounts, words: &[u16], many: u16) -
 {
     store_row(draft, STACK + (c.height as usize), words);
     DraftCounts {
-        types: c.types,
-        patterns: c.patterns,
-        bindings: c.bindings,
-        words: c.words,
-        bytes: c.bytes,
         height: c.height + many,
+        ..c
     }
 }
 
@@ -148,10 +117,8 @@ fn copy_words(draft: &mut [u16], to: usize, from: usize, many: usize)
     requires { (to + many ≤ from) × (from + many ≤ length draft.old) }
     ensures { draft.new ≡ stored draft.old to (take many (drop from draft.old)) }
 {
-    let mut i = 0;
-    while i < many {
+    for i in 0..many {
         draft[to + i] = draft[from + i];
-        i += 1;
     }
 }
 
@@ -167,12 +134,8 @@ pub fn push_list(draft: &mut [u16], c: DraftCounts, from: u16, many: u16) -> Dra
         many as usize,
     );
     DraftCounts {
-        types: c.types,
-        patterns: c.patterns,
-        bindings: c.bindings,
         words: c.words + many,
-        bytes: c.bytes,
-        height: c.height,
+        ..c
     }
 }
 

@@ -12,20 +12,6 @@ use draft_tables::{DraftCounts, added_type, push_type};
 use image::Tables;
 use image::rows::{TypeRow, type_at};
 
-// The type that is like another, or none.
-#[derive(Clone, Copy)]
-pub enum LikeType {
-    At(u16),
-    Nothing,
-}
-
-// A type's number and the counts of the draft that holds it, or that there are too many.
-#[derive(Clone, Copy)]
-pub enum TypeStep {
-    Number(u16, DraftCounts),
-    PastTypes,
-}
-
 // References have no length.
 fn same_length(row: TypeRow, other: TypeRow) -> bool
     ensures { result ≡ (eqb row.kind 7 || eqb row.b other.b) }
@@ -73,18 +59,22 @@ fn type_from(sheet: &[u8], tables: Tables, draft: &[u16], t: u16) -> TypeRow
 }
 
 // The first of so many types that is like a row.
-pub fn like_type(sheet: &[u8], tables: Tables, draft: &[u16], many: u16, row: TypeRow) -> LikeType
+pub fn like_type(
+    sheet: &[u8],
+    tables: Tables,
+    draft: &[u16],
+    many: u16,
+    row: TypeRow,
+) -> Option<u16>
     requires { Whole sheet.now tables × ((length draft.now ≡ 40704) × (many ≤ tables.types.count + 256)) }
     ensures { found result ≡ first_from (λ t. alike row (type_from sheet.now draft.now t)) 0 many }
 {
-    let mut t = 0;
-    while t < many {
+    for t in 0..many {
         if is_alike(row, type_from(sheet, tables, draft, t)) {
-            return LikeType::At(t);
+            return Some(t);
         }
-        t += 1;
     }
-    LikeType::Nothing
+    None
 }
 
 // A type's number: that of the first one like it, or it is added.
@@ -94,19 +84,19 @@ pub fn with_type(
     draft: &mut [u16],
     c: DraftCounts,
     row: TypeRow,
-) -> TypeStep
+) -> Option<(u16, DraftCounts)>
     requires { Whole sheet.now tables × ((length draft.old ≡ 40704) × DraftRoom tables c) }
     ensures { TypeStepped sheet.now tables draft.old c row result draft.new }
 {
     let many = tables.types.count + c.types;
     match like_type(sheet, tables, draft, many, row) {
-        LikeType::At(t) => TypeStep::Number(t, c),
-        LikeType::Nothing => {
+        Some(t) => Some((t, c)),
+        None => {
             if 256 <= many {
-                return TypeStep::PastTypes;
+                return None;
             }
             let more = push_type(draft, c, row);
-            TypeStep::Number(many, more)
+            Some((many, more))
         }
     }
 }

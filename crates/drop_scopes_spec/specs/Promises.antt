@@ -1,4 +1,5 @@
 -- What the functions promise: with the tables at exit, their answers are what the definitions give. Assumes nothing: these are definitions.
+use Rattle.std.specs.Prelude.{Ok, Err}
 use Rattle.std.specs.Prelude.{ℕ, ◌<◌, ◌≤◌, ◌≡◌, List, get_or}
 use Rattle.std.proofs.Math.Option.{Option, none, some}
 use Rattle.refusals.specs.Refusals.{Result, done, stopped}
@@ -6,23 +7,23 @@ use Rattle.mir.specs.declared.BasicBlockId.{BasicBlockId}
 use Rattle.mir.specs.declared.Counts.{Counts}
 use Rattle.state.specs.State.{Body, State, decode}
 use Rattle.state.specs.Promises.{Ready, Own, Kept}
-use Rattle.drop_scopes_spec.specs.declared.AtBlock.{AtBlock}
+use Rattle.drop_scopes_spec.specs.Results.{AtBlock}
 use Rattle.drop_scopes_spec.specs.Dropping.{At}
 
 -- an answer of locals that leave, as the definitions have it
 abbrev pub at_result : AtBlock → Body → Result At
-at_result (AtBlock.At c block) b = done (record { state = decode b c; block = block })
-at_result (AtBlock.Refused e) b = stopped e
+at_result (Ok (c, block)) b = done (record { state = decode b c; block = block })
+at_result (Err e) b = stopped e
 
 abbrev pub at_counts : AtBlock → Option Counts
-at_counts (AtBlock.At c block) = some c
-at_counts (AtBlock.Refused e) = none
+at_counts (Ok (c, block)) = some c
+at_counts (Err e) = none
 
 -- the block of a local that leaves is made, and is the one before or a new one; no block is taken away, and nothing is made but blocks and statements
 abbrev pub LeftAt : Counts → BasicBlockId → AtBlock → Type 0
-LeftAt c block (AtBlock.At c' b) =
+LeftAt c block (Ok (c', b)) =
     (b.0 < c'.blocks) × Own c block.0 b.0 × (c.blocks ≤ c'.blocks) × (c'.locals ≡ c.locals) × (c'.scopes ≡ c.scopes) × (c'.entries ≡ c.entries)
-LeftAt c block (AtBlock.Refused e) = Unit
+LeftAt c block (Err e) = Unit
 
 -- each entry is a local that there is
 abbrev pub EntriesNamed : List ℕ → Counts → Type 0

@@ -1,4 +1,5 @@
 -- The public fit test, by the ways through the code. Assumes nothing.
+use Rattle.std.specs.Prelude.{Some, None}
 use Prim.Native.Nat.{ℕ, ◌<◌}
 use mathlib.Core.Path.{◌≡◌, sym, ◌∙◌}
 use mathlib.Core.Bool.{Bool, true, false, ◌&&◌}
@@ -11,7 +12,6 @@ use Rattle.image.specs.Tables.{Whole, type_count, pattern_count, binding_count}
 use Rattle.image.specs.Tree.{tree}
 use Rattle.image.specs.Valid.{valid}
 use Rattle.image.proofs.Bools.{and_left, and_right}
-use Rattle.read_image.specs.declared.Read.{Read}
 use Rattle.read_image.specs.Read.{read_of}
 use Rattle.body_calls_spec.proofs.Prologue.{read_valid, read_refused, whole_of}
 use Rattle.meaning.specs.Fit.{fits}
@@ -38,7 +38,7 @@ all_handed image bindings p t e =
     }
 
 -- `fit`: an image that is read, and what the call is handed
-module _ (image : List ℕ) {tables : Tables} (read : Read.Image tables ≡ read_of image) where
+module _ (image : List ℕ) {tables : Tables} (read : Some tables ≡ read_of image) where
   pub is_valid : valid image ≡ true
   is_valid = (read_valid image tables read).0
 
@@ -68,6 +68,6 @@ module _ (image : List ℕ) {tables : Tables} (read : Read.Image tables ≡ read
         gives_yes e = record { reply = rw (is_valid, sym by_image ∙ there, sym told ∙ e); refusal = rw (is_valid, sym by_image ∙ there) }
 
 -- an image that is not
-pub gives_no_image : (image bindings : List ℕ) (root : ℕ) (t p : ℕ) → Read.Refused ≡ read_of image → Gives (fit_call image bindings root t p) FitCall.BadImage
+pub gives_no_image : (image bindings : List ℕ) (root : ℕ) (t p : ℕ) → None ≡ read_of image → Gives (fit_call image bindings root t p) FitCall.BadImage
 unfolding fit_call
 gives_no_image image bindings root t p e = let bad = read_refused image e in record { reply = rw bad; refusal = rw bad }

@@ -7,7 +7,7 @@ use fit_clauses::pattern_fits;
 use fit_handed::call_names;
 use image::PatId;
 use place::LocalId;
-use read_image::{Read, read_image};
+use read_image::read_image;
 
 // The pattern fits the place, or does not; or a number of the call names nothing, or the image breaks a rule.
 #[derive(Clone, Copy)]
@@ -23,8 +23,8 @@ pub fn fit(image: &[u8], bindings: &[u16], root: LocalId, t: u16, p: PatId) -> F
     ensures { Gives (fit_call image.now bindings.now root.0 t p.0) result }
 {
     match read_image(image) {
-        Read::Refused => FitCall::BadImage,
-        Read::Image(tables) => {
+        None => FitCall::BadImage,
+        Some(tables) => {
             if !call_names(tables, bindings, t, p) {
                 return FitCall::BadCall;
             }

@@ -9,7 +9,7 @@ ghost use Rattle.fit_rows.specs.Bound.{bound_in_row, joins};
 
 use super::each::{each_agrees, own_agrees};
 use fit_rows::found::Test;
-use fit_rows::nodes::{Node, Row, first, node_at, one, rest};
+use fit_rows::nodes::{Node, Row, behind, first, node_at, one, rest};
 use image::{PatId, Tables};
 
 // Two patterns bind the same bindings at the same types.
@@ -34,13 +34,12 @@ fn alternatives_fit(image: &[u8], tables: Tables, row: Row) -> bool
         return false;
     }
     let p = first(image, tables, row);
-    let mut left = rest(row);
-    while left.count != 0 {
-        let q = first(image, tables, left);
+    let others = rest(row);
+    for k in 0..others.count {
+        let q = first(image, tables, behind(others, k));
         if !same(image, tables, p, q) {
             return false;
         }
-        left = rest(left);
     }
     true
 }
@@ -50,11 +49,10 @@ fn once(image: &[u8], tables: Tables, row: Row) -> bool
     requires { (valid image.now ≡ true) × Whole image.now tables × Lies image.now row × (all_bindings_fit image.now (row_trees image.now row) ≡ true) }
     ensures { result ≡ bind_once image.now (bound_in_row image.now row) }
 {
-    let mut left = row;
-    while left.count != 0 {
+    for k in 0..row.count {
+        let left = behind(row, k);
         let p = first(image, tables, left);
-        left = rest(left);
-        if !each_agrees(image, tables, Test::Apart, one(p.0 + 1, p), left) {
+        if !each_agrees(image, tables, Test::Apart, one(p.0 + 1, p), rest(left)) {
             return false;
         }
     }
@@ -81,17 +79,12 @@ pub fn all_fit(image: &[u8], tables: Tables, row: Row) -> bool
     requires { (valid image.now ≡ true) × Whole image.now tables × Lies image.now row }
     ensures { result ≡ all_bindings_fit image.now (row_trees image.now row) }
 {
-    let mut left = row;
-    while left.count != 0 {
-        let p = first(image, tables, left);
+    for k in 0..row.count {
+        let p = first(image, tables, behind(row, k));
         let node = node_at(image, tables, p);
-        if !all_fit(image, tables, node.row) {
+        if !all_fit(image, tables, node.row) || !joined(image, tables, node) {
             return false;
         }
-        if !joined(image, tables, node) {
-            return false;
-        }
-        left = rest(left);
     }
     true
 }

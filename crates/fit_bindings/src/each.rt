@@ -6,7 +6,7 @@ ghost use Rattle.fit_rows.specs.Nodes.{Lies};
 ghost use Rattle.fit_rows.specs.Bound.{all_of, agrees, owned, bound_in_row};
 
 use fit_rows::found::{Test, Wanted, found};
-use fit_rows::nodes::{Own, Row, first, node_at, rest, telling};
+use fit_rows::nodes::{Own, Row, behind, first, node_at, telling};
 use image::{BindingId, Tables};
 
 // The binding b at the type t is bound in the others as the test asks.
@@ -56,18 +56,14 @@ pub fn each_agrees(image: &[u8], tables: Tables, test: Test, row: Row, others: R
     requires { (valid image.now ≡ true) × Whole image.now tables × Lies image.now row × Lies image.now others }
     ensures { result ≡ all_of (agrees test (bound_in_row image.now others)) (bound_in_row image.now row) }
 {
-    let mut left = row;
-    while left.count != 0 {
-        let p = first(image, tables, left);
+    for k in 0..row.count {
+        let p = first(image, tables, behind(row, k));
         let node = node_at(image, tables, p);
-        let own = node.own;
-        if !own_agrees(image, tables, test, own, others) {
+        if !own_agrees(image, tables, test, node.own, others)
+            || !each_agrees(image, tables, test, telling(node), others)
+        {
             return false;
         }
-        if !each_agrees(image, tables, test, telling(node), others) {
-            return false;
-        }
-        left = rest(left);
     }
     true
 }

@@ -10,7 +10,6 @@ ghost use Rattle.meaning.specs.Fit.{fits};
 use fit_bindings::bindings_fit;
 use fit_locals::locals_differ;
 use fit_reached::nothing_refused;
-use fit_shapes::TypeNumber;
 use fit_types::walk::types_fit;
 use image::{PatId, Tables};
 use place::LocalId;
@@ -27,7 +26,7 @@ pub fn pattern_fits(
     requires { (valid image.now ≡ true) × Whole image.now tables × (length bindings.now ≡ binding_count image.now) × (p.0 < pattern_count image.now) × (t < type_count image.now) }
     ensures { result ≡ fits image.now bindings.now root.0 t (tree image.now p.0) }
 {
-    if !types_fit(image, tables, TypeNumber::Some(t), p) {
+    if !types_fit(image, tables, Some(t), p) {
         return false;
     }
     if !bindings_fit(image, tables, p) {

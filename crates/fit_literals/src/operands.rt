@@ -10,7 +10,7 @@ ghost use Rattle.meaning.specs.Fit.{refers_to_str, constant_fits, literal_fits, 
 
 use super::integers::integer_fits;
 use image::Tables;
-use image::kinds::{OperandKind, TypeKind, operand_kind, type_kind};
+use image::kinds::{OperandKind, TypeKind};
 use image::rows::{TypeRow, operand_at, operand_bytes, type_at};
 use pattern_rules::operands::{is_bool, is_char};
 
@@ -44,10 +44,10 @@ pub fn literal_fits(image: &[u8], tables: Tables, ty: u16, o: u16) -> bool
     ensures { result ≡ literal_fits (operand_of image.now o).kind image.now (ty_of image.now ty).shape (operand_of image.now o).bytes }
 {
     let row = type_at(image, tables, ty);
-    let kind = type_kind(row.kind);
+    let kind = TypeKind::from(row.kind);
     let operand = operand_at(image, tables, o);
     let bytes = operand_bytes(image, tables, operand);
-    match operand_kind(operand.kind) {
+    match OperandKind::from(operand.kind) {
         OperandKind::Int | OperandKind::Uint => {
             integer_fits(image, row, kind, operand.kind == 1, bytes)
         }
@@ -68,7 +68,7 @@ pub fn constant_fits(image: &[u8], tables: Tables, ty: u16, o: u16) -> bool
     bytes_fit(
         image,
         row,
-        type_kind(row.kind),
+        TypeKind::from(row.kind),
         operand_bytes(image, tables, operand),
     )
 }
@@ -94,7 +94,7 @@ fn end_fits(image: &[u8], tables: Tables, ty: u16, o: u16) -> bool
     ensures { result ≡ end_fits (operand_of image.now o).kind (ty_of image.now ty).shape (operand_of image.now o).bytes }
 {
     let operand = operand_at(image, tables, o);
-    match operand_kind(operand.kind) {
+    match OperandKind::from(operand.kind) {
         OperandKind::Int => literal_fits(image, tables, ty, o),
         OperandKind::Uint => literal_fits(image, tables, ty, o),
         OperandKind::Char => literal_fits(image, tables, ty, o),

@@ -1,16 +1,17 @@
 -- The locals that must differ, by the ways through the code. Assumes nothing.
 use Prim.Native.Nat.{ℕ, ◌+◌, ◌≤◌, ◌<◌}
-use mathlib.Core.Path.{◌≡◌, refl, sym, ap, ◌∙◌}
-use mathlib.Core.Bool.{Bool, true, false, cond, false≢true}
+use mathlib.Core.Path.{◌≡◌, refl, sym, ap, ap₂, ◌∙◌}
+use mathlib.Core.Bool.{Bool, true, false, cond, ◌||◌, false≢true}
 use mathlib.Core.List.{List, [], ◌∷◌}
 use native.Mathlib.Numerals.{add-one}
 use borrow.Author.Tests.{eq-eqb, ne_eqb, eqb-true, eqb-false}
 use lib.Dec.{eqb}
+use Rattle.std.specs.List.{list_any}
 use lib.ListN.{length, get_or, drop, drop_of_length-le}
 use lib.Seq.{drop-cons}
 use Rattle.image.specs.Lists.{member, distinct}
 use Rattle.meaning.specs.Fit.{present, locals_differ}
-use Rattle.fit_shapes.proofs.Fielding.{member_here, member_next, distinct_again, distinct_next}
+use Rattle.fit_shapes.proofs.Fielding.{distinct_again, distinct_next}
 
 -- `stands_from`: 65535 is no local that is there
 pub no_local : (l : ℕ) → l ≡ 65535 → (xs : List ℕ) → false ≡ member l (present xs)
@@ -21,6 +22,23 @@ no_local l e (x ∷ xs) = go (eqb x 65535) refl (no_local l e xs)
     go : (b : Bool) → eqb x 65535 ≡ b → false ≡ member l (present xs) → false ≡ member l (cond b (present xs) (x ∷ present xs))
     go true q later = later
     go false q later = rw (ne_eqb l x (λ r. eqb-false x 65535 q (sym r ∙ e))) later
+
+eqb_swap : (x y : ℕ) → eqb x y ≡ eqb y x
+eqb_swap x y = go (eqb x y) refl
+  where
+    go : (b : Bool) → eqb x y ≡ b → b ≡ eqb y x
+    go true e = sym (eq-eqb y x (sym (eqb-true x y e)))
+    go false e = sym (ne_eqb y x (λ q. eqb-false x y e (sym q)))
+
+-- any other stands among those that are there if it stands among all
+pub stands : (l : ℕ) → (l ≡ 65535 → ⊥) → (xs : List ℕ) → list_any (λ y. eqb y l) xs ≡ member l (present xs)
+unfolding present member
+stands l h [] = refl
+stands l h (x ∷ xs) = go (eqb x 65535) refl (stands l h xs)
+  where
+    go : (b : Bool) → eqb x 65535 ≡ b → list_any (λ y. eqb y l) xs ≡ member l (present xs) → list_any (λ y. eqb y l) (x ∷ xs) ≡ member l (cond b (present xs) (x ∷ present xs))
+    go true q later = ap (λ (b : Bool). b || list_any (λ y. eqb y l) xs) (ne_eqb x l (λ e. h (sym e ∙ eqb-true x 65535 q))) ∙ later
+    go false q later = ap₂ (λ (a b : Bool). a || b) (eqb_swap x l) later
 
 module _ (xs : List ℕ) (i : ℕ) where
   module _ (inside : i < length xs) where
@@ -35,18 +53,6 @@ module _ (xs : List ℕ) (i : ℕ) where
     present_not : x ≡ 65535 → present (drop i xs) ≡ present (drop (i + 1) xs)
     unfolding present
     present_not e = ap present (drop-cons xs i 0 inside) ∙ rw (eq-eqb x 65535 e, add-one i)
-
-    -- `stands_from`
-    module _ (l : ℕ) where
-      pub stands_here : (l ≡ 65535 → ⊥) → x ≡ l → true ≡ member l (present (drop i xs))
-      stands_here h e = member_here (present_there (λ q. h (sym e ∙ q))) l (eq-eqb l x (sym e))
-
-      pub stands_next : (x ≡ l → ⊥) → member l (present (drop i xs)) ≡ member l (present (drop (i + 1) xs))
-      stands_next h = go (eqb x 65535) refl
-        where
-          go : (b : Bool) → eqb x 65535 ≡ b → member l (present (drop i xs)) ≡ member l (present (drop (i + 1) xs))
-          go true q = ap (member l) (present_not (eqb-true x 65535 q))
-          go false q = member_next (present_there (eqb-false x 65535 q)) l (ne_eqb l x (λ r. h (sym r)))
 
     -- `bindings_differ`
     module _ {r : Bool} (again : r ≡ member x (present (drop (i + 1) xs))) where
@@ -63,11 +69,6 @@ module _ (xs : List ℕ) (i : ℕ) where
           go : (b : Bool) → eqb x 65535 ≡ b → distinct (present (drop i xs)) ≡ distinct (present (drop (i + 1) xs))
           go true q = ap distinct (present_not (eqb-true x 65535 q))
           go false q = distinct_next (present_there (eqb-false x 65535 q)) (sym again ∙ e)
-
-  -- the ends of both
-  pub stands_end : (l : ℕ) → length xs ≤ i → false ≡ member l (present (drop i xs))
-  unfolding present member
-  stands_end l h = rw (drop_of_length-le xs {i = i} h)
 
   pub differ_end : length xs ≤ i → true ≡ distinct (present (drop i xs))
   unfolding present distinct

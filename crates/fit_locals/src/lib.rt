@@ -11,28 +11,15 @@ use place::LocalId;
 fn stands_from(bindings: &[u16], from: usize, l: LocalId) -> bool
     ensures { result ≡ member l.0 (present (drop from bindings.now)) }
 {
-    if l.0 == 65535 {
-        return false;
-    }
-    let mut i = from;
-    while i < bindings.len() {
-        if bindings[i] == l.0 {
-            return true;
-        }
-        i += 1;
-    }
-    false
+    l.0 != 65535 && bindings.iter().skip(from).any(|b| *b == l.0)
 }
 
 // Those of the bindings differ.
 fn bindings_differ(bindings: &[u16]) -> bool
     ensures { result ≡ distinct (present bindings.now) }
 {
-    let mut i = 0;
-    while i < bindings.len() {
-        let l = LocalId(bindings[i]);
-        i += 1;
-        if stands_from(bindings, i, l) {
+    for (i, b) in bindings.iter().enumerate() {
+        if stands_from(bindings, i + 1, LocalId(*b)) {
             return false;
         }
     }
@@ -43,8 +30,5 @@ fn bindings_differ(bindings: &[u16]) -> bool
 pub fn locals_differ(bindings: &[u16], root: LocalId) -> bool
     ensures { result ≡ locals_differ bindings.now root.0 }
 {
-    if stands_from(bindings, 0, root) {
-        return false;
-    }
-    bindings_differ(bindings)
+    !stands_from(bindings, 0, root) && bindings_differ(bindings)
 }

@@ -73,10 +73,6 @@ module _ (image bindings : List ℕ) where
   unfolding reached_at reached_taken failures_at failures all_true trees reached_as
   alts_end i left e = rw (listed_none image 1 i left e)
 
-  -- a field further: the second word of the next two
-  pub field_on : (i left : ℕ) → row_reached image bindings 2 (i + 1 + 2) left ≡ row_reached image bindings 2 (i + 2 + 1) left
-  field_on i left = let two : i + 1 + 2 ≡ i + 2 + 1 = omega arith in ap (λ (k : ℕ). row_reached image bindings 2 k left) two
-
   -- `sub`
   pub sub_absent : (q : ℕ) → q ≡ absent → Reached.Sure ≡ reached_by? image bindings (tree? (tree image) q)
   unfolding taken_by? fails_by? reached_as

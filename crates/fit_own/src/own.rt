@@ -8,7 +8,7 @@ use super::parts::{
     rest_taken, variant_taken,
 };
 use fit_shapes::fields::variant_fields;
-use image::kinds::{PatKind, path_kind};
+use image::kinds::{PatKind, PathKind};
 use image::rows::PatRow;
 use image::{BindingId, Tables};
 
@@ -69,7 +69,7 @@ pub fn own_taken(image: &[u8], tables: Tables, bindings: &[u16], row: PatRow, ki
         PatKind::Record => record_taken(image, tables, row),
         PatKind::Range => true,
         PatKind::Slice => slice_taken(image, tables, bindings, row),
-        PatKind::Path => path_taken(image, tables, row.ty, path_kind(row.a), row.b),
+        PatKind::Path => path_taken(image, tables, row.ty, PathKind::from(row.a), row.b),
         PatKind::Lit => true,
         PatKind::Bind => has_local(bindings, BindingId(row.a)),
         PatKind::TupleStruct => tuple_struct_taken(image, tables, row),
@@ -87,7 +87,7 @@ pub fn own_test(image: &[u8], tables: Tables, row: PatRow, kind: PatKind) -> boo
         PatKind::Record => is_enum(image, tables, row.ty),
         PatKind::Range => has_end(row.a, row.b),
         PatKind::Slice => kind_of(image, tables, row.ty) == 9,
-        PatKind::Path => path_fails(image, tables, row.ty, path_kind(row.a)),
+        PatKind::Path => path_fails(image, tables, row.ty, PathKind::from(row.a)),
         PatKind::Lit => true,
         PatKind::TupleStruct => is_enum(image, tables, row.ty),
         _ => false,

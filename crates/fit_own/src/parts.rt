@@ -14,7 +14,7 @@ ghost use Rattle.fit_shapes.specs.Slices.{pattern_or_absent};
 ghost use Rattle.fit_own.specs.Rows.{valued, path_kind_fails, rest_kind_taken, RestNamed};
 
 use fit_shapes::fields::has_variant;
-use image::kinds::{AdtKind, PatKind, PathKind, adt_kind, pat_kind};
+use image::kinds::{AdtKind, PatKind, PathKind};
 use image::rows::{list_at, pat_at, type_at};
 use image::{BindingId, PatId, Tables};
 
@@ -46,7 +46,7 @@ pub fn is_enum(image: &[u8], tables: Tables, t: u16) -> bool
     if row.kind != 6 {
         return false;
     }
-    is_enum_kind(adt_kind(row.c))
+    is_enum_kind(AdtKind::from(row.c))
 }
 
 fn kind_has_values(kind: AdtKind) -> bool
@@ -69,7 +69,7 @@ fn has_values(image: &[u8], tables: Tables, t: u16) -> bool
     if row.kind != 6 {
         return false;
     }
-    kind_has_values(adt_kind(row.c))
+    kind_has_values(AdtKind::from(row.c))
 }
 
 // It has the variant v.
@@ -99,14 +99,10 @@ pub fn fields_there(image: &[u8], tables: Tables, at: u16, count: u16, fields: u
     requires { Whole image.now tables × (at + 2 * count ≤ list_count image.now) }
     ensures { result ≡ fields_there (map word? (listed image.now 2 at count)) fields }
 {
-    let mut i = at;
-    let mut left = count;
-    while left != 0 {
-        if fields <= list_at(image, tables, i) {
+    for k in 0..count {
+        if fields <= list_at(image, tables, at + 2 * k) {
             return false;
         }
-        i += 2;
-        left -= 1;
     }
     true
 }
@@ -149,7 +145,7 @@ pub fn rest_taken(image: &[u8], tables: Tables, bindings: &[u16], rest: u16) -> 
         return true;
     }
     let row = pat_at(image, tables, PatId(rest));
-    rest_kind_taken(bindings, pat_kind(row.kind), row.a)
+    rest_kind_taken(bindings, PatKind::from(row.kind), row.a)
 }
 
 // One of the two ends of a Range is there.

@@ -11,7 +11,7 @@ ghost use Rattle.fit_own.specs.Rows.{row_reached, alts_reached, below_reached};
 
 use fit_own::Reached;
 use fit_own::own::{own_taken, own_test};
-use image::kinds::{PatKind, pat_kind};
+use image::kinds::PatKind;
 use image::rows::{PatRow, list_at, pat_at};
 use image::{PatId, Tables};
 
@@ -30,18 +30,14 @@ fn with_test(test: bool, found: Reached) -> Reached
 }
 
 // The patterns that the list names: all are reached.
-#[cycle(alts_below_each_pairs_reached_sub)]
+#[cycle(reach)]
 fn each(image: &[u8], tables: Tables, bindings: &[u16], p: PatId, at: u16, count: u16) -> Reached
     requires { Parent image.now tables p.0 × Items image.now p.0 at count × (length bindings.now ≡ binding_count image.now) }
     ensures { result ≡ row_reached image.now bindings.now 1 at count }
 {
     let mut fails = false;
-    let mut i = at;
-    let mut left = count;
-    while left != 0 {
+    for i in at..at + count {
         let q = list_at(image, tables, i);
-        i += 1;
-        left -= 1;
         match reached(image, tables, bindings, PatId(q)) {
             Reached::Refused => {
                 return Reached::Refused;
@@ -56,18 +52,14 @@ fn each(image: &[u8], tables: Tables, bindings: &[u16], p: PatId, at: u16, count
 }
 
 // The fields of a Record: each is the second of two words.
-#[cycle(alts_below_each_pairs_reached_sub)]
+#[cycle(reach)]
 fn pairs(image: &[u8], tables: Tables, bindings: &[u16], p: PatId, at: u16, count: u16) -> Reached
     requires { Parent image.now tables p.0 × Pairs image.now p.0 at count × (length bindings.now ≡ binding_count image.now) }
     ensures { result ≡ row_reached image.now bindings.now 2 (at + 1) count }
 {
     let mut fails = false;
-    let mut i = at;
-    let mut left = count;
-    while left != 0 {
-        let q = list_at(image, tables, i + 1);
-        i += 2;
-        left -= 1;
+    for k in 0..count {
+        let q = list_at(image, tables, at + 2 * k + 1);
         match reached(image, tables, bindings, PatId(q)) {
             Reached::Refused => {
                 return Reached::Refused;
@@ -82,17 +74,13 @@ fn pairs(image: &[u8], tables: Tables, bindings: &[u16], p: PatId, at: u16, coun
 }
 
 // The alternatives of an Or: those up to the first that cannot fail.
-#[cycle(alts_below_each_pairs_reached_sub)]
+#[cycle(reach)]
 fn alts(image: &[u8], tables: Tables, bindings: &[u16], p: PatId, at: u16, count: u16) -> Reached
     requires { Parent image.now tables p.0 × Items image.now p.0 at count × (length bindings.now ≡ binding_count image.now) }
     ensures { result ≡ alts_reached image.now bindings.now at count }
 {
-    let mut i = at;
-    let mut left = count;
-    while left != 0 {
+    for i in at..at + count {
         let q = list_at(image, tables, i);
-        i += 1;
-        left -= 1;
         match reached(image, tables, bindings, PatId(q)) {
             Reached::Refused => {
                 return Reached::Refused;
@@ -107,7 +95,7 @@ fn alts(image: &[u8], tables: Tables, bindings: &[u16], p: PatId, at: u16, count
 }
 
 // A subpattern that may be absent. Where it is absent the word q is 65535.
-#[cycle(alts_below_each_pairs_reached_sub)]
+#[cycle(reach)]
 fn sub(image: &[u8], tables: Tables, bindings: &[u16], p: PatId, q: u16) -> Reached
     requires { Parent image.now tables p.0 × (all_in (λ s. ltb s p.0) (if_present q) ≡ true) × (length bindings.now ≡ binding_count image.now) }
     ensures { result ≡ reached_by? image.now bindings.now (tree? (tree image.now) q) }
@@ -119,7 +107,7 @@ fn sub(image: &[u8], tables: Tables, bindings: &[u16], p: PatId, q: u16) -> Reac
 }
 
 // The patterns below p, by its kind: a Slice's suffix stands behind its prefix.
-#[cycle(alts_below_each_pairs_reached_sub)]
+#[cycle(reach)]
 fn below(
     image: &[u8],
     tables: Tables,
@@ -144,13 +132,13 @@ fn below(
 }
 
 // The pattern p, and those below it that are reached.
-#[cycle(alts_below_each_pairs_reached_sub)]
+#[cycle(reach)]
 pub fn reached(image: &[u8], tables: Tables, bindings: &[u16], p: PatId) -> Reached
     requires { (valid image.now ≡ true) × Whole image.now tables × (p.0 < pattern_count image.now) × (length bindings.now ≡ binding_count image.now) }
     ensures { result ≡ reached_by image.now bindings.now (tree image.now p.0) }
 {
     let row = pat_at(image, tables, p);
-    let kind = pat_kind(row.kind);
+    let kind = PatKind::from(row.kind);
     if !own_taken(image, tables, bindings, row, kind) {
         return Reached::Refused;
     }

@@ -53,6 +53,9 @@ comparing_none image row e = sym (ap (alternatives_fit image) (row_none image ro
 pub comparing_start : {image : List ℕ} {row others : Row} (p : ℕ) → Lies image row → (row.count ≡ 0 → ⊥) → others ≡ rest_of row → Comparing image p others others
 comparing_start p l ne n = record { lies = rw n (rest_lies l ne); same = refl }
 
+pub comparing_at : {image : List ℕ} {p : ℕ} {others left next : Row} → next ≡ left → Comparing image p others left → Comparing image p others next
+comparing_at e C = rw e C
+
 -- the others bind what the first binds
 pub compared : (image : List ℕ) (row : Row) {others : Row} {p : ℕ} → (row.count ≡ 0 → ⊥) → p ≡ number_at image row.step row.from → others ≡ rest_of row →
     all_bind image (bound_in image (tree image p)) (row_trees image others) ≡ alternatives_fit image (row_trees image row)
@@ -94,6 +97,9 @@ pub record Apart (image : List ℕ) (row left : Row) : Type 0 where
 
 pub apart_start : {image : List ℕ} {row : Row} → Lies image row → all_bindings_fit image (row_trees image row) ≡ true → Apart image row row
 apart_start l f = record { lies = l; fits = f; same = refl }
+
+pub apart_at : {image : List ℕ} {row left next : Row} → next ≡ left → Apart image row left → Apart image row next
+apart_at e A = rw e A
 
 module _ {image : List ℕ} {row left : Row} (A : Apart image row left) where
   pub apart_end : left.count ≡ 0 → true ≡ once (bound_in_row image row)

@@ -20,6 +20,9 @@ pub record Finding (image : List ℕ) (f : BoundAt → Bool) (row left : Row) : 
 pub finding_start : {image : List ℕ} {f : BoundAt → Bool} {row : Row} → Lies image row → Finding image f row row
 finding_start l = record { walk = at_start_lem l; same = refl }
 
+pub finding_at : {image : List ℕ} {f : BoundAt → Bool} {row left next : Row} → next ≡ left → Finding image f row left → Finding image f row next
+finding_at e F = rw e F
+
 module _ {image : List ℕ} {f : BoundAt → Bool} {row left : Row} (F : Finding image f row left) where
   pub finding_none : left.count ≡ 0 → false ≡ any_of f (bound_in_row image row)
   unfolding any_of
@@ -56,6 +59,9 @@ pub record Asking (image : List ℕ) (f : BoundAt → Bool) (row left : Row) : T
 pub asking_start : {image : List ℕ} {f : BoundAt → Bool} {row : Row} → Lies image row → Asking image f row row
 asking_start l = record { walk = at_start_lem l; same = refl }
 
+pub asking_at : {image : List ℕ} {f : BoundAt → Bool} {row left next : Row} → next ≡ left → Asking image f row left → Asking image f row next
+asking_at e F = rw e F
+
 module _ {image : List ℕ} {f : BoundAt → Bool} {row left : Row} (F : Asking image f row left) where
   pub asking_none : left.count ≡ 0 → true ≡ all_of f (bound_in_row image row)
   unfolding all_of
@@ -91,6 +97,9 @@ pub record Fits (image : List ℕ) (row left : Row) : Type 0 where
 
 pub fits_start : {image : List ℕ} {row : Row} → Lies image row → Fits image row row
 fits_start l = record { walk = at_start_lem l; same = refl }
+
+pub fits_at : {image : List ℕ} {row left next : Row} → next ≡ left → Fits image row left → Fits image row next
+fits_at e F = rw e F
 
 module _ {image : List ℕ} {row left : Row} (F : Fits image row left) where
   pub fits_none : left.count ≡ 0 → true ≡ all_bindings_fit image (row_trees image row)

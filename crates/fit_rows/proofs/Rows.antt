@@ -1,6 +1,6 @@
 -- A row of patterns: its first pattern, and the row without it. Assumes nothing.
-use Prim.Native.Nat.{ℕ, zero, suc, ◌+◌, ◌-◌, ◌≤◌, ◌<◌}
-use mathlib.Core.Path.{◌≡◌, refl, sym, ◌∙◌}
+use Prim.Native.Nat.{ℕ, zero, suc, ◌+◌, ◌-◌, ◌*◌, ◌≤◌, ◌<◌}
+use mathlib.Core.Path.{◌≡◌, refl, sym, ap, ◌∙◌}
 use mathlib.Core.Bool.{Bool, true, false, cond, ◌&&◌, ◌||◌}
 use mathlib.Core.List.{List}
 use native.Mathlib.Omega.{arith}
@@ -11,7 +11,7 @@ use Rattle.image.specs.Tree.{Pats, cons, trees, tree}
 use Rattle.image.proofs.Bools.{and_left, and_right, and_true}
 use Rattle.fit_rows.specs.declared.nodes.Row.{Row}
 use Rattle.fit_rows.specs.declared.nodes.Node.{Node}
-use Rattle.fit_rows.specs.Nodes.{number_at, numbers, row_trees, there, Lies, rest_of, first_only, telling_of}
+use Rattle.fit_rows.specs.Nodes.{number_at, numbers, row_trees, there, Lies, rest_of, listed_row, first_only, telling_of}
 
 -- the trees of a row that is not empty
 pub row_next : (image : List ℕ) (row : Row) → (row.count ≡ 0 → ⊥) → row_trees image row ≡ cons (tree image (number_at image row.step row.from)) (row_trees image (rest_of row))
@@ -79,6 +79,34 @@ module _ {image : List ℕ} {row : Row} (l : Lies image row) (ne : row.count ≡
       by : (s : ℕ) → row.step ≡ s → row.from + s < 65536
       by zero e = let same : number_at image row.step row.from ≡ row.from = unfold number_at in rw e refl in omega (arith, first_there, same)
       by (suc s) e = let at = first_listed (λ z. let never : suc s ≡ 0 = sym e ∙ z in omega (arith, never)) in omega (arith, at, first_of_lem.small, e)
+
+-- the row without its first k patterns
+abbrev pub row_at : Row → ℕ → Row
+row_at row k = listed_row row.below row.step (row.from + row.step * k) (row.count - k)
+
+pub row_start : (row : Row) → row_at row 0 ≡ row
+row_start row =
+    let from : row.from + row.step * 0 ≡ row.from = omega arith in
+    let count : row.count - 0 ≡ row.count = omega arith in
+    rw (from, count) refl
+
+row_on : (row : Row) (k : ℕ) → row_at row (k + 1) ≡ rest_of (row_at row k)
+row_on row k =
+    let from : row.from + row.step * (k + 1) ≡ row.from + row.step * k + row.step = omega arith in
+    let count : row.count - (k + 1) ≡ row.count - k - 1 = omega arith in
+    rw (from, count) refl
+
+-- its place is a word
+pub behind_small : {image : List ℕ} (row : Row) (k : ℕ) → Lies image (row_at row k) → k < row.count → pattern_count image ≤ 512 → list_count image ≤ 2048 → (row.from + row.step * k < 65536) × (k ≤ row.count)
+behind_small row k l h few short = let small = rest_small l (λ e. omega arith) few short in (omega (arith, small), omega arith)
+
+-- a turn of a walk that comes to that row
+module _ (row : Row) (k : ℕ) {left : Row} (is : left ≡ row_at row k) where
+  pub some_there : k < row.count → left.count ≡ 0 → ⊥
+  some_there h e = let count : left.count ≡ row.count - k = ap (λ (r : Row). r.count) is in omega arith
+
+  pub next_at : row_at row (k + 1) ≡ rest_of left
+  next_at = row_on row k ∙ ap rest_of (sym is)
 
 -- of an Or the first alternative lies there
 pub telling_lies : {image : List ℕ} (node : Node) → Lies image node.row → Lies image (telling_of node)

@@ -5,7 +5,7 @@ ghost use Rattle.image.specs.Valid.{valid};
 ghost use Rattle.fit_rows.specs.Nodes.{Lies};
 ghost use Rattle.fit_rows.specs.Bound.{any_of, meets, owned, bound_in_row};
 
-use super::nodes::{Own, Row, first, node_at, rest, telling};
+use super::nodes::{Own, Row, behind, first, node_at, telling};
 use image::{BindingId, Tables};
 
 // What is looked for: a binding at a type, a binding of an array's rest at the elements' type and how many are left, or a binding at any type.
@@ -74,18 +74,12 @@ pub fn found(image: &[u8], tables: Tables, wanted: Wanted, row: Row) -> bool
     requires { (valid image.now ≡ true) × Whole image.now tables × Lies image.now row }
     ensures { result ≡ any_of (meets wanted) (bound_in_row image.now row) }
 {
-    let mut left = row;
-    while left.count != 0 {
-        let p = first(image, tables, left);
+    for k in 0..row.count {
+        let p = first(image, tables, behind(row, k));
         let node = node_at(image, tables, p);
-        let own = node.own;
-        if wants(wanted, own) {
+        if wants(wanted, node.own) || found(image, tables, wanted, telling(node)) {
             return true;
         }
-        if found(image, tables, wanted, telling(node)) {
-            return true;
-        }
-        left = rest(left);
     }
     false
 }

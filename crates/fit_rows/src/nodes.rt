@@ -1,5 +1,5 @@
 // A pattern's own binding, and its row of subpatterns.
-ghost use Rattle.std.specs.Prelude.{◌≡◌, true, ◌||◌, ◌+◌, ◌<◌, eqb, ltb};
+ghost use Rattle.std.specs.Prelude.{◌≡◌, true, ◌||◌, ◌+◌, ◌-◌, ◌*◌, ◌<◌, ◌≤◌, eqb, ltb};
 ghost use Rattle.image.specs.Tables.{Whole, type_count, pattern_count};
 ghost use Rattle.image.specs.Kinds.{pat_kind, type_kind};
 ghost use Rattle.image.specs.Rows.{pat_at, type_at};
@@ -7,7 +7,7 @@ ghost use Rattle.image.specs.Rules.{absent};
 ghost use Rattle.image.specs.Valid.{valid};
 ghost use Rattle.fit_rows.specs.Nodes.{Lies, number_at, rest_of, listed_row, present_row, one_row, plain, bare, alternatives_node, bind_node, rest_of_type, rest_by_kind, rest_own, node_by, node_of, telling_of};
 
-use image::kinds::{PatKind, TypeKind, pat_kind, type_kind};
+use image::kinds::{PatKind, TypeKind};
 use image::rows::{PatRow, list_at, pat_at, type_at};
 use image::{BindingId, PatId, Tables};
 
@@ -54,10 +54,21 @@ pub fn rest(row: Row) -> Row
     ensures { result ≡ rest_of row }
 {
     Row {
-        below: row.below,
-        step: row.step,
         from: row.from + row.step,
         count: row.count - 1,
+        ..row
+    }
+}
+
+// The row without its first k patterns.
+pub fn behind(row: Row, k: u16) -> Row
+    requires { (row.from + row.step * k < 65536) × (k ≤ row.count) }
+    ensures { result ≡ listed_row row.below row.step (row.from + row.step * k) (row.count - k) }
+{
+    Row {
+        from: row.from + row.step * k,
+        count: row.count - k,
+        ..row
     }
 }
 
@@ -146,7 +157,7 @@ fn rest_of_type(image: &[u8], tables: Tables, b: BindingId, t: u16, items: u16) 
     ensures { result ≡ rest_of_type (type_kind (type_at image.now t).kind) (type_at image.now t) b t items }
 {
     let row = type_at(image, tables, t);
-    match type_kind(row.kind) {
+    match TypeKind::from(row.kind) {
         TypeKind::Array => {
             if row.b <= items {
                 return Own::Rest(b, row.a, 0);
@@ -177,7 +188,7 @@ fn rest_own(image: &[u8], tables: Tables, d: u16, t: u16, items: u16) -> Own
         return Own::None;
     }
     let row = pat_at(image, tables, PatId(d));
-    rest_by_kind(image, tables, pat_kind(row.kind), row.a, t, items)
+    rest_by_kind(image, tables, PatKind::from(row.kind), row.a, t, items)
 }
 
 // A slice: the binding of its rest, and its prefix and suffix, which stand in one row.
@@ -216,7 +227,7 @@ pub fn node_at(image: &[u8], tables: Tables, p: PatId) -> Node
     ensures { result ≡ node_of image.now p.0 }
 {
     let row = pat_at(image, tables, p);
-    node_by(image, tables, p, row, pat_kind(row.kind))
+    node_by(image, tables, p, row, PatKind::from(row.kind))
 }
 
 // The subpatterns whose bindings are the pattern's: of an Or the first alternative.

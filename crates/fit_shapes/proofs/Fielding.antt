@@ -1,4 +1,5 @@
 -- The types of fields and the field numbers of a Record, by the ways through the code. Assumes nothing.
+use Rattle.std.specs.Prelude.{Some, None}
 use Prim.Native.Nat.{ℕ, zero, suc, ◌+◌, ◌-◌, ◌≤◌, ◌<◌}
 use mathlib.Core.Path.{◌≡◌, refl, sym, ap, ◌∙◌}
 use mathlib.Core.Bool.{Bool, true, false, cond, false≢true}
@@ -25,7 +26,6 @@ use Rattle.place.proofs.Ranges.{before_range, past_range, in_range_lem}
 use Rattle.cases_spec.specs.Cases.{tuple_fields}
 use Rattle.meaning.specs.Typing.{adt_variants, variant_fields, field_type}
 use Rattle.meaning.specs.Fit.{field_numbers}
-use Rattle.fit_shapes.specs.declared.TypeNumber.{TypeNumber}
 use Rattle.fit_shapes.specs.Numbers.{Numbers, TypesAt, FieldsOf, stands_again}
 use Rattle.fit_shapes.proofs.Shaped.{tuple_of, adt_of, no_fields_lem, no_variants, tuple_listed}
 use Rattle.fit_shapes.proofs.Numbering.{numbers_none, numbers_some}
@@ -123,7 +123,7 @@ module _ (image : List ℕ) where
 
   -- `field_type`
   module _ (from count f : ℕ) (few : count ≤ 65535) where
-    pub field_past : count ≤ f → Numbers image TypeNumber.None (field_type (listed image 1 from count) (word? f))
+    pub field_past : count ≤ f → Numbers image None (field_type (listed image 1 from count) (word? f))
     unfolding field_type word?
     field_past h = numbers_none image (go (eqb f absent))
       where
@@ -131,7 +131,7 @@ module _ (image : List ℕ) where
         go true = refl
         go false = rw (length_listed image 1 from count, le-ltb f count h)
 
-    pub field_here : f < count → TypesAt image from count → Numbers image (TypeNumber.Some (list_at image (from + f))) (field_type (listed image 1 from count) (word? f))
+    pub field_here : f < count → TypesAt image from count → Numbers image (Some (list_at image (from + f))) (field_type (listed image 1 from count) (word? f))
     unfolding field_type
     field_here h types =
         numbers_some image (list_at image (from + f))
@@ -155,6 +155,10 @@ module _ {y : ℕ} {xs ys : List ℕ} (is : xs ≡ y ∷ ys) where
   pub distinct_next : member y ys ≡ false → distinct xs ≡ distinct ys
   unfolding distinct
   distinct_next e = rw (is, e)
+
+-- a loop over a range: at its turns some are left
+pub some_left : {end i : ℕ} → i < end → end - i ≡ 0 → ⊥
+some_left h e = omega arith
 
 module _ (image : List ℕ) where
   -- the field numbers of a Record's words from i on

@@ -1,17 +1,18 @@
 -- Types by their numbers, as the code has them: at a place, and in the list. Assumes nothing: these are definitions.
+use Rattle.std.specs.Prelude.{Some, None}
 use Rattle.std.specs.Prelude.{ℕ, ◌+◌, ◌≤◌, ◌≡◌, Bool, true, false, List}
 use Rattle.std.proofs.Math.Option.{Option, none, some}
 use Rattle.image.specs.Tables.{list_count}
 use Rattle.image.specs.Lists.{all_in, member}
 use Rattle.image.specs.Rules.{names_type, listed}
 use Rattle.meaning.specs.Fit.{field_numbers}
-use Rattle.fit_shapes.specs.declared.TypeNumber.{TypeNumber}
+use Rattle.fit_shapes.specs.Results.{TypeNumber}
 use Rattle.fit_shapes.specs.declared.fields.Fields.{Fields}
 
 -- a type's number, if there is one
 abbrev pub type_number : TypeNumber → Option ℕ
-type_number TypeNumber.None = none
-type_number (TypeNumber.Some t) = some t
+type_number None = none
+type_number (Some t) = some t
 
 -- it names a type, if there is one
 abbrev pub names_type? : List ℕ → Option ℕ → Bool

@@ -12,7 +12,6 @@ ghost use Rattle.meaning.specs.Typing.{adt_variants, variant_fields, field_type}
 ghost use Rattle.meaning.specs.Fit.{record_fields_differ};
 ghost use Rattle.fit_shapes.specs.Numbers.{Numbers, TypesAt, FieldsOf, stands_again};
 
-use super::TypeNumber;
 use image::Tables;
 use image::rows::{list_at, type_at, variant_at};
 
@@ -72,14 +71,14 @@ pub fn variant_fields(image: &[u8], tables: Tables, t: u16, v: u16) -> Fields
 }
 
 // The type of the field f, where it is there.
-pub fn field_type(image: &[u8], tables: Tables, fields: Fields, f: u16) -> TypeNumber
+pub fn field_type(image: &[u8], tables: Tables, fields: Fields, f: u16) -> Option<u16>
     requires { Whole image.now tables × TypesAt image.now fields.from fields.count }
     ensures { Numbers image.now result (field_type (listed image.now 1 fields.from fields.count) (word? f)) }
 {
     if fields.count <= f {
-        return TypeNumber::None;
+        return None;
     }
-    TypeNumber::Some(list_at(image, tables, fields.from + f))
+    Some(list_at(image, tables, fields.from + f))
 }
 
 // The field f stands among the `count` fields of a Record from `from` on.
@@ -90,14 +89,10 @@ fn stands_again(image: &[u8], tables: Tables, f: u16, from: u16, count: u16) -> 
     if f == 65535 {
         return false;
     }
-    let mut i = from;
-    let mut left = count;
-    while left != 0 {
-        if list_at(image, tables, i) == f {
+    for k in 0..count {
+        if list_at(image, tables, from + 2 * k) == f {
             return true;
         }
-        i += 2;
-        left -= 1;
     }
     false
 }
@@ -107,13 +102,10 @@ pub fn record_fields_differ(image: &[u8], tables: Tables, from: u16, count: u16)
     requires { Whole image.now tables × (from + 2 * count ≤ list_count image.now) }
     ensures { result ≡ record_fields_differ (map word? (listed image.now 2 from count)) }
 {
-    let mut i = from;
-    let mut left = count;
-    while left != 0 {
+    for k in 0..count {
+        let i = from + 2 * k;
         let f = list_at(image, tables, i);
-        i += 2;
-        left -= 1;
-        if stands_again(image, tables, f, i, left) {
+        if stands_again(image, tables, f, i + 2, count - k - 1) {
             return false;
         }
     }

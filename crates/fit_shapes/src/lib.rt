@@ -4,10 +4,3 @@
 pub mod fields; // fields.rt: the types of fields, and a Record's field numbers
 pub mod places; // places.rt: a pattern's type is its place's
 pub mod slices; // slices.rt: the count of a slice's items, and its rest
-
-// A type's number, where there is a type.
-#[derive(Clone, Copy)]
-pub enum TypeNumber {
-    None,
-    Some(u16),
-}

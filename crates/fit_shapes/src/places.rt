@@ -8,63 +8,55 @@ ghost use Rattle.meaning.specs.Typing.{element_type};
 ghost use Rattle.meaning.specs.Fit.{behind, is_type};
 ghost use Rattle.fit_shapes.specs.Numbers.{type_number, names_type?, Numbers};
 
-use super::TypeNumber;
 use image::Tables;
 use image::rows::{PatRow, type_at};
 
 // What a reference refers to.
-pub fn referent_of(image: &[u8], tables: Tables, t: u16) -> TypeNumber
+pub fn referent_of(image: &[u8], tables: Tables, t: u16) -> Option<u16>
     requires { (valid image.now ≡ true) × Whole image.now tables × (t < type_count image.now) }
     ensures { Numbers image.now result (referent (ty_of image.now t).shape) }
 {
     let row = type_at(image, tables, t);
     if row.kind != 7 {
-        return TypeNumber::None;
+        return None;
     }
-    TypeNumber::Some(row.a)
+    Some(row.a)
 }
 
 // The type behind so many references.
-fn type_behind(image: &[u8], tables: Tables, derefs: u16, place: TypeNumber) -> TypeNumber
+fn type_behind(image: &[u8], tables: Tables, derefs: u16, place: Option<u16>) -> Option<u16>
     requires { (valid image.now ≡ true) × Whole image.now tables × (names_type? image.now (type_number place) ≡ true) }
     ensures { type_number result ≡ behind image.now derefs (type_number place) }
 {
     if derefs == 0 {
         return place;
     }
-    match place {
-        TypeNumber::None => TypeNumber::None,
-        TypeNumber::Some(t) => type_behind(
-            image,
-            tables,
-            derefs - 1,
-            referent_of(image, tables, t),
-        ),
-    }
+    let t = place?;
+    type_behind(image, tables, derefs - 1, referent_of(image, tables, t))
 }
 
 // A row's type is the place's after its derefs.
-pub fn type_is_the_places(image: &[u8], tables: Tables, row: PatRow, place: TypeNumber) -> bool
+pub fn type_is_the_places(image: &[u8], tables: Tables, row: PatRow, place: Option<u16>) -> bool
     requires { (valid image.now ≡ true) × Whole image.now tables × (names_type? image.now (type_number place) ≡ true) }
     ensures { result ≡ is_type (behind image.now row.derefs (type_number place)) row.ty }
 {
     match type_behind(image, tables, row.derefs, place) {
-        TypeNumber::None => false,
-        TypeNumber::Some(t) => t == row.ty,
+        None => false,
+        Some(t) => t == row.ty,
     }
 }
 
 // The type of the elements of an array or a slice.
-pub fn element_type(image: &[u8], tables: Tables, t: u16) -> TypeNumber
+pub fn element_type(image: &[u8], tables: Tables, t: u16) -> Option<u16>
     requires { (valid image.now ≡ true) × Whole image.now tables × (t < type_count image.now) }
     ensures { Numbers image.now result (element_type (ty_of image.now t).shape) }
 {
     let row = type_at(image, tables, t);
     if row.kind == 8 {
-        return TypeNumber::Some(row.a);
+        return Some(row.a);
     }
     if row.kind == 9 {
-        return TypeNumber::Some(row.a);
+        return Some(row.a);
     }
-    TypeNumber::None
+    None
 }

@@ -7,7 +7,7 @@ ghost use Rattle.image.specs.Valid.{valid};
 ghost use Rattle.meaning.specs.Fit.{items_fit, is_rest?, rest_fits};
 ghost use Rattle.fit_shapes.specs.Slices.{rest_kind, pattern_or_absent};
 
-use image::kinds::{PatKind, pat_kind};
+use image::kinds::PatKind;
 use image::rows::{pat_at, type_at};
 use image::{PatId, Tables};
 
@@ -44,7 +44,7 @@ fn is_rest(image: &[u8], tables: Tables, q: u16) -> bool
     if q == 65535 {
         return false;
     }
-    is_rest_kind(pat_kind(pat_at(image, tables, PatId(q)).kind))
+    is_rest_kind(PatKind::from(pat_at(image, tables, PatId(q)).kind))
 }
 
 // The rest of a slice pattern, which may be absent: Rest, Wild, or Bind over Rest. Where it is absent the word `rest` is 65535.
@@ -56,7 +56,7 @@ pub fn rest_fits(image: &[u8], tables: Tables, rest: u16) -> bool
         return true;
     }
     let row = pat_at(image, tables, PatId(rest));
-    match pat_kind(row.kind) {
+    match PatKind::from(row.kind) {
         PatKind::Rest => true,
         PatKind::Wild => true,
         PatKind::Bind => is_rest(image, tables, row.b),

@@ -12,7 +12,7 @@ use Rattle.image.specs.Tree.{tree?, tree, word?}
 use Rattle.cases_spec.specs.Cases.{referent, tuple_fields}
 use Rattle.meaning.specs.Typing.{variant_fields, element_type}
 use Rattle.meaning.specs.Fit.{record_fields_differ, discriminants_differ, items_fit, rest_fits, row_fits, by_fields_fit, items_all_fit, types_fit, types_fit?}
-use Rattle.fit_shapes.specs.declared.TypeNumber.{TypeNumber}
+use Rattle.fit_shapes.specs.Results.{TypeNumber}
 use Rattle.fit_shapes.specs.declared.fields.Fields.{Fields}
 use Rattle.fit_shapes.specs.Numbers.{type_number, Numbers, FieldsOf}
 use Rattle.fit_types.specs.Parts.{fitting_at, parts_fit}

@@ -103,22 +103,23 @@ module _ (image : List ℕ) where
       let place : from + 1 * (count - k) ≡ from + (count - k) = omega arith in
       record { within = omega arith; named = rw (last, place) at (all_drop (names_type image) 1 from count (count - k) (omega arith) t.named) }
 
-  -- where a loop has come to: as many are left, and they end where all do
-  pub items_along : {p at count i left : ℕ} → Items image p at count → left ≤ count → i + left ≡ at + count → Items image p i left
-  items_along {p} {at} {count} {i} {left} items few e =
-      let place : at + (count - left) ≡ i = omega arith in
-      let last : count - (count - left) ≡ left = omega arith in
-      rw (last, place) at (items_drop (count - left) (omega arith) items)
+  -- where a loop has come to: those that are left
+  pub items_left : {p at count i : ℕ} → Items image p at count → at ≤ i → i < at + count → Items image p i (at + count - i)
+  items_left {p} {at} {count} {i} items past few =
+      let place : at + (i - at) ≡ i = omega arith in
+      let left : count - (i - at) ≡ at + count - i = omega arith in
+      rw (left, place) at (items_drop (i - at) (omega arith) items)
 
-  pub types_along : {from count t left : ℕ} → TypesAt image from count → left ≤ count → t + left ≡ from + count → TypesAt image t left
-  types_along {from} {count} {t} {left} types few e = let place : from + (count - left) ≡ t = omega arith in rw place at (types_last left few types)
+  pub types_left : {from count k : ℕ} → TypesAt image from count → k < count → TypesAt image (from + k) (count - k)
+  types_left {from} {count} {k} types few =
+      let behind : count - (count - k) ≡ k = omega arith in
+      rw behind at (types_last (count - k) (omega arith) types)
 
-  pub pairs_along : {p at count i left : ℕ} → Pairs image p at count → left ≤ count → i + 2 * left ≡ at + 2 * count → Pairs image p i left
-  pairs_along {p} {at} {count} {i} {left} pairs few e =
+  pub pairs_left : {p at count k : ℕ} → Pairs image p at count → k < count → Pairs image p (at + 2 * k) (count - k)
+  pairs_left {p} {at} {count} {k} pairs few =
       let w = pairs.within in
-      let place : at + 1 + 2 * (count - left) ≡ i + 1 = omega arith in
-      let last : count - (count - left) ≡ left = omega arith in
-      record { within = omega arith; below = rw (last, place) at (all_drop (λ q. ltb q p) 2 (at + 1) count (count - left) (omega arith) pairs.below) }
+      let place : at + 1 + 2 * k ≡ at + 2 * k + 1 = omega arith in
+      record { within = omega arith; below = rw place at (all_drop (λ q. ltb q p) 2 (at + 1) count k (omega arith) pairs.below) }
 
   -- `row_fits`
   module _ (ellipsis at count from n : ℕ) where

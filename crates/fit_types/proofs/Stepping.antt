@@ -15,7 +15,7 @@ use Rattle.image.proofs.Bools.{and_left}
 use Rattle.marks.proofs.Takes.{listed_next, listed_none}
 use Rattle.meaning.specs.Typing.{field_type}
 use Rattle.meaning.specs.Fit.{by_fields_fit, items_all_fit, types_fit, fitting, each_fits}
-use Rattle.fit_shapes.specs.declared.TypeNumber.{TypeNumber as Number}
+use Rattle.fit_shapes.specs.Results.{TypeNumber as Number}
 use Rattle.fit_shapes.specs.Numbers.{type_number, Numbers, TypesAt}
 use Rattle.fit_types.specs.Parts.{fitting_at, Items, Pairs}
 

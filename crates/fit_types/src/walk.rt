@@ -11,40 +11,33 @@ ghost use Rattle.fit_shapes.specs.Numbers.{type_number, names_type?, TypesAt};
 ghost use Rattle.fit_types.specs.Parts.{fitting_at, parts_fit, Parent, Node, Items, Pairs};
 
 use fit_literals::operands::{ends_fit, literal_fits};
-use fit_shapes::TypeNumber;
 use fit_shapes::fields::{Fields, field_type, record_fields_differ, tuple_fields, variant_fields};
 use fit_shapes::places::{element_type, referent_of, type_is_the_places};
 use fit_shapes::slices::{items_fit, rest_fits};
 use fit_variants::discriminants::discriminants_differ;
 use fit_variants::paths::path_fits;
-use image::kinds::{PatKind, pat_kind, path_kind};
+use image::kinds::{PatKind, PathKind};
 use image::rows::{PatRow, list_at, pat_at};
 use image::{PatId, Tables};
 
 // Arguments in a row, each on the type that stands at its place from `types` on.
-#[cycle(each_fits_fields_fit_items_all_fit_parts_fit_record_fits_row_fits_slice_fits_sub_fits_tuple_struct_fits_types_fit)]
+#[cycle(fit)]
 fn each_fits(image: &[u8], tables: Tables, p: PatId, at: u16, count: u16, types: u16) -> bool
     requires { Parent image.now tables p.0 × Items image.now p.0 at count × TypesAt image.now types count }
     ensures { result ≡ each_fits (fitting_at image.now 1 at count) (listed image.now 1 types count) }
 {
-    let mut i = at;
-    let mut t = types;
-    let mut left = count;
-    while left != 0 {
-        let q = list_at(image, tables, i);
-        let ty = list_at(image, tables, t);
-        if !types_fit(image, tables, TypeNumber::Some(ty), PatId(q)) {
+    for k in 0..count {
+        let q = list_at(image, tables, at + k);
+        let ty = list_at(image, tables, types + k);
+        if !types_fit(image, tables, Some(ty), PatId(q)) {
             return false;
         }
-        i += 1;
-        t += 1;
-        left -= 1;
     }
     true
 }
 
 // Arguments in a row, with an ellipsis that may be absent, on fields.
-#[cycle(each_fits_fields_fit_items_all_fit_parts_fit_record_fits_row_fits_slice_fits_sub_fits_tuple_struct_fits_types_fit)]
+#[cycle(fit)]
 fn row_fits(
     image: &[u8],
     tables: Tables,
@@ -85,59 +78,48 @@ fn row_fits(
 }
 
 // The fields of a Record, each on its own type.
-#[cycle(each_fits_fields_fit_items_all_fit_parts_fit_record_fits_row_fits_slice_fits_sub_fits_tuple_struct_fits_types_fit)]
+#[cycle(fit)]
 fn fields_fit(image: &[u8], tables: Tables, p: PatId, at: u16, count: u16, fields: Fields) -> bool
     requires { Parent image.now tables p.0 × Pairs image.now p.0 at count × TypesAt image.now fields.from fields.count }
     ensures { result ≡ by_fields_fit (map word? (listed image.now 2 at count)) (fitting_at image.now 2 (at + 1) count) (listed image.now 1 fields.from fields.count) }
 {
-    let mut i = at;
-    let mut left = count;
-    while left != 0 {
+    for k in 0..count {
+        let i = at + 2 * k;
         let f = list_at(image, tables, i);
         let q = list_at(image, tables, i + 1);
-        if !types_fit(
-            image,
-            tables,
-            field_type(image, tables, fields, f),
-            PatId(q),
-        ) {
+        let ty = field_type(image, tables, fields, f);
+        if !types_fit(image, tables, ty, PatId(q)) {
             return false;
         }
-        i += 2;
-        left -= 1;
     }
     true
 }
 
 // Items, all on one type.
-#[cycle(each_fits_fields_fit_items_all_fit_parts_fit_record_fits_row_fits_slice_fits_sub_fits_tuple_struct_fits_types_fit)]
+#[cycle(fit)]
 fn items_all_fit(
     image: &[u8],
     tables: Tables,
     p: PatId,
     at: u16,
     count: u16,
-    place: TypeNumber,
+    place: Option<u16>,
 ) -> bool
     requires { Parent image.now tables p.0 × Items image.now p.0 at count × (names_type? image.now (type_number place) ≡ true) }
     ensures { result ≡ items_all_fit (fitting_at image.now 1 at count) (type_number place) }
 {
-    let mut i = at;
-    let mut left = count;
-    while left != 0 {
+    for i in at..at + count {
         let q = list_at(image, tables, i);
         if !types_fit(image, tables, place, PatId(q)) {
             return false;
         }
-        i += 1;
-        left -= 1;
     }
     true
 }
 
 // A subpattern that may be absent, on a place of this type. Where it is absent the word q is 65535.
-#[cycle(each_fits_fields_fit_items_all_fit_parts_fit_record_fits_row_fits_slice_fits_sub_fits_tuple_struct_fits_types_fit)]
-fn sub_fits(image: &[u8], tables: Tables, p: PatId, q: u16, place: TypeNumber) -> bool
+#[cycle(fit)]
+fn sub_fits(image: &[u8], tables: Tables, p: PatId, q: u16, place: Option<u16>) -> bool
     requires { Parent image.now tables p.0 × (all_in (λ s. ltb s p.0) (if_present q) ≡ true) × (names_type? image.now (type_number place) ≡ true) }
     ensures { result ≡ types_fit? image.now (tree? (tree image.now) q) (type_number place) }
 {
@@ -148,7 +130,7 @@ fn sub_fits(image: &[u8], tables: Tables, p: PatId, q: u16, place: TypeNumber) -
 }
 
 // A Record: its fields differ, its enum's discriminants too, and each field fits.
-#[cycle(each_fits_fields_fit_items_all_fit_parts_fit_record_fits_row_fits_slice_fits_sub_fits_tuple_struct_fits_types_fit)]
+#[cycle(fit)]
 fn record_fits(image: &[u8], tables: Tables, p: PatId, row: PatRow) -> bool
     requires { Node image.now tables p.0 row PatKind.Record }
     ensures { result ≡ parts_fit image.now PatKind.Record row }
@@ -164,7 +146,7 @@ fn record_fits(image: &[u8], tables: Tables, p: PatId, row: PatRow) -> bool
 }
 
 // A TupleStruct: its enum's discriminants differ, and its arguments fit.
-#[cycle(each_fits_fields_fit_items_all_fit_parts_fit_record_fits_row_fits_slice_fits_sub_fits_tuple_struct_fits_types_fit)]
+#[cycle(fit)]
 fn tuple_struct_fits(image: &[u8], tables: Tables, p: PatId, row: PatRow) -> bool
     requires { Node image.now tables p.0 row PatKind.TupleStruct }
     ensures { result ≡ parts_fit image.now PatKind.TupleStruct row }
@@ -177,7 +159,7 @@ fn tuple_struct_fits(image: &[u8], tables: Tables, p: PatId, row: PatRow) -> boo
 }
 
 // A Slice: the count of its items, its rest, its prefix and its suffix.
-#[cycle(each_fits_fields_fit_items_all_fit_parts_fit_record_fits_row_fits_slice_fits_sub_fits_tuple_struct_fits_types_fit)]
+#[cycle(fit)]
 fn slice_fits(image: &[u8], tables: Tables, p: PatId, row: PatRow) -> bool
     requires { Node image.now tables p.0 row PatKind.Slice }
     ensures { result ≡ parts_fit image.now PatKind.Slice row }
@@ -196,7 +178,7 @@ fn slice_fits(image: &[u8], tables: Tables, p: PatId, row: PatRow) -> bool
 }
 
 // What the pattern p asks besides its own type, by its kind.
-#[cycle(each_fits_fields_fit_items_all_fit_parts_fit_record_fits_row_fits_slice_fits_sub_fits_tuple_struct_fits_types_fit)]
+#[cycle(fit)]
 fn parts_fit(image: &[u8], tables: Tables, p: PatId, row: PatRow, kind: PatKind) -> bool
     requires { Node image.now tables p.0 row kind }
     ensures { result ≡ parts_fit image.now kind row }
@@ -207,13 +189,13 @@ fn parts_fit(image: &[u8], tables: Tables, p: PatId, row: PatRow, kind: PatKind)
             let fields = tuple_fields(image, tables, ty);
             row_fits(image, tables, p, row.a, row.b, row.c, fields)
         }
-        PatKind::Or => items_all_fit(image, tables, p, row.a, row.b, TypeNumber::Some(ty)),
+        PatKind::Or => items_all_fit(image, tables, p, row.a, row.b, Some(ty)),
         PatKind::Record => record_fits(image, tables, p, row),
         PatKind::Range => ends_fit(image, tables, ty, row.a, row.b),
         PatKind::Slice => slice_fits(image, tables, p, row),
-        PatKind::Path => path_fits(image, tables, ty, path_kind(row.a), row.b),
+        PatKind::Path => path_fits(image, tables, ty, PathKind::from(row.a), row.b),
         PatKind::Lit => literal_fits(image, tables, ty, row.a),
-        PatKind::Bind => sub_fits(image, tables, p, row.b, TypeNumber::Some(ty)),
+        PatKind::Bind => sub_fits(image, tables, p, row.b, Some(ty)),
         PatKind::TupleStruct => tuple_struct_fits(image, tables, p, row),
         PatKind::Ref => {
             let behind = referent_of(image, tables, ty);
@@ -224,8 +206,8 @@ fn parts_fit(image: &[u8], tables: Tables, p: PatId, row: PatRow, kind: PatKind)
 }
 
 // The pattern p, on a place of this type.
-#[cycle(each_fits_fields_fit_items_all_fit_parts_fit_record_fits_row_fits_slice_fits_sub_fits_tuple_struct_fits_types_fit)]
-pub fn types_fit(image: &[u8], tables: Tables, place: TypeNumber, p: PatId) -> bool
+#[cycle(fit)]
+pub fn types_fit(image: &[u8], tables: Tables, place: Option<u16>, p: PatId) -> bool
     requires { (valid image.now ≡ true) × Whole image.now tables × (p.0 < pattern_count image.now) × (names_type? image.now (type_number place) ≡ true) }
     ensures { result ≡ types_fit image.now (tree image.now p.0) (type_number place) }
 {
@@ -233,5 +215,5 @@ pub fn types_fit(image: &[u8], tables: Tables, place: TypeNumber, p: PatId) -> b
     if !type_is_the_places(image, tables, row, place) {
         return false;
     }
-    parts_fit(image, tables, p, row, pat_kind(row.kind))
+    parts_fit(image, tables, p, row, PatKind::from(row.kind))
 }

@@ -8,7 +8,7 @@ ghost use Rattle.meaning.specs.Fit.{discriminants_differ};
 ghost use Rattle.fit_variants.specs.Discriminants.{discriminant_number, discriminants};
 
 use image::Tables;
-use image::kinds::{AdtKind, adt_kind};
+use image::kinds::AdtKind;
 use image::rows::{type_at, variant_at};
 use literals::half;
 
@@ -36,10 +36,7 @@ fn discriminant_of(image: &[u8], tables: Tables, v: u16) -> Discriminant
 fn same_discriminant(a: Discriminant, b: Discriminant) -> bool
     ensures { result ≡ eqb (discriminant_number a) (discriminant_number b) }
 {
-    if a.low != b.low {
-        return false;
-    }
-    a.high == b.high
+    a.low == b.low && a.high == b.high
 }
 
 // The discriminant d is that of one of the `count` variants from `from` on.
@@ -47,15 +44,11 @@ fn discriminant_stands(image: &[u8], tables: Tables, d: Discriminant, from: u16,
     requires { (valid image.now ≡ true) × Whole image.now tables × (from + count ≤ variant_count image.now) }
     ensures { result ≡ member (discriminant_number d) (discriminants image.now from count) }
 {
-    let mut v = from;
-    let mut left = count;
-    while left != 0 {
+    for v in from..from + count {
         let other = discriminant_of(image, tables, v);
         if same_discriminant(d, other) {
             return true;
         }
-        v += 1;
-        left -= 1;
     }
     false
 }
@@ -65,13 +58,10 @@ fn discriminants_apart(image: &[u8], tables: Tables, from: u16, count: u16) -> b
     requires { (valid image.now ≡ true) × Whole image.now tables × (from + count ≤ variant_count image.now) }
     ensures { result ≡ distinct (discriminants image.now from count) }
 {
-    let mut v = from;
-    let mut left = count;
-    while left != 0 {
+    for k in 0..count {
+        let v = from + k;
         let d = discriminant_of(image, tables, v);
-        v += 1;
-        left -= 1;
-        if discriminant_stands(image, tables, d, v, left) {
+        if discriminant_stands(image, tables, d, v + 1, count - k - 1) {
             return false;
         }
     }
@@ -87,7 +77,7 @@ pub fn discriminants_differ(image: &[u8], tables: Tables, t: u16) -> bool
     if row.kind != 6 {
         return true;
     }
-    match adt_kind(row.c) {
+    match AdtKind::from(row.c) {
         AdtKind::Enum => discriminants_apart(image, tables, row.a, row.b),
         _ => true,
     }

@@ -1,4 +1,5 @@
 -- The steps that build a body refuse with a limit, or for want of a scope; the locals that there were stay. Assumes nothing.
+use Rattle.std.specs.Prelude.{Some, None}
 use mathlib.Core.Path.{◌≡◌, refl, ◌∙◌}
 use mathlib.Core.Bool.{Bool, true, false}
 use mathlib.Core.List.{List, [], ◌∷◌}
@@ -21,7 +22,7 @@ use Rattle.mir.specs.Scopes.{entry_limit}
 use Rattle.mir.specs.Rvalues.{live_row}
 use Rattle.state.specs.State.{State}
 use Rattle.state.specs.Steps.{new_block, set_terminator, push_statement, new_local, push_entry, within, try_block, try_statement, try_local, try_entry, next_local}
-use Rattle.lower_spec.specs.declared.merging.OptBlock.{OptBlock}
+use Rattle.lower_spec.specs.Results.{OptBlock}
 use Rattle.lower_spec.specs.Temps.{is_slice, record_unless, mark_live, temp}
 use Rattle.pattern_matching.specs.Walking.{else_state}
 use Rattle.fitted.proofs.Stopping.{Fair, fair_done, fair_stopped, fair_then, fair_as, fair_cond}
@@ -103,5 +104,5 @@ no_slice image word h = rw (le-ltb word (type_count image) h)
 -- the else that there is, or a new block
 pub fair_else : (st : State) (els : OptBlock) → Fair (Kept st) (else_state st els)
 unfolding else_state
-fair_else st (OptBlock.Some b) = fair_done (Kept st) st (kept_same st)
-fair_else st OptBlock.None = fair_block st
+fair_else st (Some b) = fair_done (Kept st) st (kept_same st)
+fair_else st None = fair_block st

@@ -1,4 +1,5 @@
 -- A fitting pattern is refused with a limit only: by induction over the tree. Assumes nothing.
+use Rattle.std.specs.Prelude.{None}
 use mathlib.Core.Path.{◌≡◌, refl, sym, ap, subst, ◌∙◌}
 use mathlib.Core.Logic.{◌⊎◌}
 use mathlib.Core.Bool.{Bool, true, false, not, ◌&&◌, ◌||◌, false≢true}
@@ -22,7 +23,7 @@ use Rattle.place.specs.declared.place_ty.PlaceTy.{PlaceTy}
 use Rattle.place.specs.PlaceTypes.{projection_ty, Named}
 use Rattle.place.proofs.Named.{named_projection}
 use Rattle.mir.specs.declared.BasicBlockId.{BasicBlockId}
-use Rattle.lower_spec.specs.declared.merging.OptBlock.{OptBlock}
+use Rattle.lower_spec.specs.Results.{OptBlock}
 use Rattle.pattern_matching.specs.declared.MatchingMode.{MatchingMode}
 use Rattle.pattern_matching.specs.Walking.{Ctx, refused, Lowering, entered}
 use Rattle.pattern_matching.specs.Variants.{place_ty, tuple_pattern, AdtPatternShape, variant_pattern}
@@ -122,7 +123,7 @@ reached_by_lem false rest g n k e = the_last g (n refl)
 -- a pattern that cannot fail leaves no block where it does not match
 never : (image bindings : List ℕ) (q : Pat) (ty : PlaceTy) → can_fail image q ty ≡ false → Never image ty (pattern_match_inner image bindings q)
 never image bindings q ty e c current place o =
-    holds_as (λ r a. subst (λ (f : Bool). ElseIs f OptBlock.None r.else (length c.state.blocks) (length r.ctx.state.blocks)) e a.steps.else) ((counts image bindings q).goes checks c current OptBlock.None place ty 0 false o)
+    holds_as (λ r a. subst (λ (f : Bool). ElseIs f None r.else (length c.state.blocks) (length r.ctx.state.blocks)) e a.steps.else) ((counts image bindings q).goes checks c current None place ty 0 false o)
 
 -- in a valid image
 module _ (image bindings : List ℕ) (v : valid image ≡ true) where

@@ -26,7 +26,7 @@ use Rattle.mir.specs.declared.rvalues.Left.{Left}
 use Rattle.state.specs.State.{State}
 use Rattle.state.specs.Steps.{try_block, try_statement}
 use Rattle.literals.specs.Literals.{integer_constant, literal_by, lower_literal_to_operand, literal_or_const_by, lower_literal_or_const_to_operand}
-use Rattle.lower_spec.specs.declared.merging.OptBlock.{OptBlock}
+use Rattle.lower_spec.specs.Results.{OptBlock}
 use Rattle.lower_spec.specs.Temps.{is_slice, is_held, temp, binding_local, push_storage_live_for_local, discr_temp_place}
 use Rattle.pattern_matching.specs.Walking.{Ctx, else_state, else_block}
 use Rattle.pattern_matching.specs.Tests.{bool_word, usize_word, compare, pattern_match_const, literal, lit_by, constant_path, range_end, range_end?, pattern_match_binding}

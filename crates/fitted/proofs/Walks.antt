@@ -18,7 +18,7 @@ use Rattle.place.specs.Places.{projection_of}
 use Rattle.place.specs.PlaceTypes.{projection_ty, multi_projection_ty}
 use Rattle.mir.specs.declared.BasicBlockId.{BasicBlockId}
 use Rattle.mir.specs.Locals.{local_ty}
-use Rattle.lower_spec.specs.declared.merging.OptBlock.{OptBlock}
+use Rattle.lower_spec.specs.Results.{OptBlock}
 use Rattle.pattern_matching.specs.Walking.{Ctx, Out, Walk, Lowering, next, out, project, visited, derefed, entered, in_check}
 use Rattle.pattern_matching.specs.Variants.{place_ty, shape_of, needed, pattern_match_adt, fields_up_to, pattern_match_tuple_like}
 use Rattle.pattern_matching.specs.Patterns.{passing}

@@ -1,4 +1,5 @@
 -- Steps that close no block: lines at the end of the current block, new blocks, new locals. Assumes nothing.
+use Rattle.std.specs.Prelude.{Some, None}
 use Prim.Native.Nat.{ℕ, suc, ◌≤◌, ◌<◌}
 use native.Mathlib.Nat.{le_refl, le_trans}
 use native.Mathlib.Omega.{arith}
@@ -25,7 +26,7 @@ use Rattle.mir.specs.Scopes.{entry_limit}
 use Rattle.mir.specs.Rvalues.{live_row, place_rvalue_row, constant_row, binary_row}
 use Rattle.state.specs.State.{State}
 use Rattle.state.specs.Steps.{within, next_local, new_block, push_statement, new_local, push_entry, try_block, try_statement, try_local, try_entry}
-use Rattle.lower_spec.specs.declared.merging.OptBlock.{OptBlock}
+use Rattle.lower_spec.specs.Results.{OptBlock}
 use Rattle.lower_spec.specs.Temps.{is_slice, record_unless, mark_live, temp}
 use Rattle.views.specs.Views.{Line, terminator_of, line_of, mir_of}
 use Rattle.views.specs.Growing.{Quiet}
@@ -256,16 +257,16 @@ adds_temp image st st₁ word block e =
 -- the else that there is, or a new block
 pub opens_else : (st st₁ : State) (current : ℕ) (els : OptBlock) → else_state st els ≡ done st₁ → Opens st current st₁
 unfolding else_state
-opens_else st st₁ current (OptBlock.Some b) e = let same : st ≡ st₁ = cc in subst (λ (s : State). Opens st current s) same (opens_same st current)
-opens_else st st₁ current OptBlock.None e = opens_block st st₁ current e
+opens_else st st₁ current (Some b) e = let same : st ≡ st₁ = cc in subst (λ (s : State). Opens st current s) same (opens_same st current)
+opens_else st st₁ current None e = opens_block st st₁ current e
 
 -- how many blocks there are with an else, of n
 abbrev pub WithElse : OptBlock → ℕ → ℕ → Type 0
-WithElse (OptBlock.Some b) n m = m ≡ n
-WithElse OptBlock.None n m = m ≡ suc n
+WithElse (Some b) n m = m ≡ n
+WithElse None n m = m ≡ suc n
 
 -- a new else is counted
 pub count_else : (st st₁ : State) (els : OptBlock) → else_state st els ≡ done st₁ → WithElse els (count st) (count st₁)
 unfolding else_state
-count_else st st₁ (OptBlock.Some b) e = let same : st₁ ≡ st = cc in ap (λ (s : State). count s) same
-count_else st st₁ OptBlock.None e = count_tried st st₁ e
+count_else st st₁ (Some b) e = let same : st₁ ≡ st = cc in ap (λ (s : State). count s) same
+count_else st st₁ None e = count_tried st st₁ e

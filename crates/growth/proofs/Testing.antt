@@ -1,4 +1,5 @@
 -- Each test grows a body well, and so does what fills a binding. Assumes nothing.
+use Rattle.std.specs.Prelude.{Some, None}
 use Prim.Native.Nat.{ℕ, suc, ◌%◌, ◌/◌}
 use native.Mathlib.Omega.{arith}
 use mathlib.Core.Path.{◌≡◌, refl, sym, subst}
@@ -19,7 +20,7 @@ use Rattle.mir.specs.Rvalues.{place_rvalue_row, constant_row, binary_row}
 use Rattle.state.specs.State.{State}
 use Rattle.state.specs.Steps.{next_block, next_local, try_block, try_statement, set_terminator}
 use Rattle.literals.specs.Literals.{lower_literal_to_operand, lower_const_to_operand, lower_literal_or_const_to_operand}
-use Rattle.lower_spec.specs.declared.merging.OptBlock.{OptBlock}
+use Rattle.lower_spec.specs.Results.{OptBlock}
 use Rattle.lower_spec.specs.Temps.{is_held, temp, binding_local, push_storage_live_for_local, discr_temp_place}
 use Rattle.views.specs.Growing.{Closed}
 use Rattle.pattern_matching.specs.declared.MatchingMode.{MatchingMode}
@@ -34,20 +35,20 @@ use Rattle.growth.proofs.Walks.{Good, good_refused, good_ok, good_lines, good_st
 
 -- the end of a test
 good_fork : {st st₁ : State} {c : BasicBlockId} {els : OptBlock} (v : List ℕ) (t e : BasicBlockId) (end : Terminator) → Closed end → Opens st c.0 st₁ →
-    Forks (count st) els (count st₁) t.0 e.0 → Good MatchingMode.Check st c els (ok (result (set_terminator st₁ c end) v t (OptBlock.Some e)))
-good_fork {st₁} {c} v t e end z o f = good_ok (result (set_terminator st₁ c end) v t (OptBlock.Some e)) (λ h. leaves_fork t e end z h o f) (λ b. absurd b)
+    Forks (count st) els (count st₁) t.0 e.0 → Good MatchingMode.Check st c els (ok (result (set_terminator st₁ c end) v t (Some e)))
+good_fork {st₁} {c} v t e end z o f = good_ok (result (set_terminator st₁ c end) v t (Some e)) (λ h. leaves_fork t e end z h o f) (λ b. absurd b)
 
 -- the block where a match goes on was made before an else
 then_else_lem : (n t : ℕ) (els : OptBlock) (s : State) (m : ℕ) → t ≡ n → count s ≡ suc t → WithElse els (count s) m → Forks n els m t (else_block s els).0
 unfolding else_block
-then_else_lem n t OptBlock.None s m h k w = (omega arith, omega arith, omega arith, omega arith, omega arith, omega arith)
-then_else_lem n t (OptBlock.Some e) s m h k w = (omega arith, omega arith, refl)
+then_else_lem n t None s m h k w = (omega arith, omega arith, omega arith, omega arith, omega arith, omega arith)
+then_else_lem n t (Some e) s m h k w = (omega arith, omega arith, refl)
 
 -- and behind it
 else_then_lem : (n t : ℕ) (els : OptBlock) (s : State) (m : ℕ) → count s ≡ n → WithElse els (count s) t → m ≡ suc t → Forks n els m t (else_block s els).0
 unfolding else_block
-else_then_lem n t OptBlock.None s m h w k = (omega arith, omega arith, omega arith, omega arith, omega arith, omega arith)
-else_then_lem n t (OptBlock.Some e) s m h w k = (omega arith, omega arith, refl)
+else_then_lem n t None s m h w k = (omega arith, omega arith, omega arith, omega arith, omega arith, omega arith)
+else_then_lem n t (Some e) s m h w k = (omega arith, omega arith, refl)
 
 -- two blocks made, and then lines
 fork_lines : (n : ℕ) (els : OptBlock) (t e : ℕ) {st st₁ : State} {c : ℕ} → Adds st c st₁ → Forks n els (count st) t e → Forks n els (count st₁) t e

@@ -1,9 +1,10 @@
 -- How an accepted walk grows a body: which blocks it leaves open, which it closes, and which it does not touch. Assumes nothing: these are definitions.
+use Rattle.std.specs.Prelude.{Some, None}
 use Rattle.std.specs.Prelude.{ℕ, ◌≤◌, ◌<◌, ◌≡◌, List, [], ◌∷◌, ◌++◌, length}
 use Rattle.mir.specs.declared.BasicBlockId.{BasicBlockId}
 use Rattle.mir.specs.declared.blocks.Terminator.{Terminator}
 use Rattle.state.specs.State.{State}
-use Rattle.lower_spec.specs.declared.merging.OptBlock.{OptBlock}
+use Rattle.lower_spec.specs.Results.{OptBlock}
 use Rattle.views.specs.Views.{Line, mir_of}
 use Rattle.views.specs.Growing.{terminator_at, Closed, Quiet}
 use Rattle.pattern_matching.specs.Walking.{Ctx, Out}
@@ -27,8 +28,8 @@ Below n (x ∷ xs) = (x.block < n) × Below n xs
 
 -- an else as a call may have it: none, or a block other than the one where the walk starts. It may have lines, and a terminator.
 abbrev pub ElseReady : State → BasicBlockId → OptBlock → Type 0
-ElseReady st current OptBlock.None = Unit
-ElseReady st current (OptBlock.Some e) = (e.0 < count st) × (e.0 ≡ current.0 → ⊥)
+ElseReady st current None = Unit
+ElseReady st current (Some e) = (e.0 < count st) × (e.0 ≡ current.0 → ⊥)
 
 -- a walk may start at the block current of a state, with this else or none
 pub record Ready (st : State) (current : BasicBlockId) (els : OptBlock) : Type 0 where
@@ -59,9 +60,9 @@ pub record Worked (st : State) (current : ℕ) (st₁ : State) : Type 0 where
 
 -- the else that a walk leaves: the one supplied or, with none supplied, none or a new block, which is open and has no line
 abbrev pub ElseLeft : State → OptBlock → State → OptBlock → Type 0
-ElseLeft st (OptBlock.Some e) st₁ r = r ≡ OptBlock.Some e
-ElseLeft st OptBlock.None st₁ OptBlock.None = Unit
-ElseLeft st OptBlock.None st₁ (OptBlock.Some b) = (count st ≤ b.0) × (terminator st₁ b.0 ≡ Terminator.Open) × Quiet b.0 (lines st₁)
+ElseLeft st (Some e) st₁ r = r ≡ Some e
+ElseLeft st None st₁ None = Unit
+ElseLeft st None st₁ (Some b) = (count st ≤ b.0) × (terminator st₁ b.0 ≡ Terminator.Open) × Quiet b.0 (lines st₁)
 
 -- what a walk leaves that started at the block current of a state, with this else or none: a walk may start again from there, and of current and the new
 -- blocks all are closed but for the two that come back
@@ -70,5 +71,5 @@ pub record Leaves (st : State) (current : BasicBlockId) (els : OptBlock) (r : Ou
   pub then : From st current.0 r.then.0
   pub ready : Starts r.ctx r.then r.else
   pub else : ElseLeft st els r.ctx.state r.else
-  pub closed : (b : ℕ) → b < count r.ctx.state → From st current.0 b → (b ≡ r.then.0 → ⊥) → (r.else ≡ OptBlock.Some (record { 0 = b }) → ⊥) →
+  pub closed : (b : ℕ) → b < count r.ctx.state → From st current.0 b → (b ≡ r.then.0 → ⊥) → (r.else ≡ Some (record { 0 = b }) → ⊥) →
       Closed (terminator r.ctx.state b)

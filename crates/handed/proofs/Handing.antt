@@ -1,4 +1,5 @@
 -- What is known of a call's own values that name something. Assumes nothing.
+use Rattle.std.specs.Prelude.{Some, None}
 use Prim.Native.Nat.{ℕ, ◌≤◌, ◌<◌}
 use mathlib.Core.Path.{◌≡◌}
 use mathlib.Core.Bool.{Bool, true, not, ◌&&◌}
@@ -15,7 +16,7 @@ use Rattle.mir.specs.declared.BasicBlockId.{BasicBlockId}
 use Rattle.mir.specs.declared.Counts.{Counts}
 use Rattle.mir.specs.Blocks.{is_open, block_width}
 use Rattle.body_row_rules.specs.Bodies.{is_block, is_local, elem_holds}
-use Rattle.lower_spec.specs.declared.merging.OptBlock.{OptBlock}
+use Rattle.lower_spec.specs.Results.{OptBlock}
 use Rattle.lower_spec.specs.Promises.{Within}
 use Rattle.handed.specs.Handed.{start_holds, else_holds, place_holds, binding_local_holds, bindings_hold, Named, match_holds, self_holds}
 
@@ -27,8 +28,8 @@ start_of_lem blocks c current e = ltb-true _ _ (and_left (is_block c current.0) 
 -- the else is one, where there is one
 else_of : (c : Counts) (current : BasicBlockId) (els : OptBlock) → else_holds c current els ≡ true → Within c els
 unfolding else_holds
-else_of c current OptBlock.None e = tt
-else_of c current (OptBlock.Some b) e = ltb-true _ _ (and_left (is_block c b.0) (not (eqb b.0 current.0)) e)
+else_of c current None e = tt
+else_of c current (Some b) e = ltb-true _ _ (and_left (is_block c b.0) (not (eqb b.0 current.0)) e)
 
 -- the bindings' table has a word for each binding
 bindings_of : (count : ℕ) (c : Counts) (bindings : List ℕ) → bindings_hold count c bindings ≡ true → length bindings ≡ count

@@ -1,5 +1,6 @@
 -- What a call on a pattern may be handed besides image and body: document 01's number 2. Its words stand in quotation marks.
 -- Assumes nothing: these are definitions.
+use Rattle.std.specs.Prelude.{Some, None}
 use Rattle.std.specs.Prelude.{ℕ, Bool, true, not, ◌&&◌, ◌||◌, List, [], ◌∷◌, eqb, ltb, leb, length, get_or}
 use Rattle.row_tables.specs.Rows.{row_at}
 use Rattle.image.specs.Lists.{all_below, all_in, all_true}
@@ -9,7 +10,7 @@ use Rattle.mir.specs.declared.BasicBlockId.{BasicBlockId}
 use Rattle.mir.specs.declared.Counts.{Counts}
 use Rattle.mir.specs.Blocks.{is_open, block_width}
 use Rattle.body_row_rules.specs.Bodies.{is_block, is_local, elem_holds}
-use Rattle.lower_spec.specs.declared.merging.OptBlock.{OptBlock}
+use Rattle.lower_spec.specs.Results.{OptBlock}
 
 -- "start block missing or not open" is refused
 unfoldable pub start_holds : List ℕ → Counts → BasicBlockId → Bool
@@ -17,8 +18,8 @@ start_holds blocks c current = is_block c current.0 && is_open (row_at block_wid
 
 -- "else missing or equal to it" is refused
 unfoldable pub else_holds : Counts → BasicBlockId → OptBlock → Bool
-else_holds c current OptBlock.None = true
-else_holds c current (OptBlock.Some b) = is_block c b.0 && not (eqb b.0 current.0)
+else_holds c current None = true
+else_holds c current (Some b) = is_block c b.0 && not (eqb b.0 current.0)
 
 -- "place root missing or over 16 elements" is refused, and so is an element of no kind, or that names no variant
 unfoldable pub place_holds : ℕ → Counts → Place → Bool
@@ -56,8 +57,8 @@ self_holds named bindings blocks c b current l =
 
 -- a block that there is, where there is one
 unfoldable pub is_block_or_none : Counts → OptBlock → Bool
-is_block_or_none c OptBlock.None = true
-is_block_or_none c (OptBlock.Some b) = is_block c b.0
+is_block_or_none c None = true
+is_block_or_none c (Some b) = is_block c b.0
 
 -- all that a call of `merge_blocks` is handed names something
 unfoldable pub merge_holds : Counts → OptBlock → OptBlock → Bool

@@ -7,7 +7,6 @@ ghost use Rattle.handed.specs.Handed.{start_holds, binding_local_holds, bindings
 
 use handed::{else_holds, place_holds};
 use image::{BindingId, PatId, Tables};
-use lower_spec::merging::OptBlock;
 use mir::blocks::is_unterminated;
 use mir::{BasicBlockId, Counts};
 use place::{LocalId, Place};
@@ -22,29 +21,17 @@ pub fn start_holds(blocks: &[u16], counts: Counts, current: BasicBlockId) -> boo
     is_unterminated(blocks, current)
 }
 
+#[tactic(auto, unfolding(handed::specs::Handed::binding_local_holds))]
 fn binding_holds(counts: Counts, l: u16) -> bool
     ensures { result ≡ binding_local_holds counts l }
 {
-    if l == 65535 {
-        return true;
-    }
-    l < counts.locals
+    l == 65535 || l < counts.locals
 }
 
 pub fn bindings_hold(count: u16, counts: Counts, bindings: &[u16]) -> bool
     ensures { result ≡ bindings_hold count counts bindings.now }
 {
-    if bindings.len() != (count as usize) {
-        return false;
-    }
-    let mut i = 0;
-    while i < bindings.len() {
-        if !binding_holds(counts, bindings[i]) {
-            return false;
-        }
-        i += 1;
-    }
-    true
+    bindings.len() == (count as usize) && bindings.iter().all(|l| binding_holds(counts, *l))
 }
 
 // All that a call of `pattern_match` is handed.
@@ -55,7 +42,7 @@ pub fn match_holds(
     counts: Counts,
     p: PatId,
     current: BasicBlockId,
-    els: OptBlock,
+    els: Option<BasicBlockId>,
     place: Place,
 ) -> bool
     requires { (length blocks.now ≡ block_words) × (counts.blocks ≤ 512) }

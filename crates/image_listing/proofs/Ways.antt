@@ -1,4 +1,5 @@
 -- What the call of `pattern_match` is handed, and the type of local 0, by the ways through the code. Assumes nothing.
+use Rattle.std.specs.Prelude.{Some, None}
 use Prim.Native.Nat.{ℕ, ◌-◌, ◌≤◌, ◌<◌}
 use mathlib.Core.Path.{◌≡◌, ap, subst}
 use mathlib.Core.Bool.{true}
@@ -16,7 +17,7 @@ use Rattle.mir.specs.declared.Counts.{Counts}
 use Rattle.state.specs.State.{Body, encode, counts_of}
 use Rattle.pattern_matching.specs.Walking.{local_place}
 use Rattle.pattern_calls_spec.proofs.Starting.{visits_cleared}
-use Rattle.listing_start.specs.declared.StartType.{StartType}
+use Rattle.listing_start.specs.Results.{StartType}
 use Rattle.listing_start.specs.Started.{start_type, start_state}
 use Rattle.listing_start.specs.Sizes.{start_type_of, IsType}
 use Rattle.listing_start.proofs.Limits.{limits}
@@ -47,9 +48,9 @@ module _ (image : List ℕ) {tables : Tables} (v : valid image ≡ true) (W : Wh
       }
 
 -- the type of local 0, where there is one
-pub type_there : (image : List ℕ) {r : StartType} {t : ℕ} → r ≡ StartType.Some t → (start_type_of r ≡ start_type image) × IsType image r → (some t ≡ start_type image) × (t < type_count image)
+pub type_there : (image : List ℕ) {r : StartType} {t : ℕ} → r ≡ Some t → (start_type_of r ≡ start_type image) × IsType image r → (some t ≡ start_type image) × (t < type_count image)
 type_there image is e = subst (λ (x : StartType). (start_type_of x ≡ start_type image) × IsType image x) is e
 
 -- and where there is none
-pub type_missing : (image : List ℕ) {r : StartType} → r ≡ StartType.None → (start_type_of r ≡ start_type image) × IsType image r → none ≡ start_type image
+pub type_missing : (image : List ℕ) {r : StartType} → r ≡ None → (start_type_of r ≡ start_type image) × IsType image r → none ≡ start_type image
 type_missing image is e = subst (λ (x : StartType). start_type_of x ≡ start_type image) is e.0

@@ -10,15 +10,14 @@ ghost use Rattle.image_text.specs.Listed.{listing_call, call_text, image_text, P
 use body_tables::BODY_WORDS;
 use image::{PatId, Tables};
 use image_text::put_answer;
-use listing_start::{StartType, number_bindings, start_place, start_type};
+use listing_start::{number_bindings, start_place, start_type};
 use listing_start_body::start_body;
 use listing_text::pen::Pen;
 use listing_text::put_refusal;
-use lower_spec::merging::OptBlock;
 use mir::BasicBlockId;
 use pattern_entering::VISIT_WORDS;
 use pattern_match_call::pattern_match;
-use read_image::{Read, read_image};
+use read_image::read_image;
 use row_tables::clear_from;
 
 // The last pattern is lowered against local 0 of the type t, and the listing or the refusal is written.
@@ -48,7 +47,7 @@ fn put_lowered(
         counts,
         PatId(tables.patterns.count - 1),
         BasicBlockId(0),
-        OptBlock::None,
+        None,
         place,
     );
     put_answer(out, pen, body, answer)
@@ -65,10 +64,10 @@ pub fn put_image(
     ensures { Wrote out.old pen (image_text image.now) result out.new }
 {
     match read_image(image) {
-        Read::Refused => put_refusal(out, pen, 1, PatId(65535), 0),
-        Read::Image(tables) => match start_type(image, tables) {
-            StartType::None => put_refusal(out, pen, 2, PatId(65535), 0),
-            StartType::Some(t) => put_lowered(image, tables, t, body, visits, out, pen),
+        None => put_refusal(out, pen, 1, PatId(65535), 0),
+        Some(tables) => match start_type(image, tables) {
+            None => put_refusal(out, pen, 2, PatId(65535), 0),
+            Some(t) => put_lowered(image, tables, t, body, visits, out, pen),
         },
     }
 }

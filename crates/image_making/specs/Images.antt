@@ -1,4 +1,5 @@
 -- What rows of makings add to a sheet, one after another, and the image of it. Assumes nothing: these are definitions.
+use Rattle.std.specs.Prelude.{Some, None}
 use Rattle.std.specs.Prelude.{ℕ, ◌≡◌, true, false, List, [], length}
 use Rattle.image.specs.declared.Tables.{Tables}
 use Rattle.image.specs.Tables.{Whole}
@@ -9,12 +10,11 @@ use Rattle.pattern_images.specs.Drafts.{Draft, empty_draft}
 use Rattle.pattern_images.specs.Imaging.{image_with, derefs_within, within_image_limits}
 use Rattle.draft_stack.specs.Stack.{emit_up, parts_stand}
 use Rattle.draft_tables.specs.declared.DraftCounts.{DraftCounts}
-use Rattle.draft_tables.specs.declared.DraftStep.{DraftStep}
-use Rattle.draft_tables.specs.declared.DraftStep.TheVariants.{On, PastALimit}
+use Rattle.draft_tables.specs.Results.{DraftStep}
 use Rattle.draft_tables.specs.Layout.{stacked_in}
 use Rattle.draft_tables.specs.Room.{DraftRoom}
 use Rattle.draft_makings.specs.Makings.{literals_fit}
-use Rattle.image_making.specs.declared.ImageMade.{ImageMade}
+use Rattle.image_making.specs.Results.{ImageMade}
 
 -- the sheet keeps its rules, each making finds its parts, and no literal is longer than 16 bytes
 pub record ImageReady (sheet : List ℕ) (tables : Tables) (ms : List ClosedMaking) : Type 0 where
@@ -35,8 +35,8 @@ pub record EmittedUp (names sheet : List ℕ) (tables : Tables) (ms : List Close
 
 -- or that is past one
 abbrev pub EmitsUp : List ℕ → List ℕ → Tables → List ClosedMaking → DraftStep → List ℕ → Type 0
-EmitsUp names sheet tables ms (On counts) table = EmittedUp names sheet tables ms counts table
-EmitsUp names sheet tables ms PastALimit table = within_image_limits sheet (draft_up sheet ms) ≡ false
+EmitsUp names sheet tables ms (Some counts) table = EmittedUp names sheet tables ms counts table
+EmitsUp names sheet tables ms None table = within_image_limits sheet (draft_up sheet ms) ≡ false
 
 -- a draft is within the limits, and its image was written from byte 0 on, so many bytes
 pub record ImageOf (sheet : List ℕ) (d : Draft) (before : List ℕ) (long : ℕ) (after : List ℕ) : Type 0 where
@@ -50,5 +50,5 @@ pub record NoImageOf (sheet : List ℕ) (d : Draft) (before after : List ℕ) : 
   pub kept : after ≡ before
 
 abbrev pub MakesImage : List ℕ → Draft → List ℕ → ImageMade → List ℕ → Type 0
-MakesImage sheet d before (ImageMade.Image long) after = ImageOf sheet d before long after
-MakesImage sheet d before ImageMade.PastALimit after = NoImageOf sheet d before after
+MakesImage sheet d before (Some long) after = ImageOf sheet d before long after
+MakesImage sheet d before None after = NoImageOf sheet d before after

@@ -6,16 +6,9 @@ ghost use Rattle.node_rows.specs.Makings.{makings_in};
 ghost use Rattle.image_making.specs.Images.{ImageReady, draft_up, EmitsUp, MakesImage};
 
 use draft_emitting::emit_one;
-use draft_tables::{DraftCounts, DraftStep};
+use draft_tables::DraftCounts;
 use image::Tables;
 use image_writing::{IMAGE_BYTES, write_image};
-
-// How many bytes the image has, or that what is added passes a limit.
-#[derive(Clone, Copy)]
-pub enum ImageMade {
-    Image(usize),
-    PastALimit,
-}
 
 // The first n makings, added to an empty draft.
 fn emit_rows(
@@ -26,7 +19,7 @@ fn emit_rows(
     makings: &[u16],
     n: usize,
     draft: &mut [u16],
-) -> DraftStep
+) -> Option<DraftCounts>
     requires { ImageReady sheet.now tables (makings_in text.now spelled.now makings.now n) × ((length makings.now ≡ 196608) × ((n ≤ 16384) × (length draft.old ≡ 40704))) }
     ensures { EmitsUp spelled.now sheet.now tables (makings_in text.now spelled.now makings.now n) result draft.new }
 {
@@ -38,16 +31,10 @@ fn emit_rows(
         bytes: 0,
         height: 0,
     };
-    let mut i = 0;
-    while i < n {
-        let DraftStep::On(next) = emit_one(sheet, tables, text, spelled, makings, i, draft, counts)
-        else {
-            return DraftStep::PastALimit;
-        };
-        counts = next;
-        i += 1;
+    for i in 0..n {
+        counts = emit_one(sheet, tables, text, spelled, makings, i, draft, counts)?;
     }
-    DraftStep::On(counts)
+    Some(counts)
 }
 
 // The image of a sheet and the first n makings, whose names are `spelled`.
@@ -60,12 +47,10 @@ pub fn make_image(
     n: usize,
     draft: &mut [u16],
     image: &mut [u8; IMAGE_BYTES],
-) -> ImageMade
+) -> Option<usize>
     requires { ImageReady sheet.now tables (makings_in text.now spelled.now makings.now n) × ((length makings.now ≡ 196608) × ((n ≤ 16384) × (length draft.old ≡ 40704))) }
     ensures { MakesImage sheet.now (draft_up sheet.now (makings_in text.now spelled.now makings.now n)) image.old result image.new }
 {
-    let DraftStep::On(counts) = emit_rows(sheet, tables, text, spelled, makings, n, draft) else {
-        return ImageMade::PastALimit;
-    };
-    ImageMade::Image(write_image(sheet, tables, draft, counts, image))
+    let counts = emit_rows(sheet, tables, text, spelled, makings, n, draft)?;
+    Some(write_image(sheet, tables, draft, counts, image))
 }

@@ -9,7 +9,7 @@ ghost use Rattle.image.specs.Subpatterns.{subpatterns_by, subpatterns};
 ghost use Rattle.image.specs.Patterns.{pattern_shape_holds, pattern_holds};
 ghost use Rattle.marks.specs.Marks.{Taken};
 
-use image::kinds::{PatKind, TypeKind, pat_kind, type_kind};
+use image::kinds::{PatKind, TypeKind};
 use image::rows::{PatRow, pat_at, type_at};
 use image::{PatId, Tables};
 use marks::{take, take_listed, take_present, take_range};
@@ -58,7 +58,7 @@ pub fn take_subpatterns(image: &[u8], tables: Tables, marks: &mut [u8], p: PatId
     ensures { Taken p.0 marks.old marks.new (subpatterns image.now p.0) result }
 {
     let row = pat_at(image, tables, p);
-    take_row(image, tables, p.0, marks, row, pat_kind(row.kind))
+    take_row(image, tables, p.0, marks, row, PatKind::from(row.kind))
 }
 
 // The variants of t.
@@ -67,7 +67,7 @@ fn take_variants(image: &[u8], tables: Tables, marks: &mut [u8], t: u16) -> bool
     ensures { Taken (variant_count image.now) marks.old marks.new (variants_of image.now t) result }
 {
     let row = type_at(image, tables, t);
-    let kind = type_kind(row.kind);
+    let kind = TypeKind::from(row.kind);
     let TypeKind::Adt = kind else {
         return true;
     };
@@ -79,13 +79,10 @@ fn take_adts(image: &[u8], tables: Tables, marks: &mut [u8]) -> bool
     requires { Whole image.now tables × (marks.old ≡ replicate 512 0) × (variant_count image.now ≤ 512) × (all_below (type_holds image.now) (type_count image.now) ≡ true) }
     ensures { result ≡ adts_share_no_variant image.now }
 {
-    let count = tables.types.count;
-    let mut t: u16 = 0;
-    while t < count {
+    for t in 0..tables.types.count {
         if !take_variants(image, tables, marks, t) {
             return false;
         }
-        t += 1;
     }
     true
 }

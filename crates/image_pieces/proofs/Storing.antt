@@ -4,7 +4,9 @@ use mathlib.Core.Path.{◌≡◌, refl, sym, ap, ap₂, subst, ◌∙◌}
 use mathlib.Core.List.{List, [], ◌∷◌, ◌++◌, append_assoc}
 use native.Mathlib.Omega.{arith}
 use lib.ListN.{length, get_or, set, take, drop, length-append, length-drop}
-use lib.Seq.{length-take-le, take_at, drop_at, get_or-take, get_or-drop}
+use borrow.Rule.Slice.PartMut.{put_mid}
+use lib.Seq.{length-take-le, take-length, take_at, drop_at, get_or-take, get_or-drop}
+use Rattle.std.proofs.lemmas.Slice.{put_mid-paste}
 use Rattle.row_tables.specs.Rows.{stored}
 use Rattle.row_tables.proofs.Loops.{Storing, store_more, store_end}
 use Rattle.row_tables.proofs.Tables.{before_stored, past_stored}
@@ -37,6 +39,13 @@ stored_before t at first more next e fits =
     (before_stored t next more at (omega arith) (omega arith))
     (drop_at (take next t) (more ++ rest) (at + length first) long ∙ ap (λ (k : ℕ). more ++ drop k t) place)
     ∙ ap (λ (l : List ℕ). take at t ++ l) (sym (append_assoc first more (drop (at + length (first ++ more)) t)))
+
+-- `write_bytes`: a part that a row was copied into
+pub part_stored : (t : List ℕ) (at many : ℕ) (row part : List ℕ) → part ≡ row → many ≡ length row → put_mid at many t part ≡ stored t at row
+unfolding stored
+part_stored t at many row part e h =
+    put_mid-paste at many t part row (length row) e (sym h) refl
+    ∙ rw (take-length row) (append_assoc (take at t) row (drop (at + length row) t))
 
 pub length_words : (ws : List ℕ) → length (words_bytes ws) ≡ 2 * length ws
 unfolding words_bytes word_bytes
@@ -72,7 +81,7 @@ module _ (source : List ℕ) (from many : ℕ) (inside : from + many ≤ length 
   chosen_at i h = get_or-take many (drop from source) i 0 h ∙ get_or-drop from source i 0
 
   module _ (before : List ℕ) (at : ℕ) where
-    -- `write_bytes` and `write_data`: a turn, and the end
+    -- `write_data`: a turn, and the end
     pub bytes_more_lem : (i : ℕ) (image : List ℕ) → at + many ≤ length before → Storing before at chosen i image → i < many → Storing before at chosen (i + 1) (set image (at + i) (get_or source (from + i) 0))
     bytes_more_lem i image fits s h =
         subst (λ (v : ℕ). Storing before at chosen (i + 1) (set image (at + i) v)) (chosen_at i h) (store_more s (omega (arith, length_chosen)) (omega (arith, length_chosen)))

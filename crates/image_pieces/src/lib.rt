@@ -11,11 +11,7 @@ pub fn write_bytes(image: &mut [u8], at: usize, source: &[u8], from: usize, many
     requires { (at + many ≤ length image.old) × (from + many ≤ length source.now) }
     ensures { (result ≡ at + many) × (image.new ≡ stored image.old at (take many (drop from source.now))) }
 {
-    let mut i = 0;
-    while i < many {
-        image[at + i] = source[from + i];
-        i += 1;
-    }
+    image[at..at + many].copy_from_slice(&source[from..from + many]);
     at + many
 }
 
@@ -24,12 +20,10 @@ pub fn write_words(image: &mut [u8], at: usize, source: &[u16], from: usize, man
     requires { (at + 2 * many ≤ length image.old) × (from + many ≤ length source.now) }
     ensures { (result ≡ at + 2 * many) × (image.new ≡ stored image.old at (words_bytes (take many (drop from source.now)))) }
 {
-    let mut i = 0;
-    while i < many {
+    for i in 0..many {
         let word = source[from + i];
         image[at + 2 * i] = (word / 256) as u8;
         image[at + 2 * i + 1] = (word % 256) as u8;
-        i += 1;
     }
     at + 2 * many
 }
@@ -39,10 +33,8 @@ pub fn write_data(image: &mut [u8], at: usize, source: &[u16], from: usize, many
     requires { ((at + many ≤ length image.old) × (from + many ≤ length source.now)) × AtMost 255 source.now from many }
     ensures { (result ≡ at + many) × (image.new ≡ stored image.old at (take many (drop from source.now))) }
 {
-    let mut i = 0;
-    while i < many {
+    for i in 0..many {
         image[at + i] = source[from + i] as u8;
-        i += 1;
     }
     at + many
 }

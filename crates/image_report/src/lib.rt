@@ -3,7 +3,7 @@
 
 use image::Tables;
 use program_io::{tell_write, write_output};
-use read_image::{Read, read_image};
+use read_image::read_image;
 
 // A space, and a count: answers whether they were written.
 fn print_count(rt: &impl Print, count: u16) -> bool {
@@ -25,11 +25,11 @@ fn print_counts(rt: &impl Print, tables: Tables) -> bool {
 // The counts of an image, or `refused` and the three numbers of the refusal.
 pub fn report(rt: &(impl Print + Eprint), image: &[u8]) {
     match read_image(image) {
-        Read::Image(tables) => {
+        Some(tables) => {
             if !print_counts(rt, tables) {
                 tell_write(rt);
             }
         }
-        Read::Refused => write_output(rt, b"refused 1 65535 0\n"),
+        None => write_output(rt, b"refused 1 65535 0\n"),
     }
 }

@@ -1,14 +1,28 @@
 -- The ways through the tests of the rows, over all rows. Assumes nothing.
-use Prim.Native.Nat.{ℕ, ◌<◌}
-use mathlib.Core.Path.{◌≡◌, refl, sym}
-use mathlib.Core.Bool.{Bool, true, false, ◌&&◌, true≢false, false≢true}
+use Prim.Native.Nat.{ℕ, zero, suc, ◌+◌, ◌<◌}
+use mathlib.Core.Path.{◌≡◌, refl, sym, ◌∙◌}
+use mathlib.Core.Bool.{Bool, true, false, ◌&&◌, and_assoc, and-true, true≢false, false≢true}
 use mathlib.Core.List.{List}
+use native.Mathlib.Nat.{zero-add, add-zero, add-suc, suc-add}
+use native.Mathlib.Numerals.{add-one}
+use Rattle.std.specs.List.{list_all, range_with_len}
 use Rattle.image.specs.Tables.{type_count, variant_count, pattern_count, binding_count}
 use Rattle.image.specs.Lists.{all_below, all_true}
 use Rattle.image.specs.Rules.{type_holds, variant_holds, binding_holds}
 use Rattle.image.specs.Patterns.{pattern_holds, subpatterns_below, used_once}
 use Rattle.image.proofs.Bools.{and_true, and_false_left, and_false_right, below_false}
 use Rattle.image_tables.specs.Parts.{rows_hold}
+
+-- the tests of the numbers from a on, and of one more
+list_all_next : (f : ℕ → Bool) (a n : ℕ) → list_all f (range_with_len a (suc n)) ≡ list_all f (range_with_len a n) && f (a + n)
+list_all_next f a zero = rw (and-true (f a), add-zero a) refl
+list_all_next f a (suc n) = rw (list_all_next f (a + 1) n, add-one a, suc-add a n, ← add-suc a n) (sym (and_assoc (f a) (list_all f (range_with_len (suc a) n)) (f (a + suc n))))
+
+-- the tests of the numbers of a range from 0 on
+pub range_tested : (f : ℕ → Bool) (n : ℕ) → list_all f (range_with_len 0 n) ≡ all_below f n
+unfolding all_below
+range_tested f zero = refl
+range_tested f (suc n) = list_all_next f 0 n ∙ rw (range_tested f n, zero-add n) refl
 
 module _ (image : List ℕ) where
   -- the rules on single rows of types, variants and bindings

@@ -13,16 +13,13 @@ fn take_patterns(image: &[u8], tables: Tables, marks: &mut [u8]) -> bool
     requires { Whole image.now tables × (marks.old ≡ replicate 512 0) × (pattern_count image.now ≤ 512) × (list_count image.now ≤ 2048) }
     ensures { result ≡ all_below (pattern_holds image.now) (pattern_count image.now) && (all_below (subpatterns_below image.now) (pattern_count image.now) && used_once image.now) }
 {
-    let count = tables.patterns.count;
-    let mut p: u16 = 0;
-    while p < count {
+    for p in 0..tables.patterns.count {
         if !pattern_holds(image, tables, PatId(p)) {
             return false;
         }
         if !take_subpatterns(image, tables, marks, PatId(p)) {
             return false;
         }
-        p += 1;
     }
     true
 }

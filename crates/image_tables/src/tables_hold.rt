@@ -13,45 +13,21 @@ fn types_hold(image: &[u8], tables: Tables, runs: &[u16]) -> bool
     requires { Whole image.now tables × Runs image.now runs.now }
     ensures { result ≡ all_below (type_holds image.now) (type_count image.now) }
 {
-    let count = tables.types.count;
-    let mut i: u16 = 0;
-    while i < count {
-        if !type_holds(image, tables, runs, i) {
-            return false;
-        }
-        i += 1;
-    }
-    true
+    (0..tables.types.count).all(|i| type_holds(image, tables, runs, i))
 }
 
 fn variants_hold(image: &[u8], tables: Tables, runs: &[u16]) -> bool
     requires { Whole image.now tables × Runs image.now runs.now }
     ensures { result ≡ all_below (variant_holds image.now) (variant_count image.now) }
 {
-    let count = tables.variants.count;
-    let mut i: u16 = 0;
-    while i < count {
-        if !variant_holds(image, tables, runs, i) {
-            return false;
-        }
-        i += 1;
-    }
-    true
+    (0..tables.variants.count).all(|i| variant_holds(image, tables, runs, i))
 }
 
 fn bindings_hold(image: &[u8], tables: Tables) -> bool
     requires { Whole image.now tables }
     ensures { result ≡ all_below (binding_holds image.now) (binding_count image.now) }
 {
-    let count = tables.bindings.count;
-    let mut i: u16 = 0;
-    while i < count {
-        if !binding_holds(image, tables, BindingId(i)) {
-            return false;
-        }
-        i += 1;
-    }
-    true
+    (0..tables.bindings.count).all(|i| binding_holds(image, tables, BindingId(i)))
 }
 
 // The types, and the variants, whose field types stand in the list as those of tuples do.

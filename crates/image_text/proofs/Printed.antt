@@ -1,4 +1,5 @@
 -- What is printed for an image: the call of `pattern_match` that the program makes, and the ways before it. Assumes nothing.
+use Rattle.std.specs.Prelude.{Some, None}
 use Prim.Native.Nat.{ℕ, ◌+◌, ◌≤◌, ◌<◌}
 use mathlib.Core.Path.{◌≡◌, refl, sym, ap, subst, ◌∙◌}
 use mathlib.Core.Bool.{true, false}
@@ -18,15 +19,14 @@ use Rattle.image.specs.Valid.{valid}
 use Rattle.place.specs.declared.Place.{Place}
 use Rattle.mir.specs.declared.Counts.{Counts}
 use Rattle.state.specs.State.{Body, encode, counts_of}
-use Rattle.lower_spec.specs.declared.merging.OptBlock.{OptBlock}
-use Rattle.read_image.specs.declared.Read.{Read}
+use Rattle.read_image.specs.Results.{Read}
 use Rattle.read_image.specs.Read.{Reads}
 use Rattle.body_calls_spec.proofs.Prologue.{read_valid, read_refused, whole_of}
 use Rattle.listing_text.specs.declared.pen.Pen.{Pen}
 use Rattle.listing_text.specs.Listing.{refusal_text}
 use Rattle.listing_text.specs.Writing.{Wrote}
 use Rattle.pattern_matching.specs.Walking.{Out, local_place}
-use Rattle.pattern_calls_spec.specs.declared.MatchCall.{MatchCall}
+use Rattle.pattern_calls_spec.specs.Results.{MatchCall}
 use Rattle.calls_spec.specs.Calls.{Called}
 use Rattle.pattern_walk_spec.specs.Calls.{Visits}
 use Rattle.pattern_calls_spec.specs.Calls.{pattern_match_call, match_way, match_ctx}
@@ -54,23 +54,23 @@ pub record Handed (image : List ℕ) (t : ℕ) (bindings : List ℕ) (b : Body) 
 
 -- it is the call that the definition makes
 same_call : {image : List ℕ} {t : ℕ} {bindings : List ℕ} {b : Body} {v : List ℕ} {c : Counts} {p : ℕ} {place : Place} → Handed image t bindings b v c p place →
-    pattern_match_call image bindings b c p (record { 0 = 0 }) OptBlock.None place ≡ listing_call image t
+    pattern_match_call image bindings b c p (record { 0 = 0 }) None place ≡ listing_call image t
 unfolding listing_call
-same_call {image} H = λ i. pattern_match_call image (H.locals i) (H.tables i) (H.counts i) (H.pattern i) (record { 0 = 0 }) OptBlock.None (H.at i)
+same_call {image} H = λ i. pattern_match_call image (H.locals i) (H.tables i) (H.counts i) (H.pattern i) (record { 0 = 0 }) None (H.at i)
 
 pub called : {image : List ℕ} {t : ℕ} {bindings : List ℕ} {b : Body} {v : List ℕ} {c : Counts} {p : ℕ} {place : Place} {r : MatchCall} {b' : Body} {v' : List ℕ} →
-    Handed image t bindings b v c p place → Visits match_way match_ctx b v c (pattern_match_call image bindings b c p (record { 0 = 0 }) OptBlock.None place) r b' v' →
+    Handed image t bindings b v c p place → Visits match_way match_ctx b v c (pattern_match_call image bindings b c p (record { 0 = 0 }) None place) r b' v' →
     Visits match_way match_ctx b v c (listing_call image t) r b' v'
 called {b = b} {v = v} {c = c} {r = r} {b' = b'} {v' = v'} H G = subst (λ (x : Called Out). Visits match_way match_ctx b v c x r b' v') (same_call H) G
 
 -- the ways through `put_image`: the image is refused
 module _ (image : List ℕ) where
-  pub prints_refused : {r : Read} → Reads image r → r ≡ Read.Refused → refusal_text breaks_a_rule ≡ image_text image
+  pub prints_refused : {r : Read} → Reads image r → r ≡ None → refusal_text breaks_a_rule ≡ image_text image
   unfolding image_text
   prints_refused R is = rw (read_refused image (sym is ∙ R.answer))
 
   -- the image is read
-  pub is_read : {r : Read} {tables : Tables} → Reads image r → r ≡ Read.Image tables → (valid image ≡ true) × Whole image tables
+  pub is_read : {r : Read} {tables : Tables} → Reads image r → r ≡ Some tables → (valid image ≡ true) × Whole image tables
   is_read {tables = tables} R is =
       let (v, same) = read_valid image tables (sym is ∙ R.answer) in
       (v, rw same (whole_of image v))

@@ -49,8 +49,3 @@ row_right row h = λ i. record {
   greatest_low = column_at (λ r. r.greatest_low) row h i;
   greatest_high = column_at (λ r. r.greatest_high) row h i;
 }
-
--- the sizes alone
-pub size_right : (row : ℕ) → row < 10 → (table_row row).size ≡ row_size row
-unfolding integer_row
-size_right row h = ap (λ (r : IntegerRow). r.size) (row_right row h)

@@ -81,14 +81,8 @@ pub fn row_number(size: u16, signed: bool) -> usize
     requires { is_integer_size size ≡ true }
     ensures { (result < 10) × (row_size result ≡ size) × (row_signed result ≡ signed) }
 {
-    let mut row = 0usize;
-    while row < 4 && SIZES[row] != size {
-        row += 1;
-    }
-    if signed {
-        return row;
-    }
-    row + 5
+    let row = SIZES[..4].iter().position(|s| *s == size).unwrap_or(4);
+    if signed { row } else { row + 5 }
 }
 
 // The row with a number.

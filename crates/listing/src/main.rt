@@ -3,7 +3,7 @@
 #![tactic(auto)]
 
 use image_listing::list_image;
-use program_io::{Input, read_input, write_output};
+use program_io::{read_input, write_output};
 use std::io::Read;
 
 // Prints the listing of an image, or its refusal; the buffer is lent as room for the text, and one that does not fit is not printed.
@@ -20,8 +20,8 @@ fn run(
     out: &mut [u8; 524288],
 ) {
     match read_input(rt, input, buffer) {
-        Input::Failed => {}
-        Input::Bytes(n) => print_listing(rt, &buffer[..n], out),
+        None => {}
+        Some(n) => print_listing(rt, &buffer[..n], out),
     }
 }
 

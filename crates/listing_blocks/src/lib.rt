@@ -28,10 +28,8 @@ fn put_statements(
     ensures { Wrote out.old pen (lines_text block.0 (lines_of statements.now count)) result out.new }
 {
     let mut written = put(out, pen, b"");
-    let mut i = 0u16;
-    while i < count {
+    for i in 0..count {
         let at = STATEMENT_WIDTH * (i as usize);
-        i += 1;
         if statements[at] == block.0 {
             let end = at + STATEMENT_WIDTH;
             written = put_statement(out, written, &statements[at..end]);
@@ -69,8 +67,7 @@ pub fn put_blocks(
     ensures { Wrote out.old pen (blocks_text (lines_of statements.now counts.statements) 0 (map terminator_in (take counts.blocks records))) result out.new }
 {
     let mut written = put(out, pen, b"");
-    let mut b = 0u16;
-    while b < counts.blocks {
+    for b in 0..counts.blocks {
         let terminator = terminator_of(records[b as usize]);
         written = put_block(
             out,
@@ -80,7 +77,6 @@ pub fn put_blocks(
             counts.statements,
             BasicBlockId(b),
         );
-        b += 1;
     }
     written
 }

@@ -20,21 +20,20 @@ use listing_blocks::put_blocks;
 use listing_places::locals::put_locals;
 use listing_text::numbers::{put_decimal, put_numbered};
 use listing_text::pen::{Pen, put};
-use lower_spec::merging::OptBlock;
 use mir::{BasicBlockId, Counts};
 
 // Where a test that fails goes.
-fn put_else(out: &mut [u8], pen: Pen, els: OptBlock) -> Pen
+fn put_else(out: &mut [u8], pen: Pen, els: Option<BasicBlockId>) -> Pen
     ensures { Wrote out.old pen (else_text els) result out.new }
 {
     match els {
-        OptBlock::None => put(out, pen, b"-"),
-        OptBlock::Some(b) => put_decimal(out, pen, b.0),
+        None => put(out, pen, b"-"),
+        Some(b) => put_decimal(out, pen, b.0),
     }
 }
 
 // The first line: the block where the lowering goes on, and where a test that fails goes.
-fn put_head(out: &mut [u8], pen: Pen, then: BasicBlockId, els: OptBlock) -> Pen
+fn put_head(out: &mut [u8], pen: Pen, then: BasicBlockId, els: Option<BasicBlockId>) -> Pen
     ensures { Wrote out.old pen (then_word ++ (decimal then.0 ++ (else_word ++ (else_text els ++ newline)))) result out.new }
 {
     let first = put_numbered(out, pen, b"then ", then.0);
@@ -59,7 +58,7 @@ pub fn put_listing(
     body: &[u16],
     counts: Counts,
     then: BasicBlockId,
-    els: OptBlock,
+    els: Option<BasicBlockId>,
 ) -> Pen
     requires { (length body.now ≡ body_words) × (counts.blocks ≤ 512) × (counts.statements ≤ 1024) × (counts.locals ≤ 512) }
     ensures { Wrote out.old pen (listing then els (mir_of (decode (body_of body.now) counts))) result out.new }

@@ -40,10 +40,8 @@ pub fn put_locals(out: &mut [u8], pen: Pen, locals: &[u16], count: u16) -> Pen
     ensures { Wrote out.old pen (locals_text 0 (take count locals.now)) result out.new }
 {
     let mut written = put(out, pen, b"");
-    let mut i = 0u16;
-    while i < count {
+    for i in 0..count {
         written = put_local(out, written, LocalId(i), locals[i as usize]);
-        i += 1;
     }
     written
 }

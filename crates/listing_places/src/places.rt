@@ -35,10 +35,8 @@ pub fn put_place(out: &mut [u8], pen: Pen, row: &[u16]) -> Pen
 {
     let count = row[16];
     let mut written = put_decimal(out, pen, row[15]);
-    let mut j = 0u16;
-    while j < count {
+    for j in 0..count {
         written = put_elem(out, written, elem_at(row, j));
-        j += 1;
     }
     written
 }

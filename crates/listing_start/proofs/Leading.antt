@@ -57,36 +57,38 @@ module _ (image : List ℕ) where
       let held : type_shape_holds (type_kind row.kind) image row ≡ true = rw e (shape_holds image t v h) in
       ltb-true row.a (type_count image) (rw k at held)
 
--- so many of the derefs are left, from the type `here` on
-pub record Leading (image : List ℕ) (t derefs here left : ℕ) : Type 0 where
-  pub same : behind image derefs (some t) ≡ behind image left (some here)
+-- all but the first i of the derefs are left, from the type `here` on
+pub record Leading (image : List ℕ) (t derefs here i : ℕ) : Type 0 where
+  pub same : behind image derefs (some t) ≡ behind image (derefs - i) (some here)
   pub there : here < type_count image
 
 -- `leads_to`: where the loop begins
-pub lead_start : {image : List ℕ} {t derefs : ℕ} → t < type_count image → Leading image t derefs t derefs
-lead_start h = record { same = refl; there = h }
+pub lead_start : {image : List ℕ} {t derefs : ℕ} → t < type_count image → Leading image t derefs t 0
+lead_start {image} {t} {derefs} h =
+    let all : derefs ≡ derefs - 0 = omega arith in
+    record { same = ap (λ (d : ℕ). behind image d (some t)) all; there = h }
 
-module _ {image : List ℕ} {t derefs here left : ℕ} (L : Leading image t derefs here left) where
+module _ {image : List ℕ} {t derefs here i : ℕ} (L : Leading image t derefs here i) where
   -- a turn crosses a reference
-  pub lead_more : {row : TypeRow} → valid image ≡ true → 0 < left → row ≡ type_at image here → row.kind ≡ 7 → Leading image t derefs row.a (left - 1)
+  pub lead_more : {row : TypeRow} → valid image ≡ true → i < derefs → row ≡ type_at image here → row.kind ≡ 7 → Leading image t derefs row.a (i + 1)
   lead_more {row} v h e k =
-      let more : left ≡ suc (left - 1) = omega arith in
+      let more : derefs - i ≡ suc (derefs - (i + 1)) = omega arith in
       record {
-        same = L.same ∙ ap (λ (d : ℕ). behind image d (some here)) more ∙ behind_reference_lem image (left - 1) here row e k;
+        same = L.same ∙ ap (λ (d : ℕ). behind image d (some here)) more ∙ behind_reference_lem image (derefs - (i + 1)) here row e k;
         there = referred image here row v L.there e k;
       }
 
   -- a type that is no reference
-  pub lead_stops : {row : TypeRow} (ty : ℕ) → 0 < left → row ≡ type_at image here → (row.kind ≡ 7 → ⊥) → false ≡ is_type (behind image derefs (some t)) ty
+  pub lead_stops : {row : TypeRow} (ty : ℕ) → i < derefs → row ≡ type_at image here → (row.kind ≡ 7 → ⊥) → false ≡ is_type (behind image derefs (some t)) ty
   lead_stops {row} ty h e n =
-      let more : left ≡ suc (left - 1) = omega arith in
-      ap (λ (u : TypeNumber). is_type u ty) (sym (L.same ∙ ap (λ (d : ℕ). behind image d (some here)) more ∙ behind_other image (left - 1) here row e n))
+      let more : derefs - i ≡ suc (derefs - (i + 1)) = omega arith in
+      ap (λ (u : TypeNumber). is_type u ty) (sym (L.same ∙ ap (λ (d : ℕ). behind image d (some here)) more ∙ behind_other image (derefs - (i + 1)) here row e n))
 
   -- the loop's end
-  pub lead_end : (ty : ℕ) → left ≤ 0 → eqb here ty ≡ is_type (behind image derefs (some t)) ty
+  pub lead_end : (ty : ℕ) → derefs ≤ i → eqb here ty ≡ is_type (behind image derefs (some t)) ty
   unfolding behind
   lead_end ty h =
-      let none_left : left ≡ 0 = omega arith in
+      let none_left : derefs - i ≡ 0 = omega arith in
       ap (λ (u : TypeNumber). is_type u ty) (sym (L.same ∙ ap (λ (d : ℕ). behind image d (some here)) none_left))
 
 -- the types from t on are left to be tried

@@ -15,45 +15,34 @@ use image::rows::{pat_at, type_at};
 use image::{PatId, Tables};
 use place::{LocalId, Place};
 
-// The lowest-numbered type that leads to the last pattern's, if there is one.
-#[derive(Clone, Copy)]
-pub enum StartType {
-    None,
-    Some(u16),
-}
-
 // So many derefs bring the type t to the type ty.
 fn leads_to(image: &[u8], tables: Tables, t: u16, derefs: u16, ty: u16) -> bool
     requires { (valid image.now ≡ true) × Whole image.now tables × (t < type_count image.now) }
     ensures { result ≡ is_type (behind image.now derefs (some t)) ty }
 {
     let mut here = t;
-    let mut left = derefs;
-    while 0 < left {
+    for _ in 0..derefs {
         let row = type_at(image, tables, here);
         if row.kind != 7 {
             return false;
         }
         here = row.a;
-        left -= 1;
     }
     here == ty
 }
 
 // The type of local 0.
-pub fn start_type(image: &[u8], tables: Tables) -> StartType
+pub fn start_type(image: &[u8], tables: Tables) -> Option<u16>
     requires { (valid image.now ≡ true) × Whole image.now tables }
     ensures { (start_type_of result ≡ start_type image.now) × IsType image.now result }
 {
     let row = pat_at(image, tables, PatId(tables.patterns.count - 1));
-    let mut t = 0u16;
-    while t < tables.types.count {
+    for t in 0..tables.types.count {
         if leads_to(image, tables, t, row.derefs, row.ty) {
-            return StartType::Some(t);
+            return Some(t);
         }
-        t += 1;
     }
-    StartType::None
+    None
 }
 
 // The numbers of the bindings' locals: 1, 2, and so on.
@@ -61,10 +50,8 @@ pub fn number_bindings(numbers: &mut [u16])
     requires { length numbers.old ≡ 256 }
     ensures { numbers.new ≡ up_from 1 256 }
 {
-    let mut i = 0;
-    while i < numbers.len() {
-        numbers[i] = (i as u16) + 1;
-        i += 1;
+    for (i, number) in numbers.iter_mut().enumerate() {
+        *number = (i as u16) + 1;
     }
 }
 

@@ -20,10 +20,8 @@ fn type_bindings(image: &[u8], tables: Tables, locals: &mut [u16])
     requires { (valid image.now ≡ true) × Whole image.now tables × (length locals.old ≡ 512) }
     ensures { locals.new ≡ locals_filled image.now locals.old }
 {
-    let mut i = 0u16;
-    while i < tables.bindings.count {
+    for i in 0..tables.bindings.count {
         locals[1 + (i as usize)] = binding_at(image, tables, BindingId(i)).ty;
-        i += 1;
     }
 }
 

@@ -1,4 +1,5 @@
 -- The listing, computed: numbers, a place, a refusal, and document 01's listing of literal 7. Assumes nothing.
+use Rattle.std.specs.Prelude.{Some}
 use mathlib.Core.Path.{◌≡◌, refl}
 use mathlib.Core.List.{[], ◌∷◌}
 use Rattle.row_tables.specs.Rows.{joined}
@@ -6,7 +7,6 @@ use Rattle.place.specs.declared.elems.ProjectionElem.{ProjectionElem}
 use Rattle.mir.specs.declared.blocks.Terminator.{Terminator}
 use Rattle.mir.specs.declared.rvalues.BinOp.{BinOp}
 use Rattle.mir.specs.declared.rvalues.Left.{Left}
-use Rattle.lower_spec.specs.declared.merging.OptBlock.{OptBlock}
 use Rattle.views.specs.Views.{binary, live, set, Mir}
 use Rattle.listing_text.specs.Words.{then_word, else_word, local_word, bool_word, type_word, block_word, live_word, set_word, eq_word, switch_word, open_word, deref_word, field_word, index_word, from_end_word, subslice_word, downcast_word, refused_word, and_copy_word, space, dash, newline}
 use Rattle.listing_text.specs.Numbers.{hex_digit, decimal_by, decimal, hex_by, hex_digits, hex_halves, hex_bytes, constant_bytes}
@@ -75,7 +75,7 @@ seven =
     }
 
 -- document 01's listing of it, line by line: "then 1 else 2", "local 0 t0", "local 1 bool", "bb 0", "live 1", "set 1 eq 07 copy 0", "switch 1 1 1 2", "bb 1", "open", "bb 2", "open"
-literal_seven : listing (record { 0 = 1 }) (OptBlock.Some (record { 0 = 2 })) seven ≡
+literal_seven : listing (record { 0 = 1 }) (Some (record { 0 = 2 })) seven ≡
     joined (
     (116 ∷ 104 ∷ 101 ∷ 110 ∷ 32 ∷ 49 ∷ 32 ∷ 101 ∷ 108 ∷ 115 ∷ 101 ∷ 32 ∷ 50 ∷ 10 ∷ [])
     ∷ (108 ∷ 111 ∷ 99 ∷ 97 ∷ 108 ∷ 32 ∷ 48 ∷ 32 ∷ 116 ∷ 48 ∷ 10 ∷ [])

@@ -1,4 +1,5 @@
 -- Document 01's listing of a body. Its words stand in quotation marks. Assumes nothing: these are definitions.
+use Rattle.std.specs.Prelude.{Some, None}
 use Rattle.std.specs.Prelude.{ℕ, ◌+◌, cond, List, [], ◌∷◌, ◌++◌, eqb}
 use Rattle.refusals.specs.Refusals.{Refusal}
 use Rattle.place.specs.declared.elems.ProjectionElem.{ProjectionElem}
@@ -7,7 +8,7 @@ use Rattle.mir.specs.declared.blocks.Terminator.{Terminator}
 use Rattle.mir.specs.declared.rvalues.BinOp.{BinOp}
 use Rattle.mir.specs.declared.rvalues.Left.{Left}
 use Rattle.mir.specs.declared.rvalues.PlaceRvalue.{PlaceRvalue}
-use Rattle.lower_spec.specs.declared.merging.OptBlock.{OptBlock}
+use Rattle.lower_spec.specs.Results.{OptBlock}
 use Rattle.views.specs.Views.{Path, Rvalue, of_place, of_constant, binary, unknown_rvalue, Statement, live, dead, set, Line, Mir}
 use Rattle.listing_text.specs.Words.{then_word, else_word, local_word, bool_word, usize_word, i128_word, type_word, block_word, live_word, dead_word, set_word, copy_word, ref_word, mut_word, len_word, discr_word, eq_word, le_word, ge_word, gt_word, switch_word, goto_word, unreachable_word, drop_word, open_word, deref_word, field_word, index_word, from_end_word, subslice_word, downcast_word, refused_word, and_copy_word, space, dash, newline}
 use Rattle.listing_text.specs.Numbers.{decimal, hex_halves, constant_bytes}
@@ -100,8 +101,8 @@ blocks_text lines b (t ∷ ts) = block_text lines b t ++ blocks_text lines (b + 
 
 -- "`else -` is none"
 unfoldable pub else_text : OptBlock → List ℕ
-else_text OptBlock.None = dash
-else_text (OptBlock.Some b) = decimal b.0
+else_text None = dash
+else_text (Some b) = decimal b.0
 
 -- the listing of an accepted lowering
 unfoldable pub listing : BasicBlockId → OptBlock → Mir → List ℕ

@@ -91,11 +91,9 @@ fn put_hex_bytes(out: &mut [u8], pen: Pen, count: u16, n: u64) -> Pen
 {
     let mut written = put(out, pen, b"");
     let mut left = n;
-    let mut i = 0u16;
-    while i < count {
+    for _ in 0..count {
         written = put_low_byte(out, written, left);
-        left = left / 256;
-        i += 1;
+        left /= 256;
     }
     written
 }

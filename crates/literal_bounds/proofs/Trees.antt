@@ -1,4 +1,5 @@
 -- A tree that the grammar admits has literals of 16 bytes or fewer. Assumes nothing.
+use Rattle.std.specs.Prelude.{Some, None}
 use Prim.Native.Nat.{ℕ, ◌+◌, ◌^◌, ◌/◌, ◌%◌, ◌<◌}
 use mathlib.Core.Path.{◌≡◌, refl, sym, subst}
 use mathlib.Core.Bool.{Bool, true, false, not, cond, ◌&&◌, false≢true}
@@ -9,7 +10,6 @@ use lib.Pow as pow
 use borrow.Author.Tests.{ltb-true, lt-ltb}
 use lib.Dec.{ltb}
 use Rattle.image.proofs.Bools.{and_left, and_right, and_true}
-use Rattle.decimal_values.specs.declared.Value.{Value}
 use Rattle.decimal_values.specs.Values.{in_halves, integer_value}
 use Rattle.pattern_grammar.specs.Lexemes.{Spot, Source, over, strictly, wide}
 use Rattle.pattern_grammar.specs.Trees.{LiteralPattern, true_at, false_at, character, whole, negative, Ampersand, single, double, ListHead, tuple_at, struct_at, slice_at, Pattern, alone, or, NoTopAlt, plain, between, upward, up_to, WithoutRange, literal, ident, ident_at, wild, rest, reference, path, list, list_to, record_of, record_to, record_dots, ListItems, no_item, item, RecordFields, no_field, field, RecordField, keyed, short, RangeBound, constant, place}
@@ -28,7 +28,7 @@ value_fits_lem : (v : ℕ) (minus : Bool) → not (over minus (in_halves v) && t
 unfolding in_halves over
 value_fits_lem v minus e = go (ltb (v / 2 ^ 64) (2 ^ 64)) refl e
   where
-    go : (b : Bool) → ltb (v / 2 ^ 64) (2 ^ 64) ≡ b → not (over minus (cond b (Value.Halves (v % 2 ^ 64) (v / 2 ^ 64)) Value.Over) && true) ≡ true → ltb v (2 ^ 128) ≡ true
+    go : (b : Bool) → ltb (v / 2 ^ 64) (2 ^ 64) ≡ b → not (over minus (cond b (Some (v % 2 ^ 64, v / 2 ^ 64)) None) && true) ≡ true → ltb v (2 ^ 128) ≡ true
     go true q h = lt-ltb v (2 ^ 128) (both_small v 64 64 (ltb-true (v / 2 ^ 64) (2 ^ 64) q))
     go false q h = absurd (false≢true h)
 

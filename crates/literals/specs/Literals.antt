@@ -1,4 +1,5 @@
 -- Literals and constants as operands of MIR: their bytes, as they lie in memory. Assumes nothing: these are definitions.
+use Rattle.std.specs.Prelude.{Ok, Err}
 use Rattle.std.specs.Prelude.{ℕ, ◌+◌, List, length, take, drop}
 use Rattle.image.specs.declared.kinds.OperandKind.{OperandKind}
 use Rattle.image.specs.Bytes.{little_endian}
@@ -6,7 +7,7 @@ use Rattle.image.specs.Types.{Shape, integer, bool, char, str, tuple, adt, refer
 use Rattle.refusals.specs.declared.MirLowerError.{MirLowerError}
 use Rattle.refusals.specs.Refusals.{Result, done, stopped}
 use Rattle.mir.specs.declared.rvalues.Constant.{Constant}
-use Rattle.literals.specs.declared.LoweredOperand.{LoweredOperand}
+use Rattle.literals.specs.Results.{LoweredOperand}
 
 -- at most 16 bytes as a constant of the type ty: their count, and the bytes as two halves, the lowest first
 unfoldable pub constant_of : ℕ → List ℕ → Constant
@@ -71,5 +72,5 @@ lower_literal_or_const_to_operand image ty operand = literal_or_const_by operand
 
 -- an answer of the code, as the definitions have it
 abbrev pub operand_result : LoweredOperand → Result Constant
-operand_result (LoweredOperand.Constant c) = done c
-operand_result (LoweredOperand.Refused e) = stopped e
+operand_result (Ok c) = done c
+operand_result (Err e) = stopped e

@@ -11,16 +11,10 @@ ghost use Rattle.image.specs.Valid.{valid};
 ghost use Rattle.literals.specs.Literals.{constant_of, string_constant, integer_constant, lower_literal_to_operand, lower_const_to_operand, lower_literal_or_const_to_operand, operand_result};
 
 use image::Tables;
-use image::kinds::{OperandKind, TypeKind, operand_kind, type_kind};
+use image::kinds::{OperandKind, TypeKind};
 use image::rows::{operand_at, operand_bytes, type_at};
 use mir::rvalues::Constant;
 use refusals::MirLowerError;
-
-#[derive(Clone, Copy)]
-pub enum LoweredOperand {
-    Constant(Constant),
-    Refused(MirLowerError),
-}
 
 // The number of `count` bytes from `at` on, the lowest first.
 pub fn half(bytes: &[u8], at: usize, count: usize) -> u64
@@ -28,10 +22,8 @@ pub fn half(bytes: &[u8], at: usize, count: usize) -> u64
     ensures { result ≡ little_endian (take count (drop at bytes.now)) }
 {
     let mut value = 0u64;
-    let mut left = count;
-    while 0 < left {
-        left -= 1;
-        value = (bytes[at + left] as u64) + 256 * value;
+    for i in (0..count).rev() {
+        value = (bytes[at + i] as u64) + 256 * value;
     }
     value
 }
@@ -72,45 +64,43 @@ fn string_constant(ty: u16, offset: u16, length: u64) -> Constant
 }
 
 // An integer's 16 bytes, cut to the size of its type.
-fn integer_constant(image: &[u8], tables: Tables, ty: u16, bytes: &[u8]) -> LoweredOperand
+fn integer_constant(
+    image: &[u8],
+    tables: Tables,
+    ty: u16,
+    bytes: &[u8],
+) -> Result<Constant, MirLowerError>
     requires { (valid image.now ≡ true) × Whole image.now tables × (ty < type_count image.now) × (length bytes.now ≡ 16) }
     ensures { operand_result result ≡ integer_constant (ty_of image.now ty).shape ty bytes.now }
 {
     let row = type_at(image, tables, ty);
-    match type_kind(row.kind) {
-        TypeKind::Integer => LoweredOperand::Constant(constant_of(ty, bytes, row.a)),
-        _ => LoweredOperand::Refused(MirLowerError::NotSupported),
+    match TypeKind::from(row.kind) {
+        TypeKind::Integer => Ok(constant_of(ty, bytes, row.a)),
+        _ => Err(MirLowerError::NotSupported),
     }
 }
 
 // The literal whose operand begins at the word o of the list, at the type ty.
-pub fn lower_literal_to_operand(image: &[u8], tables: Tables, ty: u16, o: u16) -> LoweredOperand
+pub fn lower_literal_to_operand(
+    image: &[u8],
+    tables: Tables,
+    ty: u16,
+    o: u16,
+) -> Result<Constant, MirLowerError>
     requires { (valid image.now ≡ true) × Whole image.now tables × (ty < type_count image.now) × (operand_holds image.now o ≡ true) }
     ensures { operand_result result ≡ lower_literal_to_operand image.now ty (operand_of image.now o) }
 {
     let row = operand_at(image, tables, o);
     let bytes = operand_bytes(image, tables, row);
-    match operand_kind(row.kind) {
+    match OperandKind::from(row.kind) {
         OperandKind::Int => integer_constant(image, tables, ty, bytes),
         OperandKind::Uint => integer_constant(image, tables, ty, bytes),
-        OperandKind::Char => LoweredOperand::Constant(constant_of(ty, bytes, 4)),
-        OperandKind::Bool => LoweredOperand::Constant(constant_of(ty, bytes, 1)),
-        OperandKind::Str => LoweredOperand::Constant(string_constant(
-            ty,
-            row.offset,
-            row.count as u64,
-        )),
-        OperandKind::CStr => LoweredOperand::Constant(string_constant(
-            ty,
-            row.offset,
-            (row.count as u64) + 1,
-        )),
-        OperandKind::ByteStr => LoweredOperand::Constant(string_constant(
-            ty,
-            row.offset,
-            row.count as u64,
-        )),
-        _ => LoweredOperand::Refused(MirLowerError::NotSupported),
+        OperandKind::Char => Ok(constant_of(ty, bytes, 4)),
+        OperandKind::Bool => Ok(constant_of(ty, bytes, 1)),
+        OperandKind::Str => Ok(string_constant(ty, row.offset, row.count as u64)),
+        OperandKind::CStr => Ok(string_constant(ty, row.offset, (row.count as u64) + 1)),
+        OperandKind::ByteStr => Ok(string_constant(ty, row.offset, row.count as u64)),
+        _ => Err(MirLowerError::NotSupported),
     }
 }
 
@@ -130,15 +120,13 @@ pub fn lower_literal_or_const_to_operand(
     tables: Tables,
     ty: u16,
     o: u16,
-) -> LoweredOperand
+) -> Result<Constant, MirLowerError>
     requires { (valid image.now ≡ true) × Whole image.now tables × (ty < type_count image.now) × (operand_holds image.now o ≡ true) }
     ensures { operand_result result ≡ lower_literal_or_const_to_operand image.now ty (operand_of image.now o) }
 {
     let row = operand_at(image, tables, o);
-    match operand_kind(row.kind) {
-        OperandKind::Constant => LoweredOperand::Constant(lower_const_to_operand(
-            image, tables, ty, o,
-        )),
+    match OperandKind::from(row.kind) {
+        OperandKind::Constant => Ok(lower_const_to_operand(image, tables, ty, o)),
         _ => lower_literal_to_operand(image, tables, ty, o),
     }
 }

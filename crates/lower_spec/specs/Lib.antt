@@ -1,3 +1,4 @@
+pub mod Results
 pub mod Temps
 pub mod Merging
 pub mod Recorded

@@ -1,4 +1,5 @@
 -- The answer of `pattern_match` in words, and the call as its words say. Assumes nothing.
+use Rattle.std.specs.Prelude.{Ok, Err}
 use Prim.Native.Nat.{ℕ}
 use mathlib.Core.Path.{◌≡◌, ap, ◌∙◌}
 use mathlib.Core.List.{List, [], ◌∷◌}
@@ -9,21 +10,22 @@ use Rattle.place.specs.declared.Place.{Place}
 use Rattle.mir.specs.declared.BasicBlockId.{BasicBlockId}
 use Rattle.mir.specs.declared.Counts.{Counts}
 use Rattle.state.specs.State.{Body}
-use Rattle.lower_spec.specs.declared.merging.OptBlock.{OptBlock}
-use Rattle.pattern_calls_spec.specs.declared.MatchCall.{MatchCall}
+use Rattle.lower_spec.specs.Results.{OptBlock}
+use Rattle.pattern_calls_spec.specs.Results.{MatchCall}
 use Rattle.pattern_walk_spec.specs.Calls.{Visits}
 use Rattle.pattern_calls_spec.specs.Calls.{pattern_match_call, match_way, match_ctx}
 use Rattle.pattern_calls_spec.proofs.Stepping.{visits_by}
 use Rattle.lowering_c.specs.Words.{block_word, answer_words, refusal_words, Answered}
+use Rattle.body_calls_spec.specs.declared.PatternCallError.{PatternCallError}
 
 -- the words of a match
-pub matched_words : {call : MatchCall} {c : Counts} {then : BasicBlockId} {els : OptBlock} {e : ℕ} → call ≡ MatchCall.Matched c then els → e ≡ block_word els →
+pub matched_words : {call : MatchCall} {c : Counts} {then : BasicBlockId} {els : OptBlock} {e : ℕ} → call ≡ Ok (c, then, els) → e ≡ block_word els →
     0 ∷ 0 ∷ 0 ∷ then.0 ∷ e ∷ c.blocks ∷ c.statements ∷ c.locals ∷ c.scopes ∷ c.entries ∷ [] ≡ answer_words call
 unfolding answer_words
 matched_words is els = rw (is, els)
 
 -- the words of a refusal
-pub refused_words : {call : MatchCall} {e : MirLowerError} {p : PatId} {number reason : ℕ} → call ≡ MatchCall.Refused e p → number ≡ number_of e → reason ≡ reason_of e →
+pub refused_words : {call : MatchCall} {e : MirLowerError} {p : PatId} {number reason : ℕ} → call ≡ Err (PatternCallError.Refused e p) → number ≡ number_of e → reason ≡ reason_of e →
     refusal_words number p.0 reason ≡ answer_words call
 unfolding answer_words
 refused_words is number reason = rw (is, number, reason)

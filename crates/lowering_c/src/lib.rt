@@ -5,41 +5,42 @@ ghost use Rattle.std.specs.Prelude.{◌≡◌};
 ghost use Rattle.lowering_c.specs.Words.{block_or_none, block_word, answer_words, WordsGive};
 ghost use Rattle.body_tables.specs.Layout.{body_of};
 
+use body_calls_spec::PatternCallError;
 use body_tables::BODY_WORDS;
 use image::PatId;
-use lower_spec::merging::OptBlock;
 use mir::{BasicBlockId, Counts};
-use pattern_calls_spec::MatchCall;
 use pattern_entering::VISIT_WORDS;
 use pattern_match_call::pattern_match;
 use place::{LocalId, Place};
 use refusal_numbers::{number_of, reason_of};
 
 // A block's number, or 65535 for none.
-fn block_or_none(word: u16) -> OptBlock
+fn block_or_none(word: u16) -> Option<BasicBlockId>
     ensures { result ≡ block_or_none word }
 {
     if word == 65535 {
-        return OptBlock::None;
+        return None;
     }
-    OptBlock::Some(BasicBlockId(word))
+    Some(BasicBlockId(word))
 }
 
-fn block_word(b: OptBlock) -> u16
+fn block_word(b: Option<BasicBlockId>) -> u16
     ensures { result ≡ block_word b }
 {
     match b {
-        OptBlock::None => 65535,
-        OptBlock::Some(block) => block.0,
+        None => 65535,
+        Some(block) => block.0,
     }
 }
 
 // The words of an answer: the three numbers of a refusal, or zeros; then the block where a match goes on, the one where a mismatch does, and the five counts, or zeros.
-fn answer_words(call: MatchCall) -> [u16; 10]
+fn answer_words(
+    call: Result<(Counts, BasicBlockId, Option<BasicBlockId>), PatternCallError>,
+) -> [u16; 10]
     ensures { result ≡ answer_words call }
 {
     match call {
-        MatchCall::Matched(c, then, els) => [
+        Ok((c, then, els)) => [
             0,
             0,
             0,
@@ -51,9 +52,20 @@ fn answer_words(call: MatchCall) -> [u16; 10]
             c.scopes,
             c.entries,
         ],
-        MatchCall::Refused(e, p) => [number_of(e), p.0, reason_of(e), 0, 0, 0, 0, 0, 0, 0],
-        MatchCall::BadCall => [2, 65535, 0, 0, 0, 0, 0, 0, 0, 0],
-        MatchCall::BadImage => [1, 65535, 0, 0, 0, 0, 0, 0, 0, 0],
+        Err(PatternCallError::Refused(e, p)) => [
+            number_of(e),
+            p.0,
+            reason_of(e),
+            0,
+            0,
+            0,
+            0,
+            0,
+            0,
+            0,
+        ],
+        Err(PatternCallError::BadCall) => [2, 65535, 0, 0, 0, 0, 0, 0, 0, 0],
+        Err(PatternCallError::BadImage) => [1, 65535, 0, 0, 0, 0, 0, 0, 0, 0],
     }
 }
 

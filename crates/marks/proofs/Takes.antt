@@ -4,7 +4,7 @@ use Prim.Native.Nat.{ℕ, zero, suc, ◌+◌, ◌*◌, ◌-◌, ◌≤◌, ◌<�
 use mathlib.Core.Path.{◌≡◌, refl, ap, sym, ◌∙◌}
 use mathlib.Core.Bool.{Bool, true, false, ◌&&◌, false≢true, and_assoc, and-false}
 use mathlib.Core.List.{List, [], ◌∷◌, ◌++◌}
-use native.Mathlib.Nat.{mul-suc}
+use native.Mathlib.Nat.{mul-le-mul_left}
 use native.Mathlib.Omega.{arith}
 use borrow.Author.Tests.{lt-ltb, le-ltb, eq-eqb, ne_eqb}
 use lib.Dec.{ltb}
@@ -95,6 +95,11 @@ unfolding up_from
 up_from_next from zero h = absurd (h refl)
 up_from_next from (suc n) h = let e : suc n - 1 ≡ n = omega arith in rw e
 
+-- the numbers from x on, before `end`: the first, and the others
+pub up_from_before : (x end : ℕ) → x < end → up_from x (end - x) ≡ x ∷ up_from (x + 1) (end - (x + 1))
+unfolding up_from
+up_from_before x end h = let e : end - x ≡ suc (end - (x + 1)) = omega arith in rw e
+
 -- a range of no numbers is empty
 pub up_from_none : (from count : ℕ) → count ≡ 0 → up_from from count ≡ []
 unfolding up_from
@@ -111,7 +116,16 @@ pub listed_none : (image : List ℕ) (step from count : ℕ) → count ≡ 0 →
 unfolding listed
 listed_none image step from count e = rw e
 
--- steps, where there are any, are those that are left and one more
-pub steps_next : (step count : ℕ) → (count ≡ 0 → ⊥) → step * count ≡ step * (count - 1) + step
-steps_next step zero h = absurd (h refl)
-steps_next step (suc n) h = let e : suc n - 1 ≡ n = omega arith in rw e (mul-suc step n)
+-- the words of the list behind the first k: the next, and the others
+pub listed_at : (image : List ℕ) (step from count k : ℕ) → k < count → listed image step (from + step * k) (count - k) ≡ list_at image (from + step * k) ∷ listed image step (from + step * (k + 1)) (count - (k + 1))
+unfolding listed
+listed_at image step from count k h =
+    let left : count - k ≡ suc (count - (k + 1)) = omega arith in
+    let next : from + step * (k + 1) ≡ from + step * k + step = omega arith in
+    rw (left, next)
+
+-- a step behind fewer steps than there are lies within them
+pub steps_within : (step k count : ℕ) → k < count → step * k + step ≤ step * count
+steps_within step k count h =
+    let next : step * k + step ≡ step * suc k = omega arith in
+    rw next (mul-le-mul_left step h)

@@ -43,14 +43,10 @@ pub fn take_range(bound: u16, marks: &mut [u8], from: u16, count: u16) -> bool
     requires { (bound ≤ length marks.old) × (from + count < 65536) }
     ensures { Taken bound marks.old marks.new (up_from from count) result }
 {
-    let mut x = from;
-    let mut left = count;
-    while left != 0 {
+    for x in from..from + count {
         if !take(bound, marks, x) {
             return false;
         }
-        x += 1;
-        left -= 1;
     }
     true
 }
@@ -68,14 +64,10 @@ pub fn take_listed(
     requires { Whole image.now tables × (bound ≤ length marks.old) × (step ≤ 2) × (from + step * count < list_count image.now + step) × (list_count image.now ≤ 2048) }
     ensures { Taken bound marks.old marks.new (listed image.now step from count) result }
 {
-    let mut i = from;
-    let mut left = count;
-    while left != 0 {
-        if !take(bound, marks, list_at(image, tables, i)) {
+    for k in 0..count {
+        if !take(bound, marks, list_at(image, tables, from + step * k)) {
             return false;
         }
-        i += step;
-        left -= 1;
     }
     true
 }

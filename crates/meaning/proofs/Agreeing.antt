@@ -10,7 +10,7 @@ use Rattle.mir.specs.declared.blocks.Terminator.{Terminator}
 use Rattle.views.specs.Views.{Line, Mir}
 use Rattle.views.specs.Growing.{terminator_at}
 use Rattle.meaning.specs.Running.{Scene, Env, execute, switched, Run, here, skip, step, jump, branch}
-use Rattle.lower_spec.specs.declared.merging.OptBlock.{OptBlock}
+use Rattle.lower_spec.specs.Results.{OptBlock}
 use Rattle.meaning.specs.Executing.{Position, Ending, at_then, at_else, stuck, unfinished, is_else, line_done, entering, Leap, to, nowhere, leap, leap_to, advanced, steps, leapt, onward, runs}
 
 -- a position

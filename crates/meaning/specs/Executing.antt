@@ -1,8 +1,9 @@
 -- A run as a function: one step after another, and until it stops. Document 01: it "stops at the end of the then block or on reaching the else".
 -- Assumes nothing: these are definitions.
+use Rattle.std.specs.Prelude.{Some, None}
 use Rattle.std.specs.Prelude.{ℕ, zero, suc, Bool, false, cond, List, [], ◌∷◌, ◌++◌, eqb}
 use Rattle.mir.specs.declared.blocks.Terminator.{Terminator}
-use Rattle.lower_spec.specs.declared.merging.OptBlock.{OptBlock}
+use Rattle.lower_spec.specs.Results.{OptBlock}
 use Rattle.views.specs.Views.{Line, Mir}
 use Rattle.views.specs.Growing.{terminator_at}
 use Rattle.meaning.specs.Running.{Scene, Env, execute, switched}
@@ -22,8 +23,8 @@ pub data Ending : Type 0 where
   unfinished : Ending
 
 abbrev pub is_else : OptBlock → ℕ → Bool
-is_else OptBlock.None b = false
-is_else (OptBlock.Some e) b = eqb b e.0
+is_else None b = false
+is_else (Some e) b = eqb b e.0
 
 -- a line, in its block
 abbrev pub line_done : Scene → Position → Line → List Line → Position

@@ -1,9 +1,10 @@
 -- Blocks and their terminators, in rows of a table of 512. Assumes nothing: these are definitions.
+use Rattle.std.specs.Prelude.{Some, None}
 use Rattle.std.specs.Prelude.{ℕ, ◌+◌, ◌*◌, ◌/◌, ◌%◌, Bool, cond, List, [], ◌∷◌, ◌++◌, eqb, ltb, get_or}
 use Rattle.row_tables.specs.Rows.{zeros}
 use Rattle.mir.specs.declared.Counts.{Counts}
 use Rattle.mir.specs.declared.blocks.Terminator.{Terminator}
-use Rattle.mir.specs.declared.blocks.NewBlock.{NewBlock}
+use Rattle.mir.specs.Results.{NewBlock}
 
 -- document 01: "512 blocks"
 abbrev pub block_limit : ℕ
@@ -39,4 +40,4 @@ one_block_more c = record { blocks = c.blocks + 1; statements = c.statements; lo
 
 -- a new block: its number is the count of the blocks before it; the 513th passes the limit
 unfoldable pub new_block : Counts → NewBlock
-new_block c = cond (ltb c.blocks block_limit) (NewBlock.Block (one_block_more c) (record { 0 = c.blocks })) NewBlock.Full
+new_block c = cond (ltb c.blocks block_limit) (Some (one_block_more c, record { 0 = c.blocks })) None

@@ -1,8 +1,9 @@
 -- Locals, a word each in a table of 512. Assumes nothing: these are definitions.
+use Rattle.std.specs.Prelude.{Some, None}
 use Rattle.std.specs.Prelude.{ℕ, ◌+◌, ◌-◌, Bool, cond, List, [], ◌∷◌, ltb, get_or, set}
 use Rattle.place.specs.declared.place_ty.PlaceTy.{PlaceTy}
 use Rattle.mir.specs.declared.Counts.{Counts}
-use Rattle.mir.specs.declared.locals.NewLocal.{NewLocal}
+use Rattle.mir.specs.Results.{NewLocal}
 
 -- document 01: "512 locals"
 abbrev pub local_limit : ℕ
@@ -22,7 +23,7 @@ one_local_more c = record { blocks = c.blocks; statements = c.statements; locals
 
 -- a new local: its number is the count of the locals before it; the 513th passes the limit
 unfoldable pub new_local : Counts → NewLocal
-new_local c = cond (ltb c.locals local_limit) (NewLocal.Local (one_local_more c) (record { 0 = c.locals })) NewLocal.Full
+new_local c = cond (ltb c.locals local_limit) (Some (one_local_more c, record { 0 = c.locals })) None
 
 -- the table with it
 unfoldable pub locals_after : Counts → List ℕ → ℕ → List ℕ

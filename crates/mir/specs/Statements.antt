@@ -1,9 +1,10 @@
 -- Statements, in rows of a table of 1,024, in order of creation. Assumes nothing: these are definitions.
+use Rattle.std.specs.Prelude.{Some, None}
 use Rattle.std.specs.Prelude.{ℕ, ◌+◌, ◌*◌, ◌/◌, ◌%◌, cond, List, [], ◌∷◌, ltb}
 use Rattle.row_tables.specs.Rows.{stored}
 use Rattle.place.specs.declared.Place.{Place}
 use Rattle.mir.specs.declared.Counts.{Counts}
-use Rattle.mir.specs.declared.scopes.Counted.{Counted}
+use Rattle.mir.specs.Results.{Counted}
 
 -- document 01: "1,024 statements"
 abbrev pub statement_limit : ℕ
@@ -31,7 +32,7 @@ one_statement_more c = record { blocks = c.blocks; statements = c.statements + 1
 
 -- a new statement; the 1,025th passes the limit
 unfoldable pub new_statement : Counts → Counted
-new_statement c = cond (ltb c.statements statement_limit) (Counted.Now (one_statement_more c)) Counted.Full
+new_statement c = cond (ltb c.statements statement_limit) (Some (one_statement_more c)) None
 
 -- the table with it
 unfoldable pub statements_after : Counts → List ℕ → List ℕ → List ℕ

@@ -19,31 +19,21 @@ pub enum Terminator {
     Drop(LocalId, BasicBlockId),
 }
 
-#[derive(Clone, Copy)]
-pub enum NewBlock {
-    Block(Counts, BasicBlockId),
-    // The limit is passed.
-    Full,
-}
-
 // A new block, open.
-pub fn new_basic_block(counts: Counts) -> NewBlock
+pub fn new_basic_block(counts: Counts) -> Option<(Counts, BasicBlockId)>
     ensures { result ≡ new_block counts }
 {
     let n = counts.blocks;
     if 512 <= n {
-        return NewBlock::Full;
+        return None;
     }
-    NewBlock::Block(
+    Some((
         Counts {
             blocks: n + 1,
-            statements: counts.statements,
-            locals: counts.locals,
-            scopes: counts.scopes,
-            entries: counts.entries,
+            ..counts
         },
         BasicBlockId(n),
-    )
+    ))
 }
 
 // The row of a switch.

@@ -13,34 +13,24 @@ pub const USIZE: u16 = 257;
 
 pub const I128: u16 = 258;
 
-#[derive(Clone, Copy)]
-pub enum NewLocal {
-    Local(Counts, LocalId),
-    // The limit is passed.
-    Full,
-}
-
 // A new local of the type that the word says.
-pub fn new_local(locals: &mut [u16], counts: Counts, ty: u16) -> NewLocal
+pub fn new_local(locals: &mut [u16], counts: Counts, ty: u16) -> Option<(Counts, LocalId)>
     requires { length locals.old ≡ 512 }
     ensures { (result ≡ new_local counts) × (locals.new ≡ locals_after counts locals.old ty) }
 {
     let n = counts.locals;
     if 512 <= n {
-        return NewLocal::Full;
+        return None;
     }
     let at = n as usize;
     locals[at] = ty;
-    NewLocal::Local(
+    Some((
         Counts {
-            blocks: counts.blocks,
-            statements: counts.statements,
             locals: n + 1,
-            scopes: counts.scopes,
-            entries: counts.entries,
+            ..counts
         },
         LocalId(n),
-    )
+    ))
 }
 
 // The type of a word.

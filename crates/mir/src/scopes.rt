@@ -6,49 +6,36 @@ ghost use Rattle.mir.specs.Scopes.{new_scope, scopes_after, new_entry, entries_a
 use super::Counts;
 use place::LocalId;
 
-// The counts, or a limit is passed.
-#[derive(Clone, Copy)]
-pub enum Counted {
-    Now(Counts),
-    Full,
-}
-
 // A new scope, with no entry.
-pub fn push_scope(scopes: &mut [u16], counts: Counts) -> Counted
+pub fn push_scope(scopes: &mut [u16], counts: Counts) -> Option<Counts>
     requires { length scopes.old ≡ 32 }
     ensures { (result ≡ new_scope counts) × (scopes.new ≡ scopes_after counts scopes.old) }
 {
     let n = counts.scopes;
     if 32 <= n {
-        return Counted::Full;
+        return None;
     }
     let at = n as usize;
     scopes[at] = counts.entries;
-    Counted::Now(Counts {
-        blocks: counts.blocks,
-        statements: counts.statements,
-        locals: counts.locals,
+    Some(Counts {
         scopes: n + 1,
-        entries: counts.entries,
+        ..counts
     })
 }
 
 // A local as the last entry of the last scope.
-pub fn push_entry(entries: &mut [u16], counts: Counts, l: LocalId) -> Counted
+pub fn push_entry(entries: &mut [u16], counts: Counts, l: LocalId) -> Option<Counts>
     requires { length entries.old ≡ 1024 }
     ensures { (result ≡ new_entry counts) × (entries.new ≡ entries_after counts entries.old l.0) }
 {
     let n = counts.entries;
     if 1024 <= n {
-        return Counted::Full;
+        return None;
     }
     let at = n as usize;
     entries[at] = l.0;
-    Counted::Now(Counts {
-        blocks: counts.blocks,
-        statements: counts.statements,
-        locals: counts.locals,
-        scopes: counts.scopes,
+    Some(Counts {
         entries: n + 1,
+        ..counts
     })
 }

@@ -8,7 +8,6 @@ ghost use Rattle.mir.specs.Statements.{halves, place_words, new_statement, state
 ghost use Rattle.mir.specs.Rvalues.{constant_words, left_words, place_rvalue_kind, binary_kind, live_row, dead_row, place_rvalue_row, constant_row, binary_row};
 
 use mir::rvalues::{BinOp, Constant, Left, PlaceRvalue};
-use mir::scopes::Counted;
 use mir::{BasicBlockId, Counts, STATEMENT_WIDTH};
 use place::{LocalId, Place};
 use row_tables::store_row;
@@ -30,12 +29,9 @@ fn split_elems(elems: &[u32], words: &mut [u16])
     requires { (length elems.now ≡ 16) × (length words.old ≡ 34) }
     ensures { words.new ≡ stored words.old 2 (halves elems.now) }
 {
-    let mut i = 0;
-    while i < elems.len() {
-        let elem = elems[i];
-        words[2 + 2 * i] = (elem % 65536) as u16;
-        words[3 + 2 * i] = (elem / 65536) as u16;
-        i += 1;
+    for (i, elem) in elems.iter().enumerate() {
+        words[2 + 2 * i] = (*elem % 65536) as u16;
+        words[3 + 2 * i] = (*elem / 65536) as u16;
     }
 }
 
@@ -46,24 +42,21 @@ pub fn push_statement(
     head: [u16; 3],
     operand: [u16; 12],
     place: [u16; 34],
-) -> Counted
+) -> Option<Counts>
     requires { length statements.old ≡ statement_words }
     ensures { (result ≡ new_statement counts) × (statements.new ≡ statements_after counts statements.old (head ++ (operand ++ place))) }
 {
     let n = counts.statements;
     if 1024 <= n {
-        return Counted::Full;
+        return None;
     }
     let at = STATEMENT_WIDTH * (n as usize);
     store_row(statements, at, &head);
     store_row(statements, at + 3, &operand);
     store_row(statements, at + 15, &place);
-    Counted::Now(Counts {
-        blocks: counts.blocks,
+    Some(Counts {
         statements: n + 1,
-        locals: counts.locals,
-        scopes: counts.scopes,
-        entries: counts.entries,
+        ..counts
     })
 }
 
@@ -122,7 +115,12 @@ fn binary_kind(op: BinOp) -> u16
 }
 
 // StorageLive of a local.
-pub fn push_live(statements: &mut [u16], counts: Counts, block: BasicBlockId, l: LocalId) -> Counted
+pub fn push_live(
+    statements: &mut [u16],
+    counts: Counts,
+    block: BasicBlockId,
+    l: LocalId,
+) -> Option<Counts>
     requires { length statements.old ≡ statement_words }
     ensures { (result ≡ new_statement counts) × (statements.new ≡ statements_after counts statements.old (live_row block l)) }
 {
@@ -136,7 +134,12 @@ pub fn push_live(statements: &mut [u16], counts: Counts, block: BasicBlockId, l:
 }
 
 // StorageDead of a local.
-pub fn push_dead(statements: &mut [u16], counts: Counts, block: BasicBlockId, l: LocalId) -> Counted
+pub fn push_dead(
+    statements: &mut [u16],
+    counts: Counts,
+    block: BasicBlockId,
+    l: LocalId,
+) -> Option<Counts>
     requires { length statements.old ≡ statement_words }
     ensures { (result ≡ new_statement counts) × (statements.new ≡ statements_after counts statements.old (dead_row block l)) }
 {
@@ -157,7 +160,7 @@ pub fn push_assignment(
     target: LocalId,
     rvalue: PlaceRvalue,
     place: Place,
-) -> Counted
+) -> Option<Counts>
     requires { length statements.old ≡ statement_words }
     ensures { (result ≡ new_statement counts) × (statements.new ≡ statements_after counts statements.old (place_rvalue_row block target rvalue place)) }
 {
@@ -179,7 +182,7 @@ pub fn push_constant_assignment(
     block: BasicBlockId,
     target: LocalId,
     constant: Constant,
-) -> Counted
+) -> Option<Counts>
     requires { length statements.old ≡ statement_words }
     ensures { (result ≡ new_statement counts) × (statements.new ≡ statements_after counts statements.old (constant_row block target constant)) }
 {
@@ -202,7 +205,7 @@ pub fn push_binary_assignment(
     op: BinOp,
     left: Left,
     place: Place,
-) -> Counted
+) -> Option<Counts>
     requires { length statements.old ≡ statement_words }
     ensures { (result ≡ new_statement counts) × (statements.new ≡ statements_after counts statements.old (binary_row block target op left place)) }
 {

@@ -11,7 +11,7 @@ ghost use Rattle.name_resolving.specs.Gives.{Gives, marked_in};
 use image::Tables;
 use name_resolving::Resolution;
 use name_resolving::bindings::{binding, path_made};
-use name_resolving::lookup::{Named, look_up};
+use name_resolving::lookup::look_up;
 use name_resolving::rows::refused_here;
 use name_tables::NameUse;
 use node_rows::NodeRow;
@@ -30,7 +30,7 @@ pub fn resolve_ident(
     requires { Whole sheet.now tables × NameBytesWithin names.now }
     ensures { Gives spelled.now result node.parts (λ text. resolved_ident sheet.now names.now (row_for names.now as_value (name_in spelled.now node).bytes) (marked_in spelled.now node) t mode node.parts) }
 {
-    let Named::As(kind, number) = look_up(names, NameUse::Value, spelled, node) else {
+    let Some((kind, number)) = look_up(names, NameUse::Value, spelled, node) else {
         return binding(node, t, mode, 65535, 0, 0);
     };
     if node.more != 0 {

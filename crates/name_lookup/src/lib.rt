@@ -7,7 +7,7 @@ ghost use Rattle.name_tables.specs.Tested.{NameBytesWithin, use_of, found_in};
 
 use image::word_at;
 use name_equality::is_same_word;
-use name_tables::{FoundRow, NameUse, name_row_at};
+use name_tables::{NameUse, name_row_at};
 use name_uses::row_serves;
 
 // The row i serves the use and has this name.
@@ -25,17 +25,15 @@ fn row_is_named(names: &[u8], wanted: NameUse, name: &[u8], i: u16) -> bool
 }
 
 // The first row that serves a use and has this name.
-pub fn row_for(names: &[u8], wanted: NameUse, name: &[u8]) -> FoundRow
+pub fn row_for(names: &[u8], wanted: NameUse, name: &[u8]) -> Option<u16>
     requires { NameBytesWithin names.now }
     ensures { found_in result ≡ row_for names.now (use_of wanted) name.now }
 {
     let count = word_at(names, 5);
-    let mut i: u16 = 0;
-    while i < count {
+    for i in 0..count {
         if row_is_named(names, wanted, name, i) {
-            return FoundRow::At(i);
+            return Some(i);
         }
-        i += 1;
     }
-    FoundRow::Nothing
+    None
 }

@@ -1,4 +1,5 @@
 -- The bytes of a node's name, and what is found of it in the name table. Assumes nothing.
+use Rattle.std.specs.Prelude.{None}
 use Prim.Native.Nat.{ℕ, zero, suc, ◌+◌, ◌-◌, ◌≤◌, ◌<◌}
 use mathlib.Core.Path.{◌≡◌, refl, sym, ◌∙◌}
 use mathlib.Core.Bool.{Bool, true, false, cond}
@@ -12,7 +13,6 @@ use lib.Seq.{take_all, take-nil}
 use Rattle.pattern_syntax.specs.Reduced.{bytes_from}
 use Rattle.pattern_typing.specs.Failing.{lower}
 use Rattle.name_tables.specs.Names.{row_count, first_from, row_for, Use}
-use Rattle.name_resolving.specs.declared.lookup.Named.{Named}
 use Rattle.name_resolving.specs.Gives.{named_as}
 
 pub lower_first : (a b : ℕ) → a ≤ b → lower a b ≡ a
@@ -89,6 +89,6 @@ pub row_below : (names : List ℕ) (wanted : Use) (name : List ℕ) (row : ℕ) 
 unfolding row_for
 row_below names wanted name row e = omega (arith, first_below _ 0 (row_count names) row e)
 
-pub lacking : (names : List ℕ) {o : Option ℕ} → none ≡ o → Named.Lacking ≡ named_as names o
+pub lacking : (names : List ℕ) {o : Option ℕ} → none ≡ o → None ≡ named_as names o
 unfolding named_as
 lacking names e = rw (← e)

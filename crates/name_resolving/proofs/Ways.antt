@@ -1,4 +1,6 @@
 -- The ways through resolving a node. Assumes nothing.
+use Rattle.std.specs.Prelude.{Some, None}
+use Rattle.std.proofs.lemmas.Option.{same_Some}
 use Prim.Native.Nat.{ℕ, ◌-◌, ◌≤◌}
 use mathlib.Core.Path.{◌≡◌, refl, sym, ap, ◌∙◌}
 use mathlib.Core.Bool.{Bool, true, false, cond, ◌||◌}
@@ -19,7 +21,6 @@ use Rattle.node_rows.specs.Makings.{making_of, bound_at_in}
 use Rattle.type_parts.specs.declared.CrossedType.{CrossedType}
 use Rattle.type_parts.specs.Parts.{crossed_of, parts_of}
 use Rattle.name_resolving.specs.declared.Resolution.{Resolution}
-use Rattle.name_resolving.specs.declared.lookup.Named.{Named}
 use Rattle.name_resolving.specs.Gives.{refused_of, resolved_of, Gives, GivesAlways, refused_row, named_as, marked_in, bound_at_of, bind_resolution, path_resolution}
 
 -- a word that is no number is read as none, and none is written as that word
@@ -40,34 +41,34 @@ unfolding resolved_of refused_of making_of parts_of
 refused_gives names many at wanted e w = rw e (record { same = λ text. sym (w text); parts = refl })
 
 module _ (table : List ℕ) where
-  pub none_named : (o : Option ℕ) → Named.Lacking ≡ named_as table o → o ≡ none
+  pub none_named : (o : Option ℕ) → None ≡ named_as table o → o ≡ none
   unfolding named_as
   none_named none e = refl
   none_named (some row) e = absurd (let z : ◌≡◌ {A = ℕ} 0 1 = cc in omega arith)
 
-  pub where_found : (o : Option ℕ) {kind number : ℕ} (n : Name) (go : ℕ → Resolved) → Named.As kind number ≡ named_as table o → where_named table o n go ≡ go number
+  pub where_found : (o : Option ℕ) {kind number : ℕ} (n : Name) (go : ℕ → Resolved) → Some (kind, number) ≡ named_as table o → where_named table o n go ≡ go number
   unfolding named_as where_named
   where_found none n go e = absurd (let z : ◌≡◌ {A = ℕ} 0 1 = cc in omega arith)
-  where_found (some row) {kind} {number} n go e = let same : (name_row_at table row).number ≡ number = cc in ap go same
+  where_found (some row) {kind} {number} n go e = let same : (name_row_at table row).number ≡ number = sym (ap (λ (p : ℕ × ℕ). p.1) (same_Some _ _ e)) in ap go same
 
-  pub where_lacking : (o : Option ℕ) (n : Name) (go : ℕ → Resolved) → Named.Lacking ≡ named_as table o → where_named table o n go ≡ refused_here n.at
+  pub where_lacking : (o : Option ℕ) (n : Name) (go : ℕ → Resolved) → None ≡ named_as table o → where_named table o n go ≡ refused_here n.at
   unfolding where_named
   where_lacking o n go e = rw (none_named o e)
 
-  pub path_found : (o : Option ℕ) {kind number : ℕ} (n : Name) (c : Crossed) → Named.As kind number ≡ named_as table o → resolved_path table o n c ≡ resolved_to (path_made c kind number) unseen_parts
+  pub path_found : (o : Option ℕ) {kind number : ℕ} (n : Name) (c : Crossed) → Some (kind, number) ≡ named_as table o → resolved_path table o n c ≡ resolved_to (path_made c kind number) unseen_parts
   unfolding named_as resolved_path
   path_found none n c e = absurd (let z : ◌≡◌ {A = ℕ} 0 1 = cc in omega arith)
   path_found (some row) {kind} {number} n c e =
-      let k : (name_row_at table row).kind ≡ kind = cc in
-      let v : (name_row_at table row).number ≡ number = cc in
+      let k : (name_row_at table row).kind ≡ kind = sym (ap (λ (p : ℕ × ℕ). p.0) (same_Some _ _ e)) in
+      let v : (name_row_at table row).number ≡ number = sym (ap (λ (p : ℕ × ℕ). p.1) (same_Some _ _ e)) in
       rw (k, v)
 
-  pub path_lacking : (o : Option ℕ) (n : Name) (c : Crossed) → Named.Lacking ≡ named_as table o → resolved_path table o n c ≡ refused_here n.at
+  pub path_lacking : (o : Option ℕ) (n : Name) (c : Crossed) → None ≡ named_as table o → resolved_path table o n c ≡ refused_here n.at
   unfolding resolved_path
   path_lacking o n c e = rw (none_named o e)
 
   -- a name that the table has
-  pub ident_found : (sheet : List ℕ) (o : Option ℕ) {kind number : ℕ} (m : Marked) (t mode many : ℕ) → Named.As kind number ≡ named_as table o → resolved_ident sheet table o m t mode many ≡ cond (m.reference || m.mutable || leb 1 many) (refused_here m.called.at) (resolved_to (path_made (crossed sheet t mode) kind number) unseen_parts)
+  pub ident_found : (sheet : List ℕ) (o : Option ℕ) {kind number : ℕ} (m : Marked) (t mode many : ℕ) → Some (kind, number) ≡ named_as table o → resolved_ident sheet table o m t mode many ≡ cond (m.reference || m.mutable || leb 1 many) (refused_here m.called.at) (resolved_to (path_made (crossed sheet t mode) kind number) unseen_parts)
   unfolding named_as resolved_ident
   ident_found sheet none m t mode many e = absurd (let z : ◌≡◌ {A = ℕ} 0 1 = cc in omega arith)
   ident_found sheet (some row) m t mode many e = rw (path_found (some row) m.called (crossed sheet t mode) e)
@@ -87,7 +88,7 @@ marked more many ne = go (eqb more 1) refl
         rw (le-leb 2 more large) (either (eqb more 3))
 
 -- a name alone that is a variant or a constant
-pub ident_path : (table sheet spelled : List ℕ) (node : NodeRow) (o : Option ℕ) {kind number : ℕ} (t mode : ℕ) → Named.As kind number ≡ named_as table o → node.more ≡ 0 → node.parts ≡ 0 → resolved_ident sheet table o (marked_in spelled node) t mode node.parts ≡ resolved_to (path_made (crossed sheet t mode) kind number) unseen_parts
+pub ident_path : (table sheet spelled : List ℕ) (node : NodeRow) (o : Option ℕ) {kind number : ℕ} (t mode : ℕ) → Some (kind, number) ≡ named_as table o → node.more ≡ 0 → node.parts ≡ 0 → resolved_ident sheet table o (marked_in spelled node) t mode node.parts ≡ resolved_to (path_made (crossed sheet t mode) kind number) unseen_parts
 ident_path table sheet spelled node o t mode e m p = ident_found table sheet o (marked_in spelled node) t mode node.parts e ∙ rw (m, p)
 
 -- a binding's row stands for it, bound at a type or at an array

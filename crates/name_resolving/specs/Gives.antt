@@ -1,4 +1,5 @@
 -- What the rows of a node that is resolved stand for. Assumes nothing: these are definitions.
+use Rattle.std.specs.Prelude.{Some, None}
 use Rattle.std.specs.Prelude.{ℕ, ◌≡◌, cond, ◌||◌, List, eqb, leb}
 use Rattle.std.proofs.Math.Option.{Option, none, some}
 use Rattle.name_tables.specs.Names.{name_row_at}
@@ -13,13 +14,13 @@ use Rattle.type_parts.specs.declared.CrossedType.{CrossedType}
 use Rattle.type_parts.specs.declared.FieldRun.{FieldRun}
 use Rattle.type_parts.specs.declared.PartsRow.{PartsRow}
 use Rattle.type_parts.specs.Parts.{parts_of}
-use Rattle.name_resolving.specs.declared.Refused.{Refused}
+use Rattle.name_resolving.specs.Results.{Refused}
 use Rattle.name_resolving.specs.declared.Resolution.{Resolution}
-use Rattle.name_resolving.specs.declared.lookup.Named.{Named}
+use Rattle.name_resolving.specs.Results.{Named}
 
 unfoldable pub refused_of : Refused → Option ℕ
-refused_of Refused.No = none
-refused_of (Refused.At at) = some at
+refused_of None = none
+refused_of (Some at) = some at
 
 unfoldable pub resolved_of : List ℕ → List ℕ → Resolution → Resolved
 resolved_of text names r = record { refused_at = refused_of r.refused; making = making_of text names r.making; reads = parts_of r.reads }
@@ -55,15 +56,15 @@ abbrev pub arguments_row : FieldRun → NodeRow → ℕ → PartsRow
 arguments_row fields node mode = record { kind = 3; a = fields.start; b = fields.count; c = node.more; mode = mode; many = node.parts }
 
 abbrev pub refused_row : ℕ → ℕ → Resolution
-refused_row parts at = record { refused = Refused.At at; making = made_row 0 parts 0 0 0 0 0; reads = unseen_row }
+refused_row parts at = record { refused = Some at; making = made_row 0 parts 0 0 0 0 0; reads = unseen_row }
 
 abbrev pub not_made_row : ℕ → Resolution
-not_made_row parts = record { refused = Refused.No; making = made_row 0 parts 0 0 0 0 0; reads = unseen_row }
+not_made_row parts = record { refused = None; making = made_row 0 parts 0 0 0 0 0; reads = unseen_row }
 
 -- the kind and number of a row that is found
 unfoldable pub named_as : List ℕ → Option ℕ → Named
-named_as names none = Named.Lacking
-named_as names (some row) = Named.As (name_row_at names row).kind (name_row_at names row).number
+named_as names none = None
+named_as names (some row) = Some ((name_row_at names row).kind, (name_row_at names row).number)
 
 -- a node's name with `ref` and `mut` before it
 abbrev pub marked_in : List ℕ → NodeRow → Marked
@@ -94,7 +95,7 @@ bind_row node t mode element many copy =
 -- a binding: its parts are read as it is
 abbrev pub bind_resolution : NodeRow → ℕ → ℕ → ℕ → ℕ → ℕ → Resolution
 bind_resolution node t mode element many copy =
-    record { refused = Refused.No; making = bind_row node t mode element many copy; reads = same_row t mode }
+    record { refused = None; making = bind_row node t mode element many copy; reads = same_row t mode }
 
 -- the word of a path's kind: a variant or a constant
 abbrev pub path_word : ℕ → ℕ
@@ -103,8 +104,8 @@ path_word kind = cond (eqb kind 1) 1 3
 -- a path behind the references that are crossed
 abbrev pub path_resolution : ℕ → CrossedType → ℕ → ℕ → Resolution
 path_resolution parts c kind number =
-    record { refused = Refused.No; making = made_row 1 parts c.ty c.derefs 9 (path_word kind) number; reads = unseen_row }
+    record { refused = None; making = made_row 1 parts c.ty c.derefs 9 (path_word kind) number; reads = unseen_row }
 
 -- a row that is whole, of this kind
 abbrev pub whole_resolution : ℕ → ℕ → ℕ → Resolution
-whole_resolution parts t kind = record { refused = Refused.No; making = made_row 1 parts t 0 kind 0 0; reads = unseen_row }
+whole_resolution parts t kind = record { refused = None; making = made_row 1 parts t 0 kind 0 0; reads = unseen_row }

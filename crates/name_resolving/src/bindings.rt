@@ -8,9 +8,9 @@ ghost use Rattle.pattern_typing.specs.Crossing.{crossed};
 ghost use Rattle.node_rows.specs.Nodes.{name_in};
 ghost use Rattle.name_resolving.specs.Gives.{Gives, bind_resolution, path_word, path_resolution};
 
-use crate::lookup::{Named, look_up};
+use crate::Resolution;
+use crate::lookup::look_up;
 use crate::rows::{made, refused_here, same_parts, unseen_parts};
-use crate::{Refused, Resolution};
 use image::Tables;
 use name_modes::{annotation_of, mode_of};
 use name_tables::NameUse;
@@ -40,7 +40,7 @@ pub fn binding(node: NodeRow, t: u16, mode: u16, element: u16, many: u16, copy: 
     };
     let reads = same_parts(t, mode);
     Resolution {
-        refused: Refused::No,
+        refused: None,
         making: making,
         reads: reads,
     }
@@ -59,7 +59,7 @@ pub fn path_made(parts: u16, c: CrossedType, kind: u16, number: u16) -> Resoluti
     let making = made(1, parts, c.ty, c.derefs, 9, path_word(kind), number);
     let reads = unseen_parts();
     Resolution {
-        refused: Refused::No,
+        refused: None,
         making: making,
         reads: reads,
     }
@@ -78,7 +78,7 @@ pub fn resolve_path(
     requires { Whole sheet.now tables × NameBytesWithin names.now }
     ensures { Gives spelled.now result node.parts (λ text. resolved_path names.now (row_for names.now as_value (name_in spelled.now node).bytes) (name_in spelled.now node) (crossed sheet.now t mode)) }
 {
-    let Named::As(kind, number) = look_up(names, NameUse::Value, spelled, node) else {
+    let Some((kind, number)) = look_up(names, NameUse::Value, spelled, node) else {
         return refused_here(node.parts, node.spot);
     };
     path_made(node.parts, cross(sheet, tables, t, mode), kind, number)

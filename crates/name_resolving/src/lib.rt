@@ -8,17 +8,10 @@ pub mod rows; // rows.rt: the rows of what is made
 use node_rows::MakingRow;
 use type_parts::PartsRow;
 
-// Whether a position is refused.
-#[derive(Clone, Copy)]
-pub enum Refused {
-    No,
-    At(u16),
-}
-
 // A position that is refused or none, what is made, and how the parts are read.
 #[derive(Clone, Copy)]
 pub struct Resolution {
-    pub refused: Refused,
+    pub refused: Option<u16>,
     pub making: MakingRow,
     pub reads: PartsRow,
 }

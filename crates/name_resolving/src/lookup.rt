@@ -7,15 +7,8 @@ ghost use Rattle.pattern_typing.specs.Failing.{lower};
 ghost use Rattle.name_resolving.specs.Gives.{named_as};
 
 use name_lookup::row_for;
-use name_tables::{FoundRow, NameUse, name_row_at};
+use name_tables::{NameUse, name_row_at};
 use node_rows::NodeRow;
-
-// What a name is, by the table's row: its kind and number. Or the table lacks it.
-#[derive(Clone, Copy)]
-pub enum Named {
-    As(u16, u16),
-    Lacking,
-}
 
 // The lower of two positions.
 pub fn lower_of(a: usize, b: usize) -> usize
@@ -34,13 +27,11 @@ fn name_bytes(spelled: &[u8], from: u16, to: u16) -> &[u8]
 }
 
 // What a node's name is, for a use.
-pub fn look_up(names: &[u8], wanted: NameUse, spelled: &[u8], node: NodeRow) -> Named
+pub fn look_up(names: &[u8], wanted: NameUse, spelled: &[u8], node: NodeRow) -> Option<(u16, u16)>
     requires { NameBytesWithin names.now }
     ensures { result ≡ named_as names.now (row_for names.now (use_of wanted) (bytes_from spelled.now node.from node.to)) }
 {
-    let FoundRow::At(row) = row_for(names, wanted, name_bytes(spelled, node.from, node.to)) else {
-        return Named::Lacking;
-    };
+    let row = row_for(names, wanted, name_bytes(spelled, node.from, node.to))?;
     let found = name_row_at(names, row);
-    Named::As(found.kind, found.number)
+    Some((found.kind, found.number))
 }

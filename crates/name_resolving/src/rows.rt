@@ -2,7 +2,7 @@
 ghost use Rattle.std.specs.Prelude.{◌≡◌};
 ghost use Rattle.name_resolving.specs.Gives.{made_row, literal_row, unseen_row, same_row, refused_row, not_made_row, whole_resolution};
 
-use crate::{Refused, Resolution};
+use crate::Resolution;
 use node_rows::{MakingRow, NodeRow};
 use type_parts::PartsRow;
 
@@ -81,7 +81,7 @@ pub fn refused_here(parts: u16, at: u16) -> Resolution
     let making = made(0, parts, 0, 0, 0, 0, 0);
     let reads = unseen_parts();
     Resolution {
-        refused: Refused::At(at),
+        refused: Some(at),
         making: making,
         reads: reads,
     }
@@ -94,7 +94,7 @@ pub fn not_made(parts: u16) -> Resolution
     let making = made(0, parts, 0, 0, 0, 0, 0);
     let reads = unseen_parts();
     Resolution {
-        refused: Refused::No,
+        refused: None,
         making: making,
         reads: reads,
     }
@@ -107,7 +107,7 @@ pub fn whole_made(parts: u16, t: u16, kind: u16) -> Resolution
     let making = made(1, parts, t, 0, kind, 0, 0);
     let reads = unseen_parts();
     Resolution {
-        refused: Refused::No,
+        refused: None,
         making: making,
         reads: reads,
     }

@@ -94,12 +94,10 @@ fn name_rows_hold(sheet: &[u8], tables: Tables, names: &[u8]) -> bool
 {
     let count = word_at(names, 5);
     let bytes = word_at(names, 7);
-    let mut i: u16 = 0;
-    while i < count {
+    for i in 0..count {
         if !name_row_holds(sheet, tables, name_row_at(names, i), bytes) {
             return false;
         }
-        i += 1;
     }
     true
 }

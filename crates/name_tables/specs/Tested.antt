@@ -1,4 +1,5 @@
 -- The parts of the test of a name table, and its numbers as the program has them. Assumes nothing: these are definitions.
+use Rattle.std.specs.Prelude.{Some, None}
 use Rattle.std.specs.Prelude.{ℕ, ◌+◌, ◌≤◌, ◌<◌, Bool, ◌&&◌, List, eqb, leb, ltb, length}
 use Rattle.std.proofs.Math.Option.{Option, none, some}
 use Rattle.image.specs.Tables.{variant_count}
@@ -6,7 +7,7 @@ use Rattle.image.specs.Rows.{variant_at, operand_at}
 use Rattle.image.specs.Operands.{operand_holds}
 use Rattle.name_tables.specs.declared.NameRow.{NameRow}
 use Rattle.name_tables.specs.declared.NameUse.{NameUse}
-use Rattle.name_tables.specs.declared.FoundRow.{FoundRow}
+use Rattle.name_tables.specs.Results.{FoundRow}
 use Rattle.name_tables.specs.Names.{row_count, name_byte_count, name_bytes_at, name_row_at, names_something, Use, as_variant, as_constant, as_value, as_field_of}
 
 -- the field `number` of the variant `owner`
@@ -36,5 +37,5 @@ use_of (NameUse.FieldOf owner) = as_field_of owner
 
 -- the row that is found, if there is one
 unfoldable pub found_in : FoundRow → Option ℕ
-found_in (FoundRow.At row) = some row
-found_in FoundRow.Nothing = none
+found_in (Some row) = some row
+found_in None = none

@@ -26,13 +26,6 @@ pub enum NameUse {
     FieldOf(u16),
 }
 
-// The number of a row, or that there is none.
-#[derive(Clone, Copy)]
-pub enum FoundRow {
-    At(u16),
-    Nothing,
-}
-
 // The five words of the row i.
 pub fn name_row_at(names: &[u8], i: u16) -> NameRow
     requires { 19 + 10 * i ≤ length names.now }

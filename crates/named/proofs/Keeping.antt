@@ -1,4 +1,5 @@
 -- No step of the building of a state names a local that there is not. Assumes nothing.
+use Rattle.std.specs.Prelude.{Some, None}
 use Prim.Native.Nat.{ℕ, suc, ◌+◌, ◌≤◌, ◌<◌}
 use native.Mathlib.Nat.{le_refl, le_trans, lt_of_lt_of_le}
 use native.Mathlib.Omega.{arith}
@@ -21,7 +22,7 @@ use Rattle.mir.specs.Scopes.{entry_limit}
 use Rattle.mir.specs.Rvalues.{live_row}
 use Rattle.state.specs.State.{State}
 use Rattle.state.specs.Steps.{new_block, set_terminator, push_statement, new_local, push_entry, within, try_block, try_statement, try_local, try_entry, next_local}
-use Rattle.lower_spec.specs.declared.merging.OptBlock.{OptBlock}
+use Rattle.lower_spec.specs.Results.{OptBlock}
 use Rattle.lower_spec.specs.Temps.{is_slice, is_held, record_unless, mark_live, push_storage_live_for_local, temp, binding_local}
 use Rattle.lower_spec.specs.Recorded.{recorded, occurs, OncePerLocal}
 use Rattle.views.specs.Views.{Line, terminator_of, line_of, mir_of}
@@ -133,8 +134,8 @@ module _ {s₀ : State} {n : ℕ} (st : State) (k : Kept s₀ n st) where
   -- the else that there is, or a new block
   pub keeps_else : (els : OptBlock) → Gives (Kept s₀ n) (else_state st els)
   unfolding else_state
-  keeps_else OptBlock.None = keeps_block
-  keeps_else (OptBlock.Some b) = gives (Kept s₀ n) st k
+  keeps_else None = keeps_block
+  keeps_else (Some b) = gives (Kept s₀ n) st k
 
 -- no scope holds a local that is just made
 pub unheld_new : (st : State) (word : ℕ) → NamedBelow st → is_held (new_local st word) (next_local st) ≡ false

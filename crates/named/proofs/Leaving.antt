@@ -1,4 +1,5 @@
 -- Each step on scopes, and `temp` and `merge_blocks`, leaves a local that stands in the entries at most once so: "every scope operation preserves that". Assumes nothing.
+use Rattle.std.specs.Prelude.{Some, None}
 use Prim.Native.Nat.{ℕ, ◌-◌, ◌≤◌}
 use native.Mathlib.Nat.{le_trans}
 use mathlib.Core.Path.{◌≡◌, refl, sym, ap, subst}
@@ -17,7 +18,7 @@ use Rattle.mir.specs.Scopes.{scope_limit}
 use Rattle.mir.specs.Rvalues.{dead_row}
 use Rattle.state.specs.State.{State}
 use Rattle.state.specs.Steps.{within, next_block, new_block, push_statement, push_scope, set_terminator, scope_start, pop_scope, try_block, try_statement, try_scope}
-use Rattle.lower_spec.specs.declared.merging.OptBlock.{OptBlock}
+use Rattle.lower_spec.specs.Results.{OptBlock}
 use Rattle.lower_spec.specs.Merging.{set_goto, merge_blocks}
 use Rattle.lower_spec.specs.Recorded.{recorded, occurs, OncePerLocal}
 use Rattle.lower_spec.specs.Temps.{temp}
@@ -129,9 +130,9 @@ push_once st = record { at = λ st₁ e. same_once st st₁ ((same_within (ltb (
 -- `merge_blocks`
 pub merge_once : (st : State) (x y : OptBlock) → Gives (OncePerLocal st) (merge_blocks st x y)
 unfolding merge_blocks set_terminator
-merge_once st OptBlock.None y = gives (OncePerLocal st) st (same_once st st refl)
-merge_once st (OptBlock.Some a) OptBlock.None = gives (OncePerLocal st) st (same_once st st refl)
-merge_once st (OptBlock.Some a) (OptBlock.Some b) =
+merge_once st None y = gives (OncePerLocal st) st (same_once st st refl)
+merge_once st (Some a) None = gives (OncePerLocal st) st (same_once st st refl)
+merge_once st (Some a) (Some b) =
     gives_then {Q = OncePerLocal st} (try_block st) _ (made_block st st (made_nothing st)) (λ st₁ m.
     let st₂ = set_goto (set_goto st₁ a (next_block st)) b (next_block st) in
     gives (OncePerLocal st) st₂ (once_made (made_beside st₂ m refl refl refl)))

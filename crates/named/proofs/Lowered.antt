@@ -1,4 +1,5 @@
 -- What holds of the accepted lowerings of a pattern, and of `match_self_param`: what is named, and what live marks have recorded. Assumes nothing.
+use Rattle.std.specs.Prelude.{None}
 use Prim.Native.Nat.{ℕ, ◌<◌}
 use mathlib.Core.Path.{◌≡◌}
 use mathlib.Core.List.{List}
@@ -10,7 +11,7 @@ use Rattle.place.specs.declared.LocalId.{LocalId}
 use Rattle.place.specs.declared.Place.{Place}
 use Rattle.mir.specs.declared.BasicBlockId.{BasicBlockId}
 use Rattle.state.specs.State.{State}
-use Rattle.lower_spec.specs.declared.merging.OptBlock.{OptBlock}
+use Rattle.lower_spec.specs.Results.{OptBlock}
 use Rattle.lower_spec.specs.Recorded.{OncePerLocal}
 use Rattle.pattern_matching.specs.declared.MatchingMode.{MatchingMode}
 use Rattle.pattern_matching.specs.Walking.{Ctx, Out, ok, local_place}
@@ -61,7 +62,7 @@ module _ (image bindings : List ℕ) (b : ℕ) (ctx : Ctx) (c : BasicBlockId) (l
     (below : WordsBelow bindings (length ctx.state.locals)) (there : l.0 < length ctx.state.locals) where
   self_made : match_self_param image bindings b ctx c l ≡ ok r → Made ctx.state r.ctx.state
   unfolding match_self_param local_place
-  self_made e = ((keeps_binding bindings below no_pattern no_pattern b BindingMode.Value ctx c OptBlock.None (local_place l) there (kept_start ctx.state named)).at r e).made
+  self_made e = ((keeps_binding bindings below no_pattern no_pattern b BindingMode.Value ctx c None (local_place l) there (kept_start ctx.state named)).at r e).made
 
   pub self_recorded : match_self_param image bindings b ctx c l ≡ ok r → MarksRecorded ctx.state r.ctx.state
   self_recorded e = made_recorded (self_made e)

@@ -1,4 +1,5 @@
 -- The test of an enum makes a local of its own, live in its block: the one that comes next. Assumes nothing.
+use Rattle.std.specs.Prelude.{Some, None}
 use Prim.Native.Nat.{ℕ, ◌≤◌}
 use mathlib.Core.Path.{◌≡◌, refl, ap, ap₂, ◌∙◌}
 use mathlib.Core.Bool.{Bool, true, false}
@@ -18,7 +19,7 @@ use Rattle.mir.specs.Scopes.{entry_limit}
 use Rattle.mir.specs.Rvalues.{live_row, place_rvalue_row}
 use Rattle.state.specs.State.{State}
 use Rattle.state.specs.Steps.{within, next_local, new_block, push_statement, new_local, push_entry, set_terminator, try_block, try_statement, try_local, try_entry}
-use Rattle.lower_spec.specs.declared.merging.OptBlock.{OptBlock}
+use Rattle.lower_spec.specs.Results.{OptBlock}
 use Rattle.lower_spec.specs.Temps.{is_slice, mark_live, temp, discr_temp_place}
 use Rattle.views.specs.Views.{Line, line_of, mir_of}
 use Rattle.views.proofs.ReadBack.{live_back, place_rvalue_back}
@@ -51,8 +52,8 @@ beside_block st = by (ltb (length st.blocks) block_limit)
 -- an else
 beside_else : (st : State) (els : OptBlock) → Gives (Beside st) (else_state st els)
 unfolding else_state
-beside_else st OptBlock.None = beside_block st
-beside_else st (OptBlock.Some b) = gives (Beside st) st (record { statements = refl; locals = refl; entries = refl })
+beside_else st None = beside_block st
+beside_else st (Some b) = gives (Beside st) st (record { statements = refl; locals = refl; entries = refl })
 
 -- what a temporary adds
 record Temporary (word : ℕ) (block : BasicBlockId) (st st₁ : State) : Type 0 where

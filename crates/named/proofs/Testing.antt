@@ -26,7 +26,7 @@ use Rattle.mir.specs.Rvalues.{place_rvalue_row, constant_row, binary_row}
 use Rattle.state.specs.State.{State}
 use Rattle.state.specs.Steps.{next_local, next_block, try_block, try_statement}
 use Rattle.literals.specs.Literals.{lower_const_to_operand, lower_literal_to_operand, lower_literal_or_const_to_operand}
-use Rattle.lower_spec.specs.declared.merging.OptBlock.{OptBlock}
+use Rattle.lower_spec.specs.Results.{OptBlock}
 use Rattle.lower_spec.specs.Temps.{is_held, temp, binding_local, push_storage_live_for_local, discr_temp_place}
 use Rattle.pattern_matching.specs.declared.MatchingMode.{MatchingMode}
 use Rattle.pattern_matching.specs.Walking.{Ctx, Out, Walk, Lowering, out, project, local_place, else_state, else_block, in_check}

@@ -1,4 +1,5 @@
 -- No walk over a pattern names a local that there is not: by induction over the tree. Assumes nothing.
+use Rattle.std.specs.Prelude.{Some, None}
 use Prim.Native.Nat.{ℕ, zero, suc, ◌+◌, ◌<◌}
 use mathlib.Core.Bool.{Bool, true, false, cond}
 use mathlib.Core.Option.{Option, none, some}
@@ -18,7 +19,7 @@ use Rattle.mir.specs.declared.blocks.Terminator.{Terminator}
 use Rattle.mir.specs.declared.rvalues.BinOp.{BinOp}
 use Rattle.state.specs.State.{State}
 use Rattle.state.specs.Steps.{next_block, try_block}
-use Rattle.lower_spec.specs.declared.merging.OptBlock.{OptBlock}
+use Rattle.lower_spec.specs.Results.{OptBlock}
 use Rattle.lower_spec.specs.Merging.{set_goto}
 use Rattle.pattern_matching.specs.declared.MatchingMode.{MatchingMode}
 use Rattle.pattern_matching.specs.Walking.{Ctx, Out, Walk, refused, Lowering, out, with_state, visited, project, derefed, entered, else_state, else_block, in_check}
@@ -224,15 +225,15 @@ module _ (s₀ : State) (n : ℕ) where
   keeps_alternative : (alt : Lowering) → Keeps s₀ n alt → (mode : MatchingMode) (ctx : Ctx) (c : BasicBlockId) (place : Place) → place.local.0 < n → Kept s₀ n ctx.state →
       Holds (KeptBehind s₀ n) (alternative alt mode ctx c place)
   keeps_alternative alt g mode ctx c place h k =
-      holds_next (alt MatchingMode.Check ctx c OptBlock.None place) _ (g MatchingMode.Check ctx c OptBlock.None place h k) (λ r k₁.
+      holds_next (alt MatchingMode.Check ctx c None place) _ (g MatchingMode.Check ctx c None place h k) (λ r k₁.
       in_check_lem mode _ _ (keeps_out r.ctx r.then r.else k₁)
-      (holds_next (alt mode r.ctx r.then OptBlock.None place) _ (g mode r.ctx r.then OptBlock.None place h k₁) (λ b k₂. keeps_out b.ctx b.then r.else k₂)))
+      (holds_next (alt mode r.ctx r.then None place) _ (g mode r.ctx r.then None place h k₁) (λ b k₂. keeps_out b.ctx b.then r.else k₂)))
 
   -- behind an alternative
   keeps_behind : (els : OptBlock) (ctx : Ctx) (rest : BasicBlockId → Walk Alternatives) → Kept s₀ n ctx.state →
       ((b : BasicBlockId) → Holds (λ (a : Alternatives). Kept s₀ n a.ctx.state) (rest b)) → Holds (λ (a : Alternatives). Kept s₀ n a.ctx.state) (behind els ctx rest)
-  keeps_behind OptBlock.None ctx rest k f = holds (λ (a : Alternatives). Kept s₀ n a.ctx.state) _ k
-  keeps_behind (OptBlock.Some b) ctx rest k f = f b
+  keeps_behind None ctx rest k f = holds (λ (a : Alternatives). Kept s₀ n a.ctx.state) _ k
+  keeps_behind (Some b) ctx rest k f = f b
 
   -- alternatives
   keeps_alternatives : (p : ℕ) (alts : List Lowering) → AllKeep s₀ n alts → (mode : MatchingMode) (ctx : Ctx) (join c : BasicBlockId) (place : Place) → place.local.0 < n → Kept s₀ n ctx.state →
@@ -249,8 +250,8 @@ module _ (s₀ : State) (n : ℕ) where
   keeps_ended : (p : ℕ) (mode : MatchingMode) (a : Ctx) (left : OptBlock) (join : BasicBlockId) (els : OptBlock) → Kept s₀ n a.state →
       Holds (KeptBehind s₀ n) (alternatives_end p mode (record { ctx = a; left = left }) join els)
   unfolding alternatives_end
-  keeps_ended p mode a OptBlock.None join els k = keeps_out a join els k
-  keeps_ended p mode a (OptBlock.Some b) join els k =
+  keeps_ended p mode a None join els k = keeps_out a join els k
+  keeps_ended p mode a (Some b) join els k =
       in_check_lem mode _ _
       (holds_step p (else_state a.state els) _ (keeps_else a.state k els) (λ st k₁.
       holds (KeptBehind s₀ n) _ (kept_terminator st b (Terminator.Goto (else_block a.state els)) tt k₁)))

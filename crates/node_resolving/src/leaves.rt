@@ -11,9 +11,9 @@ ghost use Rattle.node_rows.specs.Nodes.{literal_in, name_in};
 ghost use Rattle.name_resolving.specs.Gives.{Gives, GivesAlways};
 
 use image::Tables;
-use name_resolving::lookup::{Named, look_up};
+use name_resolving::Resolution;
+use name_resolving::lookup::look_up;
 use name_resolving::rows::{literal_made, made, refused_here, same_parts, unseen_parts};
-use name_resolving::{Refused, Resolution};
 use name_tables::NameUse;
 use node_rows::NodeRow;
 use type_crossing::cross;
@@ -28,7 +28,7 @@ pub fn resolve_literal(sheet: &[u8], tables: Tables, node: NodeRow, t: u16, mode
     let making = literal_made(2, node, c.ty, c.derefs);
     let reads = unseen_parts();
     Resolution {
-        refused: Refused::No,
+        refused: None,
         making: making,
         reads: reads,
     }
@@ -41,7 +41,7 @@ pub fn resolve_bound(node: NodeRow) -> Resolution
     let making = literal_made(3, node, 0, 0);
     let reads = unseen_parts();
     Resolution {
-        refused: Refused::No,
+        refused: None,
         making: making,
         reads: reads,
     }
@@ -52,13 +52,13 @@ pub fn resolve_bound_path(names: &[u8], spelled: &[u8], node: NodeRow) -> Resolu
     requires { NameBytesWithin names.now }
     ensures { Gives spelled.now result node.parts (λ text. where_named names.now (row_for names.now as_constant (name_in spelled.now node).bytes) (name_in spelled.now node) (λ number. resolved_to (operand_named number) unseen_parts)) }
 {
-    let Named::As(kind, number) = look_up(names, NameUse::Constant, spelled, node) else {
+    let Some((kind, number)) = look_up(names, NameUse::Constant, spelled, node) else {
         return refused_here(node.parts, node.spot);
     };
     let making = made(4, node.parts, 0, 0, number, 0, 0);
     let reads = unseen_parts();
     Resolution {
-        refused: Refused::No,
+        refused: None,
         making: making,
         reads: reads,
     }
@@ -73,7 +73,7 @@ pub fn resolve_range(sheet: &[u8], tables: Tables, node: NodeRow, t: u16, mode: 
     let making = made(5, node.parts, c.ty, c.derefs, node.from, node.to, node.more);
     let reads = same_parts(t, mode);
     Resolution {
-        refused: Refused::No,
+        refused: None,
         making: making,
         reads: reads,
     }
@@ -93,7 +93,7 @@ pub fn resolve_reference(node: NodeRow, t: u16) -> Resolution
         many: 0,
     };
     Resolution {
-        refused: Refused::No,
+        refused: None,
         making: making,
         reads: reads,
     }
@@ -106,7 +106,7 @@ pub fn resolve_or(parts: u16, t: u16, mode: u16) -> Resolution
     let making = made(8, parts, t, 0, 5, 0, 0);
     let reads = same_parts(t, mode);
     Resolution {
-        refused: Refused::No,
+        refused: None,
         making: making,
         reads: reads,
     }

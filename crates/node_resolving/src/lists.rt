@@ -11,9 +11,9 @@ ghost use Rattle.node_rows.specs.Nodes.{number_in, name_in};
 ghost use Rattle.name_resolving.specs.Gives.{Gives, GivesAlways, arguments_row};
 
 use image::Tables;
-use name_resolving::lookup::{Named, look_up};
+use name_resolving::Resolution;
+use name_resolving::lookup::look_up;
 use name_resolving::rows::{made, refused_here};
-use name_resolving::{Refused, Resolution};
 use name_tables::NameUse;
 use node_rows::NodeRow;
 use type_crossing::{cross, tuple_fields, variant_fields};
@@ -42,7 +42,7 @@ pub fn resolve_tuple(sheet: &[u8], tables: Tables, node: NodeRow, t: u16, mode: 
     let fields = tuple_fields(sheet, tables, c.ty);
     let reads = argument_parts(fields, node, c.mode);
     Resolution {
-        refused: Refused::No,
+        refused: None,
         making: making,
         reads: reads,
     }
@@ -60,7 +60,7 @@ pub fn resolve_tuple_struct(
     requires { Whole sheet.now tables × NameBytesWithin names.now }
     ensures { Gives spelled.now result node.parts (λ text. where_named names.now (row_for names.now as_variant (name_in spelled.now node).bytes) (name_in spelled.now node) (tuple_struct_as sheet.now (crossed sheet.now t mode) (number_in node.more) node.parts)) }
 {
-    let Named::As(kind, number) = look_up(names, NameUse::Variant, spelled, node) else {
+    let Some((kind, number)) = look_up(names, NameUse::Variant, spelled, node) else {
         return refused_here(node.parts, node.spot);
     };
     let c = cross(sheet, tables, t, mode);
@@ -68,7 +68,7 @@ pub fn resolve_tuple_struct(
     let fields = variant_fields(sheet, tables, c.ty, number);
     let reads = argument_parts(fields, node, c.mode);
     Resolution {
-        refused: Refused::No,
+        refused: None,
         making: making,
         reads: reads,
     }
@@ -89,7 +89,7 @@ pub fn resolve_slice(sheet: &[u8], tables: Tables, node: NodeRow, t: u16, mode: 
         many: node.parts,
     };
     Resolution {
-        refused: Refused::No,
+        refused: None,
         making: making,
         reads: reads,
     }
@@ -107,7 +107,7 @@ pub fn resolve_record(
     requires { Whole sheet.now tables × NameBytesWithin names.now }
     ensures { Gives spelled.now result node.parts (λ text. where_named names.now (row_for names.now as_variant (name_in spelled.now node).bytes) (name_in spelled.now node) (record_as (crossed sheet.now t mode))) }
 {
-    let Named::As(kind, number) = look_up(names, NameUse::Variant, spelled, node) else {
+    let Some((kind, number)) = look_up(names, NameUse::Variant, spelled, node) else {
         return refused_here(node.parts, node.spot);
     };
     let c = cross(sheet, tables, t, mode);
@@ -121,7 +121,7 @@ pub fn resolve_record(
         many: 0,
     };
     Resolution {
-        refused: Refused::No,
+        refused: None,
         making: making,
         reads: reads,
     }

@@ -1,4 +1,5 @@
 -- The ways through the pass over the rows. Assumes nothing.
+use Rattle.std.specs.Prelude.{None}
 use Prim.Native.Nat.{ℕ, suc, ◌+◌, ◌*◌, ◌-◌, ◌≤◌, ◌<◌}
 use mathlib.Core.Path.{◌≡◌, sym, ap, ◌∙◌}
 use mathlib.Core.Bool.{true}
@@ -18,7 +19,7 @@ use Rattle.node_rows.specs.declared.NodeRow.{NodeRow}
 use Rattle.node_rows.specs.Nodes.{node_row_at, node_of, closed_node_of, nodes_in}
 use Rattle.node_rows.specs.Makings.{making_row_at, making_of, closed_making_of}
 use Rattle.type_parts.specs.Parts.{parts_of}
-use Rattle.name_resolving.specs.declared.Refused.{Refused}
+use Rattle.name_resolving.specs.Results.{Refused}
 use Rattle.name_resolving.specs.declared.Resolution.{Resolution}
 use Rattle.name_resolving.specs.Gives.{refused_of, resolved_of, Gives}
 use Rattle.node_resolving.proofs.Kept.{reads_known}
@@ -63,7 +64,7 @@ module _ (sheet names spelled nodes : List ℕ) where
       pub known : StackKnown sheet (stack_of waiting depth)
       pub left : (text : List ℕ) → type_nodes sheet names (nodes_in text spelled nodes i) (reached text makings waiting refused depth i) ≡ type_nodes sheet names (nodes_in text spelled nodes n) (untyped start)
 
-    pub pass_begins : (makings waiting : List ℕ) (depth : ℕ) → depth ≤ 1 → stack_of waiting depth ≡ start → StackKnown sheet (stack_of waiting depth) → Passing makings waiting Refused.No depth n
+    pub pass_begins : (makings waiting : List ℕ) (depth : ℕ) → depth ≤ 1 → stack_of waiting depth ≡ start → StackKnown sheet (stack_of waiting depth) → Passing makings waiting None depth n
     unfolding makings_from refused_of
     pass_begins makings waiting depth h e k =
         let none_yet : n - n ≡ 0 = omega arith in

@@ -14,7 +14,7 @@ use Rattle.pattern_typing.specs.Downward.{Typed, wait_for, typing_of}
 use Rattle.pattern_typing.proofs.Downward.{pattern_typed}
 use Rattle.node_rows.specs.Nodes.{nodes_in}
 use Rattle.node_rows.specs.Makings.{makings_in}
-use Rattle.name_resolving.specs.declared.Refused.{Refused}
+use Rattle.name_resolving.specs.Results.{Refused}
 use Rattle.name_resolving.specs.Gives.{refused_of, same_row}
 use Rattle.type_parts.specs.declared.PartsRow.{PartsRow}
 use Rattle.type_parts.specs.Parts.{parts_of}

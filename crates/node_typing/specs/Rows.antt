@@ -11,7 +11,7 @@ use Rattle.pattern_typing.specs.Closed.{closed_making}
 use Rattle.node_rows.specs.declared.MakingRow.{MakingRow}
 use Rattle.node_rows.specs.Nodes.{node_row_at, node_of, nodes_in}
 use Rattle.node_rows.specs.Makings.{making_row_at, closed_making_of, makings_in}
-use Rattle.name_resolving.specs.declared.Refused.{Refused}
+use Rattle.name_resolving.specs.Results.{Refused}
 use Rattle.name_resolving.specs.Gives.{refused_of}
 use Rattle.node_resolving.specs.Known.{PartsKnown}
 use Rattle.typing_state.specs.Parents.{stack_of}

@@ -12,7 +12,6 @@ ghost use Rattle.name_tables.specs.Names.{names_hold};
 ghost use Rattle.node_typing.specs.Rows.{Sized, Typing, NodesTyped, PatternTyped, starts_at};
 
 use image::Tables;
-use name_resolving::Refused;
 use name_resolving::rows::same_parts;
 use node_rows::TEXT_BYTES;
 use steps::type_row;
@@ -35,15 +34,13 @@ fn type_rows(
     makings: &mut [u16],
     waiting: &mut [u16],
     first: usize,
-) -> Refused
+) -> Option<u16>
     requires { Typing sheet.now tables names.now × Sized nodes.now makings.old waiting.old × (n ≤ 16384) × starts_at sheet.now waiting.old first }
     ensures { NodesTyped sheet.now names.now spelled.now nodes.now n waiting.old first makings.new result }
 {
-    let mut refused = Refused::No;
+    let mut refused = None;
     let mut depth = first;
-    let mut i = n;
-    while i != 0 {
-        i -= 1;
+    for i in (0..n).rev() {
         let row = type_row(
             sheet, tables, names, spelled, nodes, makings, waiting, i, depth,
         );
@@ -65,7 +62,7 @@ pub fn type_nodes(
     expected: u16,
     makings: &mut [u16],
     waiting: &mut [u16],
-) -> Refused
+) -> Option<u16>
     requires { Whole sheet.now tables × (sheet_holds sheet.now ≡ true) × (names_hold sheet.now names.now ≡ true) × (expected < type_count sheet.now) × (n ≤ 16384) × Sized nodes.now makings.old waiting.old }
     ensures { PatternTyped sheet.now names.now spelled.now nodes.now n expected makings.new result }
 {

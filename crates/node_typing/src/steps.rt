@@ -5,7 +5,6 @@ ghost use Rattle.node_typing.specs.Rows.{Sized, Typing, RowTyped, StackKnown};
 
 use crate::tables::{node_at, store_making};
 use image::Tables;
-use name_resolving::Refused;
 use node_resolving::resolve;
 use typing_state::stack::{leave_part, next_context, wait_for};
 
@@ -13,7 +12,7 @@ use typing_state::stack::{leave_part, next_context, wait_for};
 #[derive(Clone, Copy)]
 pub struct TypedRow {
     pub depth: usize,
-    pub refused: Refused,
+    pub refused: Option<u16>,
 }
 
 // The row i, with so many parents waiting.

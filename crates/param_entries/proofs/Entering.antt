@@ -1,4 +1,5 @@
 -- A parameter's local, by the ways through the code. Assumes nothing.
+use Rattle.std.specs.Prelude.{Some, None, Ok, Err}
 use Prim.Native.Nat.{ℕ}
 use mathlib.Core.Path.{◌≡◌, refl, subst, ◌∙◌}
 use mathlib.Core.Bool.{cond}
@@ -11,11 +12,10 @@ use Rattle.refusals.specs.declared.MirLowerError.{MirLowerError}
 use Rattle.refusals.specs.Refusals.{Result, stopped, and_then}
 use Rattle.place.specs.declared.LocalId.{LocalId}
 use Rattle.mir.specs.declared.Counts.{Counts}
-use Rattle.mir.specs.declared.locals.NewLocal.{NewLocal}
-use Rattle.mir.specs.declared.scopes.Counted.{Counted}
+use Rattle.mir.specs.Results.{Counted}
 use Rattle.mir.specs.Locals.{new_local, locals_after}
 use Rattle.mir.specs.Scopes.{new_entry, entries_after}
-use Rattle.state.specs.declared.Stepped.{Stepped}
+use Rattle.state.specs.Results.{Stepped}
 use Rattle.state.specs.State.{Body, State, decode}
 use Rattle.state.specs.Steps.{next_local, try_local, try_entry}
 use Rattle.state.specs.Promises.{Ready, Answers}
@@ -36,11 +36,11 @@ module _ (b₀ : Body) (c : Counts) (ty : ℕ) where
   Entered = Adds (λ st. param_local st ty) c b₀
 
   -- there is no room for the local
-  pub local_full : {b : Body} → NewLocal.Full ≡ new_local c → b ≡ with_locals b₀ (locals_after c b₀.locals ty) → Entered (Stepped.Refused MirLowerError.Limit) b
+  pub local_full : {b : Body} → None ≡ new_local c → b ≡ with_locals b₀ (locals_after c b₀.locals ty) → Entered (Err MirLowerError.Limit) b
   unfolding param_local
   local_full full after current R = stops (entered (next_local (decode b₀ c))) (local_made b₀ c current ty full after R)
 
-  module _ {c₁ : Counts} {n : LocalId} {b₁ : Body} (is : NewLocal.Local c₁ n ≡ new_local c) (after : b₁ ≡ with_locals b₀ (locals_after c b₀.locals ty)) where
+  module _ {c₁ : Counts} {n : LocalId} {b₁ : Body} (is : Some (c₁, n) ≡ new_local c) (after : b₁ ≡ with_locals b₀ (locals_after c b₀.locals ty)) where
     -- the local is made, and what follows it goes by its number
     made : {b : Body} {c₂ : Option Counts} {given : Result State} (current : ℕ) → Ready b₀ c → (Ready b₁ c₁ → Answers b₁ c₁ current b c₂ given (entered n (decode b₁ c₁))) →
         Answers b₀ c current b c₂ given (param_local (decode b₀ c) ty)
@@ -51,7 +51,7 @@ module _ (b₀ : Body) (c : Counts) (ty : ℕ) where
         (then (entered n) first (inl refl) (S first.goes.0))
 
     -- there is no scope
-    pub local_unscoped : c₁.scopes ≡ 0 → Entered (Stepped.Refused MirLowerError.NoScope) b₁
+    pub local_unscoped : c₁.scopes ≡ 0 → Entered (Err MirLowerError.NoScope) b₁
     local_unscoped none current R = made current R (λ R₁. refuses MirLowerError.NoScope (rw (scope_count b₁ c₁ R₁, eq-eqb c₁.scopes 0 none) refl))
 
     module _ (scoped : c₁.scopes ≡ 0 → ⊥) {b : Body} (stored : b ≡ with_entries b₁ (entries_after c₁ b₁.entries n.0)) where
@@ -60,9 +60,9 @@ module _ (b₀ : Body) (c : Counts) (ty : ℕ) where
       entry pushed current R = made current R (λ R₁. rw (scope_count b₁ c₁ R₁, ne_eqb c₁.scopes 0 scoped) (entry_made b₁ c₁ current n pushed stored R₁))
 
       -- there is no room for the entry
-      pub local_unentered : Counted.Full ≡ new_entry c₁ → Entered (Stepped.Refused MirLowerError.Limit) b
+      pub local_unentered : None ≡ new_entry c₁ → Entered (Err MirLowerError.Limit) b
       local_unentered full = entry full
 
       -- both are made
-      pub local_entered : {c₂ : Counts} → Counted.Now c₂ ≡ new_entry c₁ → Entered (Stepped.Now c₂) b
+      pub local_entered : {c₂ : Counts} → Some c₂ ≡ new_entry c₁ → Entered (Ok c₂) b
       local_entered pushed = entry pushed

@@ -9,23 +9,20 @@ use body_scope_tables::push_entry;
 use body_tables::BODY_WORDS;
 use body_tables::locals::new_local;
 use mir::Counts;
-use mir::locals::NewLocal;
-use mir::scopes::Counted;
 use refusals::MirLowerError;
-use state::Stepped;
 
 // A parameter's local: the next one, of the type that the word says, as the last entry of the last scope.
-pub fn param_local(body: &mut [u16; BODY_WORDS], counts: Counts, ty: u16) -> Stepped
+pub fn param_local(
+    body: &mut [u16; BODY_WORDS],
+    counts: Counts,
+    ty: u16,
+) -> Result<Counts, MirLowerError>
     ensures { Adds (λ st. param_local st ty) counts (body_of body.old) result (body_of body.new) }
 {
-    let NewLocal::Local(c1, l) = new_local(body, counts, ty) else {
-        return Stepped::Refused(MirLowerError::Limit);
-    };
+    let (c1, l) = new_local(body, counts, ty).ok_or(MirLowerError::Limit)?;
     if c1.scopes == 0 {
-        return Stepped::Refused(MirLowerError::NoScope);
+        return Err(MirLowerError::NoScope);
     }
-    let Counted::Now(c2) = push_entry(body, c1, l) else {
-        return Stepped::Refused(MirLowerError::Limit);
-    };
-    Stepped::Now(c2)
+    let c2 = push_entry(body, c1, l).ok_or(MirLowerError::Limit)?;
+    Ok(c2)
 }

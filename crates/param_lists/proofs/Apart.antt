@@ -1,11 +1,12 @@
 -- Whether a parameter of a list binds self again: the invariant of the loop, and a law for each way through the code. Assumes nothing.
-use Prim.Native.Nat.{ℕ, ◌+◌, ◌-◌}
+use Prim.Native.Nat.{ℕ, ◌+◌, ◌*◌, ◌-◌}
 use mathlib.Core.Path.{◌≡◌, refl, sym, ap, ◌∙◌}
 use mathlib.Core.Bool.{Bool, true, false, not, ◌&&◌}
 use mathlib.Core.List.{List}
+use native.Mathlib.Omega.{arith}
 use lib.ListN.{get_or}
 use Rattle.image.specs.Tree.{tree}
-use Rattle.params_spec.specs.declared.SelfParam.{SelfParam}
+use Rattle.params_spec.specs.Results.{SelfParam}
 use Rattle.params_spec.specs.Params.{plain_binding}
 use Rattle.params_spec.specs.Calls.{params_from, param_count, params_of, list_formed, binds_receiver, none_binds_receiver, receiver_apart, list_holds}
 use Rattle.param_lists.proofs.Listing.{params_none, params_more, Listed, list_taken, listed_behind}
@@ -17,8 +18,17 @@ pub record Looked (image words : List ℕ) (b k left : ℕ) : Type 0 where
 
 module _ (image words : List ℕ) (b : ℕ) where
   -- before the loop
-  pub looks_begin : list_formed image words ≡ true → Looked image words b 0 (param_count words)
-  looks_begin h = record { listed = list_taken image words h; rest = refl }
+  pub looks_begin : list_formed image words ≡ true → Looked image words b 0 (param_count words - 0)
+  looks_begin h =
+      let all : param_count words - 0 ≡ param_count words = omega arith in
+      rw all (record { listed = list_taken image words h; rest = refl })
+
+  -- the parameter i was looked at: those behind it are left
+  pub looks_next : (i n : ℕ) → Looked image words b (2 * i + 2) (n - i - 1) → Looked image words b (2 * (i + 1)) (n - (i + 1))
+  looks_next i n L =
+      let at : 2 * i + 2 ≡ 2 * (i + 1) = omega arith in
+      let left : n - i - 1 ≡ n - (i + 1) = omega arith in
+      rw (at, left) at L
 
   module _ {k left : ℕ} (L : Looked image words b k left) where
     -- after the loop

@@ -10,7 +10,7 @@ use lib.ListN.{length, get_or, take, drop}
 use lib.Seq.{split_at, get_or_at, length-take-le}
 use Rattle.image.specs.Tables.{type_count, pattern_count}
 use Rattle.image.proofs.Bools.{and_left, and_right}
-use Rattle.params_spec.specs.declared.SelfParam.{SelfParam}
+use Rattle.params_spec.specs.Results.{SelfParam}
 use Rattle.params_spec.specs.Params.{Param}
 use Rattle.params_spec.specs.Calls.{params_from, param_count, params_of, params_named, list_formed, receiver_apart, list_holds}
 

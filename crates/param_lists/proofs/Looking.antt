@@ -1,6 +1,6 @@
 -- Whether a list's words name something, by the ways through the code. Assumes nothing.
 use Prim.Native.Nat.{ℕ, ◌+◌, ◌*◌, ◌-◌, ◌≤◌, ◌<◌}
-use mathlib.Core.Path.{◌≡◌, refl, sym, ap, ◌∙◌}
+use mathlib.Core.Path.{◌≡◌, sym, ap, ◌∙◌}
 use mathlib.Core.Bool.{Bool, true, false, ◌&&◌}
 use mathlib.Core.List.{List}
 use native.Mathlib.Omega.{arith}
@@ -18,9 +18,12 @@ pub record Left (image words : List ℕ) (k left : ℕ) : Type 0 where
   pub rest : params_named image (params_from words k left) ≡ params_named image (params_of words)
 
 module _ (image words : List ℕ) where
-  -- before the loop
-  pub names_begin : 2 * param_count words ≡ length words → Left image words 0 (param_count words)
-  names_begin even = record { fits = omega arith; rest = refl }
+  -- the parameter i was looked at: those behind it are left
+  pub names_next : (i n : ℕ) → Left image words (2 * i + 2) (n - i - 1) → Left image words (2 * (i + 1)) (n - (i + 1))
+  names_next i n L =
+      let at : 2 * i + 2 ≡ 2 * (i + 1) = omega arith in
+      let left : n - i - 1 ≡ n - (i + 1) = omega arith in
+      rw (at, left) at L
 
   module _ {k left : ℕ} (L : Left image words k left) where
     -- after the loop

@@ -7,24 +7,19 @@ ghost use Rattle.params_spec.specs.Calls.{param_count, params_of, params_named, 
 
 use image::{BindingId, PatId, Tables};
 use param_plain::binds_receiver;
-use params_spec::SelfParam;
 
 // Each parameter of a list names a pattern and a type.
 fn params_named(image: &[u8], tables: Tables, words: &[u16]) -> bool
     requires { Whole image.now tables × (2 * param_count words.now ≡ length words.now) }
     ensures { result ≡ params_named image.now (params_of words.now) }
 {
-    let mut k = 0;
-    let mut left = words.len() / 2;
-    while left != 0 {
-        if tables.patterns.count <= words[k] {
+    for i in 0..words.len() / 2 {
+        if tables.patterns.count <= words[2 * i] {
             return false;
         }
-        if tables.types.count <= words[k + 1] {
+        if tables.types.count <= words[2 * i + 1] {
             return false;
         }
-        k += 2;
-        left -= 1;
     }
     true
 }
@@ -49,32 +44,38 @@ fn none_binds_receiver(image: &[u8], tables: Tables, b: BindingId, words: &[u16]
     requires { Whole image.now tables × (list_formed image.now words.now ≡ true) }
     ensures { result ≡ none_binds_receiver image.now b.0 (params_of words.now) }
 {
-    let mut k = 0;
-    let mut left = words.len() / 2;
-    while left != 0 {
-        let p = words[k];
+    for i in 0..words.len() / 2 {
+        let p = words[2 * i];
         if binds_receiver(image, tables, b, PatId(p)) {
             return false;
         }
-        k += 2;
-        left -= 1;
     }
     true
 }
 
 // No parameter of a list binds self again.
-fn receiver_apart(image: &[u8], tables: Tables, receiver: SelfParam, words: &[u16]) -> bool
+fn receiver_apart(
+    image: &[u8],
+    tables: Tables,
+    receiver: Option<(BindingId, u16)>,
+    words: &[u16],
+) -> bool
     requires { Whole image.now tables × (list_formed image.now words.now ≡ true) }
     ensures { result ≡ receiver_apart image.now receiver (params_of words.now) }
 {
     match receiver {
-        SelfParam::None => true,
-        SelfParam::Some(b, ty) => none_binds_receiver(image, tables, b, words),
+        None => true,
+        Some((b, ty)) => none_binds_receiver(image, tables, b, words),
     }
 }
 
 // A list that is taken.
-pub fn list_holds(image: &[u8], tables: Tables, receiver: SelfParam, words: &[u16]) -> bool
+pub fn list_holds(
+    image: &[u8],
+    tables: Tables,
+    receiver: Option<(BindingId, u16)>,
+    words: &[u16],
+) -> bool
     requires { Whole image.now tables }
     ensures { result ≡ list_holds image.now receiver words.now }
 {

@@ -1,4 +1,5 @@
 -- The locals of the bindings that are picked and have none, by the ways through the code. Assumes nothing.
+use Rattle.std.specs.Prelude.{Some, None, Ok, Err}
 use Prim.Native.Nat.{ℕ, suc, ◌+◌, ◌-◌, ◌<◌}
 use mathlib.Core.Path.{◌≡◌, refl, sym, ap, ◌∙◌}
 use mathlib.Core.Logic.{inl}
@@ -14,9 +15,8 @@ use Rattle.image.specs.Tables.{binding_count}
 use Rattle.image.specs.Types.{binding_of}
 use Rattle.place.specs.declared.LocalId.{LocalId}
 use Rattle.mir.specs.declared.Counts.{Counts}
-use Rattle.mir.specs.declared.locals.NewLocal.{NewLocal}
 use Rattle.mir.specs.Locals.{new_local, locals_after}
-use Rattle.state.specs.declared.Stepped.{Stepped}
+use Rattle.state.specs.Results.{Stepped}
 use Rattle.state.specs.State.{Body, decode}
 use Rattle.state.specs.Steps.{try_local}
 use Rattle.state.proofs.Answering.{local_count, then, stops, no_step}
@@ -36,13 +36,13 @@ picks k ty d = and_then (try_local d.state ty) (λ st. done (record { state = st
 -- `declare_binding`
 module _ (image : List ℕ) (k : ℕ) (row : BindingRow) (same : row ≡ binding_at image k) where
   -- it is not picked
-  pub not_picked : {c : Counts} {m : List ℕ} {b : Body} → (row.picked ≡ 1 → ⊥) → Declares (declare_binding image k) c m b (Stepped.Now c) m b
+  pub not_picked : {c : Counts} {m : List ℕ} {b : Body} → (row.picked ≡ 1 → ⊥) → Declares (declare_binding image k) c m b (Ok c) m b
   unfolding declare_binding binding_of
   not_picked n = declares_by (λ d. rw (← same, ne_eqb row.picked 1 n)) declares_nothing
 
   module _ {c : Counts} {m : List ℕ} {b : Body} (within : k < length m) (picked : row.picked ≡ 1) where
     -- it has a local
-    pub has_local_lem : (get_or m k 0 ≡ 65535 → ⊥) → Declares (declare_binding image k) c m b (Stepped.Now c) m b
+    pub has_local_lem : (get_or m k 0 ≡ 65535 → ⊥) → Declares (declare_binding image k) c m b (Ok c) m b
     unfolding declare_binding binding_of
     has_local_lem n = record { answers = λ current R. rw (← same, eq-eqb row.picked 1 picked, word_within m k 65535 0 within, ne_eqb (get_or m k 0) 65535 n) (no_step (declared_of b c m) R) }
 
@@ -52,12 +52,12 @@ module _ (image : List ℕ) (k : ℕ) (row : BindingRow) (same : row ≡ binding
       by_local D = record { answers = λ current R. rw (← same, eq-eqb row.picked 1 picked, word_within m k 65535 0 within, eq-eqb (get_or m k 0) 65535 none) (D.answers current R) }
 
       -- there is no room for its local
-      pub no_room : {m₁ : List ℕ} → NewLocal.Full ≡ new_local c → Declares (declare_binding image k) c m b (Stepped.Refused MirLowerError.Limit) m₁ b₁
+      pub no_room : {m₁ : List ℕ} → None ≡ new_local c → Declares (declare_binding image k) c m b (Err MirLowerError.Limit) m₁ b₁
       no_room full =
           by_local (record { answers = λ current R. stops (λ st. done (record { state = st; bindings = set m k (length (decode b c).locals) })) (local_made b c current row.ty full after R) })
 
       -- it has a local now
-      pub picked_now : {m₁ : List ℕ} {c₁ : Counts} {n : LocalId} → NewLocal.Local c₁ n ≡ new_local c → m₁ ≡ set m k n.0 → Declares (declare_binding image k) c m b (Stepped.Now c₁) m₁ b₁
+      pub picked_now : {m₁ : List ℕ} {c₁ : Counts} {n : LocalId} → Some (c₁, n) ≡ new_local c → m₁ ≡ set m k n.0 → Declares (declare_binding image k) c m b (Ok c₁) m₁ b₁
       picked_now {m₁ = m₁} {c₁ = c₁} {n = n} is put =
           by_local
           (record {
@@ -81,7 +81,7 @@ bindings_begin b is long = record { ends = omega arith; words = long; rest = λ 
 
 module _ {image : List ℕ} {c₀ : Counts} {m₀ : List ℕ} {b₀ : Body} {c : Counts} {m : List ℕ} {b : Body} {k left : ℕ} (G : BindingsGoing image c₀ m₀ b₀ c m b k left) where
   -- after the loop
-  pub bindings_end : left ≡ 0 → Declares (declare_bindings image 0 (binding_count image)) c₀ m₀ b₀ (Stepped.Now c) m b
+  pub bindings_end : left ≡ 0 → Declares (declare_bindings image 0 (binding_count image)) c₀ m₀ b₀ (Ok c) m b
   unfolding declare_bindings
   bindings_end none = G.rest (rw none declares_nothing)
 
@@ -102,12 +102,12 @@ module _ {image : List ℕ} {c₀ : Counts} {m₀ : List ℕ} {b₀ : Body} {c :
         declares_by first D
 
     -- the binding is refused
-    pub binding_stops : {err : MirLowerError} {m₁ : List ℕ} {b₁ : Body} → Declares (declare_binding image k) c m b (Stepped.Refused err) m₁ b₁ →
-        Declares (declare_bindings image 0 (binding_count image)) c₀ m₀ b₀ (Stepped.Refused err) m₁ b₁
+    pub binding_stops : {err : MirLowerError} {m₁ : List ℕ} {b₁ : Body} → Declares (declare_binding image k) c m b (Err err) m₁ b₁ →
+        Declares (declare_bindings image 0 (binding_count image)) c₀ m₀ b₀ (Err err) m₁ b₁
     binding_stops D = G.rest (from_first (declares_stops (λ d₁. declare_bindings image (k + 1) (left - 1) d₁) D))
 
     -- one binding less
-    pub bindings_again : {c₁ : Counts} {m₁ : List ℕ} {b₁ : Body} → length m₁ ≡ length m → Declares (declare_binding image k) c m b (Stepped.Now c₁) m₁ b₁ →
+    pub bindings_again : {c₁ : Counts} {m₁ : List ℕ} {b₁ : Body} → length m₁ ≡ length m → Declares (declare_binding image k) c m b (Ok c₁) m₁ b₁ →
         BindingsGoing image c₀ m₀ b₀ c₁ m₁ b₁ (k + 1) (left - 1)
     bindings_again ms D =
         record {

@@ -1,15 +1,16 @@
 -- What the functions that make the locals promise: with the body at exit, their answers are what the definitions give, at whatever block a walk stands. Assumes
 -- nothing: these are definitions.
+use Rattle.std.specs.Prelude.{Some, None, Ok, Err}
 use Rattle.std.specs.Prelude.{ℕ, ◌<◌, ◌≡◌, true, List, length}
 use Rattle.image.specs.declared.Tables.{Tables}
 use Rattle.image.specs.Tables.{Whole, binding_count}
 use Rattle.image.specs.Valid.{valid}
 use Rattle.refusals.specs.Refusals.{Result, done, stopped}
 use Rattle.mir.specs.declared.Counts.{Counts}
-use Rattle.state.specs.declared.Stepped.{Stepped}
+use Rattle.state.specs.Results.{Stepped}
 use Rattle.state.specs.State.{Body, decode}
 use Rattle.state.specs.Promises.{Ready, Answers, stepped_counts}
-use Rattle.params_spec.specs.declared.SelfParam.{SelfParam}
+use Rattle.params_spec.specs.Results.{SelfParam}
 use Rattle.params_spec.specs.Params.{Declared}
 
 -- what is asked for: a valid image, and a word for each of its bindings
@@ -20,8 +21,8 @@ pub record Declarable (image : List ℕ) (tables : Tables) (m : List ℕ) : Type
 
 -- self's binding is one of so many
 abbrev pub SelfBound : ℕ → SelfParam → Type 0
-SelfBound n SelfParam.None = Unit
-SelfBound n (SelfParam.Some b ty) = b.0 < n
+SelfBound n None = Unit
+SelfBound n (Some (b, ty)) = b.0 < n
 
 -- what the tables, the counts and the bindings' locals stand for
 abbrev pub declared_of : Body → Counts → List ℕ → Declared
@@ -29,8 +30,8 @@ declared_of b c bindings = record { state = decode b c; bindings = bindings }
 
 -- the answer of a step, as the definitions have it; after a refusal the bindings' locals may be any
 abbrev pub declared_result : Stepped → Body → List ℕ → Result Declared
-declared_result (Stepped.Now c) b bindings = done (declared_of b c bindings)
-declared_result (Stepped.Refused e) b bindings = stopped e
+declared_result (Ok c) b bindings = done (declared_of b c bindings)
+declared_result (Err e) b bindings = stopped e
 
 -- the bindings' locals m₀ and the body b₀ before, m and b after
 pub record Declares (defined : Declared → Result Declared) (c : Counts) (m₀ : List ℕ) (b₀ : Body) (r : Stepped) (m : List ℕ) (b : Body) : Type 0 where

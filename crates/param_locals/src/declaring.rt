@@ -13,13 +13,10 @@ use body_tables::locals::new_local;
 use image::rows::{binding_at, pat_at};
 use image::{BindingId, PatId, Tables};
 use mir::Counts;
-use mir::locals::NewLocal;
 use param_entries::param_local;
 use param_plain::is_plain;
-use params_spec::SelfParam;
 use place::LocalId;
 use refusals::MirLowerError;
-use state::Stepped;
 
 // The binding of a plain parameter has the parameter's own local l.
 fn bind_plain(image: &[u8], tables: Tables, bindings: &mut [u16], p: PatId, l: LocalId)
@@ -37,21 +34,17 @@ fn declare_self(
     bindings: &mut [u16],
     body: &mut [u16; BODY_WORDS],
     counts: Counts,
-    receiver: SelfParam,
-) -> Stepped
+    receiver: Option<(BindingId, u16)>,
+) -> Result<Counts, MirLowerError>
     requires { SelfBound (length bindings.old) receiver }
     ensures { Declares (declare_self receiver) counts bindings.old (body_of body.old) result bindings.new (body_of body.new) }
 {
-    let SelfParam::Some(b, ty) = receiver else {
-        return Stepped::Now(counts);
+    let Some((b, ty)) = receiver else {
+        return Ok(counts);
     };
-    match param_local(body, counts, ty) {
-        Stepped::Refused(e) => Stepped::Refused(e),
-        Stepped::Now(c1) => {
-            bindings[b.0 as usize] = counts.locals;
-            Stepped::Now(c1)
-        }
-    }
+    let c1 = param_local(body, counts, ty)?;
+    bindings[b.0 as usize] = counts.locals;
+    Ok(c1)
 }
 
 // A parameter's local; the binding of a plain one has that local.
@@ -63,17 +56,13 @@ fn declare_param(
     counts: Counts,
     p: PatId,
     ty: u16,
-) -> Stepped
+) -> Result<Counts, MirLowerError>
     requires { Declarable image.now tables bindings.old × (p.0 < pattern_count image.now) }
     ensures { Declares (declare_param image.now (record { pattern = p.0; ty = ty })) counts bindings.old (body_of body.old) result bindings.new (body_of body.new) }
 {
-    match param_local(body, counts, ty) {
-        Stepped::Refused(e) => Stepped::Refused(e),
-        Stepped::Now(c1) => {
-            bind_plain(image, tables, bindings, p, LocalId(counts.locals));
-            Stepped::Now(c1)
-        }
-    }
+    let c1 = param_local(body, counts, ty)?;
+    bind_plain(image, tables, bindings, p, LocalId(counts.locals));
+    Ok(c1)
 }
 
 // The parameters' locals, in order.
@@ -84,34 +73,23 @@ fn declare_params(
     body: &mut [u16; BODY_WORDS],
     counts: Counts,
     words: &[u16],
-) -> Stepped
+) -> Result<Counts, MirLowerError>
     requires { Declarable image.now tables bindings.old × (list_formed image.now words.now ≡ true) }
     ensures { Declares (declare_params image.now (params_of words.now)) counts bindings.old (body_of body.old) result bindings.new (body_of body.new) }
 {
     let mut c = counts;
-    let mut k = 0;
-    let mut left = words.len() / 2;
-    while left != 0 {
-        match declare_param(
+    for i in 0..words.len() / 2 {
+        c = declare_param(
             image,
             tables,
             bindings,
             body,
             c,
-            PatId(words[k]),
-            words[k + 1],
-        ) {
-            Stepped::Refused(e) => {
-                return Stepped::Refused(e);
-            }
-            Stepped::Now(c1) => {
-                c = c1;
-            }
-        }
-        k += 2;
-        left -= 1;
+            PatId(words[2 * i]),
+            words[2 * i + 1],
+        )?;
     }
-    Stepped::Now(c)
+    Ok(c)
 }
 
 // A local for a binding that is picked and has none; it enters no scope.
@@ -122,22 +100,20 @@ fn declare_binding(
     body: &mut [u16; BODY_WORDS],
     counts: Counts,
     b: BindingId,
-) -> Stepped
+) -> Result<Counts, MirLowerError>
     requires { Whole image.now tables × (length bindings.old ≡ binding_count image.now) × (b.0 < binding_count image.now) }
     ensures { Declares (declare_binding image.now b.0) counts bindings.old (body_of body.old) result bindings.new (body_of body.new) }
 {
     let row = binding_at(image, tables, b);
     if row.picked != 1 {
-        return Stepped::Now(counts);
+        return Ok(counts);
     }
     if bindings[b.0 as usize] != 65535 {
-        return Stepped::Now(counts);
+        return Ok(counts);
     }
-    let NewLocal::Local(c1, l) = new_local(body, counts, row.ty) else {
-        return Stepped::Refused(MirLowerError::Limit);
-    };
+    let (c1, l) = new_local(body, counts, row.ty).ok_or(MirLowerError::Limit)?;
     bindings[b.0 as usize] = l.0;
-    Stepped::Now(c1)
+    Ok(c1)
 }
 
 // The locals of the bindings that are picked and have none.
@@ -147,26 +123,15 @@ fn declare_bindings(
     bindings: &mut [u16],
     body: &mut [u16; BODY_WORDS],
     counts: Counts,
-) -> Stepped
+) -> Result<Counts, MirLowerError>
     requires { Whole image.now tables × (length bindings.old ≡ binding_count image.now) }
     ensures { Declares (declare_bindings image.now 0 (binding_count image.now)) counts bindings.old (body_of body.old) result bindings.new (body_of body.new) }
 {
     let mut c = counts;
-    let mut b = 0;
-    let mut left = tables.bindings.count;
-    while left != 0 {
-        match declare_binding(image, tables, bindings, body, c, BindingId(b)) {
-            Stepped::Refused(e) => {
-                return Stepped::Refused(e);
-            }
-            Stepped::Now(c1) => {
-                c = c1;
-            }
-        }
-        b += 1;
-        left -= 1;
+    for b in 0..tables.bindings.count {
+        c = declare_binding(image, tables, bindings, body, c, BindingId(b))?;
     }
-    Stepped::Now(c)
+    Ok(c)
 }
 
 // All locals: self's, the parameters', and those of the other bindings.
@@ -176,17 +141,13 @@ pub fn declare(
     bindings: &mut [u16],
     body: &mut [u16; BODY_WORDS],
     counts: Counts,
-    receiver: SelfParam,
+    receiver: Option<(BindingId, u16)>,
     words: &[u16],
-) -> Stepped
+) -> Result<Counts, MirLowerError>
     requires { Declarable image.now tables bindings.old × (self_named image.now receiver ≡ true) × (list_formed image.now words.now ≡ true) }
     ensures { Declares (declare image.now receiver (params_of words.now)) counts bindings.old (body_of body.old) result bindings.new (body_of body.new) }
 {
-    match declare_self(bindings, body, counts, receiver) {
-        Stepped::Refused(e) => Stepped::Refused(e),
-        Stepped::Now(c1) => match declare_params(image, tables, bindings, body, c1, words) {
-            Stepped::Refused(e) => Stepped::Refused(e),
-            Stepped::Now(c2) => declare_bindings(image, tables, bindings, body, c2),
-        },
-    }
+    let c1 = declare_self(bindings, body, counts, receiver)?;
+    let c2 = declare_params(image, tables, bindings, body, c1, words)?;
+    declare_bindings(image, tables, bindings, body, c2)
 }

@@ -5,23 +5,22 @@ ghost use Rattle.params_spec.specs.Calls.{self_named, params_hold};
 ghost use Rattle.param_locals.specs.Looking.{OpensParams};
 ghost use Rattle.body_tables.specs.Layout.{body_of};
 
-use body_calls_spec::Opened;
+use body_calls_spec::Unopened;
 use body_handed::start_holds;
 use body_rules::body_holds;
 use body_tables::BODY_WORDS;
 use handed_tests::bindings_hold;
-use image::Tables;
+use image::{BindingId, Tables};
 use mir::{BasicBlockId, Counts};
 use param_lists::list_holds;
-use params_spec::SelfParam;
-use read_image::{Read, read_image};
+use read_image::read_image;
 
 // Self names a binding and a type.
-fn self_named(image: &[u8], tables: Tables, receiver: SelfParam) -> bool
+fn self_named(image: &[u8], tables: Tables, receiver: Option<(BindingId, u16)>) -> bool
     requires { Whole image.now tables }
     ensures { result ≡ self_named image.now receiver }
 {
-    let SelfParam::Some(b, ty) = receiver else {
+    let Some((b, ty)) = receiver else {
         return true;
     };
     if tables.bindings.count <= b.0 {
@@ -34,7 +33,7 @@ fn self_named(image: &[u8], tables: Tables, receiver: SelfParam) -> bool
 fn params_hold(
     image: &[u8],
     tables: Tables,
-    receiver: SelfParam,
+    receiver: Option<(BindingId, u16)>,
     bindings: &[u16],
     body: &[u16; BODY_WORDS],
     counts: Counts,
@@ -56,25 +55,25 @@ fn params_hold(
 pub fn open_params(
     image: &[u8],
     words: &[u16],
-    receiver: SelfParam,
+    receiver: Option<(BindingId, u16)>,
     bindings: &[u16],
     body: &[u16; BODY_WORDS],
     counts: Counts,
     current: BasicBlockId,
-) -> Opened
+) -> Result<Tables, Unopened>
     ensures { OpensParams image.now words.now receiver bindings.now (body_of body.now) counts current result }
 {
-    let Read::Image(tables) = read_image(image) else {
-        return Opened::BadImage;
+    let Some(tables) = read_image(image) else {
+        return Err(Unopened::BadImage);
     };
     if !list_holds(image, tables, receiver, words) {
-        return Opened::BadImage;
+        return Err(Unopened::BadImage);
     }
     if !body_holds(tables.types.count, tables.variants.count, body, counts) {
-        return Opened::BadCall;
+        return Err(Unopened::BadCall);
     }
     if !params_hold(image, tables, receiver, bindings, body, counts, current) {
-        return Opened::BadCall;
+        return Err(Unopened::BadCall);
     }
-    Opened::Image(tables)
+    Ok(tables)
 }

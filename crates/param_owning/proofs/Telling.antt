@@ -1,7 +1,8 @@
 -- Whether the local of a parameter's binding is the parameter's own, by the ways through the code. Assumes nothing.
+use Rattle.std.specs.Prelude.{Ok, Err}
 use Prim.Native.Nat.{ℕ, ◌<◌}
 use mathlib.Core.Path.{◌≡◌, refl, sym, ap, ◌∙◌}
-use mathlib.Core.Bool.{true, cond}
+use mathlib.Core.Bool.{true, false, cond}
 use mathlib.Core.List.{List}
 use borrow.Author.Tests.{eq-eqb, ne_eqb}
 use lib.Dec.{eqb}
@@ -21,24 +22,24 @@ use Rattle.pattern_parts.specs.Parts.{is_bind}
 use Rattle.pattern_nodes.proofs.There.{bind_there}
 use Rattle.params_spec.specs.Params.{unless_bound, unless_own}
 use Rattle.param_plain.proofs.Plain.{bind_number}
-use Rattle.param_owning.specs.declared.Owned.{Owned}
+use Rattle.param_owning.specs.Results.{Owned}
 use Rattle.param_owning.specs.Owning.{TellsBinding, TellsParam}
 
 -- `binding_owned`
 module _ (bindings : List ℕ) (b l : ℕ) where
   -- the binding has no local
-  pub binding_refused : {e : MirLowerError} → stopped e ≡ binding_local bindings b → TellsBinding bindings b l (Owned.Refused e)
+  pub binding_refused : {e : MirLowerError} → stopped e ≡ binding_local bindings b → TellsBinding bindings b l (Err e)
   unfolding unless_bound
   binding_refused h = record { tells = λ p bound other. ap (λ r. step p r (λ m. cond (eqb l m.0) bound other)) h }
 
   module _ {m : LocalId} (h : done m ≡ binding_local bindings b) where
     -- its local is l
-    pub binding_own : l ≡ m.0 → TellsBinding bindings b l Owned.Own
+    pub binding_own : l ≡ m.0 → TellsBinding bindings b l (Ok true)
     unfolding unless_bound
     binding_own same = record { tells = λ p bound other. rw (← h, eq-eqb l m.0 same) }
 
     -- it has another
-    pub binding_other : (l ≡ m.0 → ⊥) → TellsBinding bindings b l Owned.Other
+    pub binding_other : (l ≡ m.0 → ⊥) → TellsBinding bindings b l (Ok false)
     unfolding unless_bound
     binding_other differs = record { tells = λ p bound other. rw (← h, ne_eqb l m.0 differs) }
 
@@ -75,7 +76,7 @@ module _ (image bindings : List ℕ) (p l : ℕ) (row : PatRow) (same : row ≡ 
       (node_own (pat_kind row.kind) (tree_of p image) image (record { number = p; ty = row.ty; derefs = row.derefs }) row bindings l bound other ∙ rw (bind_number row.kind))
 
   -- it is no Bind
-  pub param_other : (row.kind ≡ 11 → ⊥) → TellsParam image bindings p l Owned.Other
+  pub param_other : (row.kind ≡ 11 → ⊥) → TellsParam image bindings p l (Ok false)
   param_other differs = record { tells = λ bound other. sym (row_own bound other ∙ rw (ne_eqb row.kind 11 differs)) }
 
   module _ (eleven : row.kind ≡ 11) where

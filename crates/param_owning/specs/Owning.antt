@@ -1,15 +1,15 @@
 -- Whether the local of a parameter's binding is the parameter's own. Assumes nothing: these are definitions.
-use Rattle.std.specs.Prelude.{ℕ, ◌≡◌, List}
+use Rattle.std.specs.Prelude.{ℕ, ◌≡◌, true, false, List, Ok, Err}
 use Rattle.image.specs.Tree.{tree}
 use Rattle.pattern_matching.specs.Walking.{Out, Walk, refused}
 use Rattle.params_spec.specs.Params.{unless_bound, unless_own}
-use Rattle.param_owning.specs.declared.Owned.{Owned}
+use Rattle.param_owning.specs.Results.{Owned}
 
 -- what follows: nothing where it is its own, and otherwise the walk `other`; p is the pattern where a refusal is met
 abbrev pub by_owned : Owned → ℕ → Walk Out → Walk Out → Walk Out
-by_owned Owned.Own p bound other = bound
-by_owned Owned.Other p bound other = other
-by_owned (Owned.Refused e) p bound other = refused e p
+by_owned (Ok true) p bound other = bound
+by_owned (Ok false) p bound other = other
+by_owned (Err e) p bound other = refused e p
 
 -- of the binding b and the local l
 pub record TellsBinding (bindings : List ℕ) (b l : ℕ) (r : Owned) : Type 0 where

@@ -9,41 +9,35 @@ ghost use Rattle.param_owning.specs.Owning.{TellsBinding, TellsParam};
 use body_locals::binding_local;
 use image::rows::pat_at;
 use image::{BindingId, PatId, Tables};
-use lower_spec::temps::BoundLocal;
 use place::LocalId;
 use refusals::MirLowerError;
 
-#[derive(Clone, Copy)]
-pub enum Owned {
-    Own,
-    Other,
-    Refused(MirLowerError),
-}
-
 // Whether the local of the binding b is l.
-fn binding_owned(bindings: &[u16], b: BindingId, l: LocalId) -> Owned
+fn binding_owned(bindings: &[u16], b: BindingId, l: LocalId) -> Result<bool, MirLowerError>
     requires { b.0 < length bindings.now }
     ensures { TellsBinding bindings.now b.0 l.0 result }
 {
-    match binding_local(bindings, b) {
-        BoundLocal::Refused(e) => Owned::Refused(e),
-        BoundLocal::Local(m) => {
-            if l.0 == m.0 {
-                return Owned::Own;
-            }
-            Owned::Other
-        }
+    let m = binding_local(bindings, b)?;
+    if l.0 == m.0 {
+        return Ok(true);
     }
+    Ok(false)
 }
 
 // Whether the parameter p, whose local is l, is a Bind whose binding has that local.
-pub fn param_owned(image: &[u8], tables: Tables, bindings: &[u16], p: PatId, l: LocalId) -> Owned
+pub fn param_owned(
+    image: &[u8],
+    tables: Tables,
+    bindings: &[u16],
+    p: PatId,
+    l: LocalId,
+) -> Result<bool, MirLowerError>
     requires { (valid image.now ≡ true) × Whole image.now tables × (length bindings.now ≡ binding_count image.now) × (p.0 < pattern_count image.now) }
     ensures { TellsParam image.now bindings.now p.0 l.0 result }
 {
     let row = pat_at(image, tables, p);
     if row.kind != 11 {
-        return Owned::Other;
+        return Ok(false);
     }
     binding_owned(bindings, BindingId(row.a), l)
 }

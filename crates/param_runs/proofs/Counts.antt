@@ -1,4 +1,5 @@
 -- The new blocks and statements of a list of parameters are the totals of the lowered parameters' counts. Assumes nothing.
+use Rattle.std.specs.Prelude.{None}
 use Prim.Native.Nat.{ℕ, ◌+◌, ◌*◌, ◌≤◌, ◌<◌}
 use native.Mathlib.Omega.{arith}
 use mathlib.Core.Path.{◌≡◌, refl, sym, subst}
@@ -10,9 +11,8 @@ use Rattle.image.specs.Valid.{valid}
 use Rattle.image.specs.Tree.{tree}
 use Rattle.place.specs.declared.place_ty.PlaceTy.{PlaceTy}
 use Rattle.mir.specs.declared.BasicBlockId.{BasicBlockId}
-use Rattle.lower_spec.specs.declared.merging.OptBlock.{OptBlock}
 use Rattle.pattern_matching.specs.Walking.{Ctx, Out, ok, with_state, local_place}
-use Rattle.params_spec.specs.declared.SelfParam.{SelfParam}
+use Rattle.params_spec.specs.Results.{SelfParam}
 use Rattle.params_spec.specs.Params.{Param, ParamsOut, lower_param, lower_params, lower_params_and_bindings}
 use Rattle.params_spec.specs.Calls.{params_named}
 use Rattle.counting.specs.Reaching.{Reached}
@@ -32,19 +32,19 @@ module _ (image bindings : List ℕ) (image_valid : valid image ≡ true) where
   -- a parameter, whose local l has its type
   param_tallied : (q : Param) (l : ℕ) (ctx : Ctx) (current : BasicBlockId) (r : Out) → NamedParam image q → l < length ctx.state.locals → get_or ctx.state.locals l 0 ≡ q.ty →
       lower_param image bindings q.pattern l ctx current ≡ ok r →
-      Tally ctx r.ctx (cond (own_local bindings (tree image q.pattern) l) 0 (new_blocks image (tree image q.pattern) (PlaceTy.Ty q.ty) OptBlock.None))
+      Tally ctx r.ctx (cond (own_local bindings (tree image q.pattern) l) 0 (new_blocks image (tree image q.pattern) (PlaceTy.Ty q.ty) None))
       (cond (own_local bindings (tree image q.pattern) l) [] (reached_from image (tree image q.pattern) (PlaceTy.Ty q.ty)))
   unfolding local_place
   param_tallied q l ctx current r named there typed e =
       param_case image bindings l ctx current P r q.pattern (λ own. rw own (tally_none ctx))
       (λ r₁ other e₁.
-      rw other (subst (λ (t : PlaceTy). Tally ctx (shut_out r₁).ctx (new_blocks image (tree image q.pattern) t OptBlock.None) (reached_from image (tree image q.pattern) t))
+      rw other (subst (λ (t : PlaceTy). Tally ctx (shut_out r₁).ctx (new_blocks image (tree image q.pattern) t None) (reached_from image (tree image q.pattern) t))
       (local_typed image ctx.state l q.ty image_valid named.ty typed)
       (tally_pattern image bindings ctx current r₁ (tree image q.pattern) (local_place (record { 0 = l })) there refl e₁))) e
     where
       P : Out → Type 0
       P r =
-          Tally ctx r.ctx (cond (own_local bindings (tree image q.pattern) l) 0 (new_blocks image (tree image q.pattern) (PlaceTy.Ty q.ty) OptBlock.None))
+          Tally ctx r.ctx (cond (own_local bindings (tree image q.pattern) l) 0 (new_blocks image (tree image q.pattern) (PlaceTy.Ty q.ty) None))
           (cond (own_local bindings (tree image q.pattern) l) [] (reached_from image (tree image q.pattern) (PlaceTy.Ty q.ty)))
 
   -- each parameter in order

@@ -1,5 +1,6 @@
 -- The making of the locals: neither a block nor a statement is new, and the locals are those that there were, self's, the parameters' and then more. The words of
 -- bindings that get none stay. Assumes nothing.
+use Rattle.std.specs.Prelude.{Some, None}
 use Prim.Native.Nat.{ℕ, zero, suc, ◌+◌, ◌≤◌, ◌<◌}
 use native.Mathlib.Decide.{dec_lt}
 use native.Mathlib.Omega.{arith}
@@ -23,7 +24,7 @@ use Rattle.mir.specs.Locals.{local_limit}
 use Rattle.mir.specs.Scopes.{entry_limit}
 use Rattle.state.specs.State.{State}
 use Rattle.state.specs.Steps.{within, next_local, new_local, push_entry, try_local, try_entry}
-use Rattle.params_spec.specs.declared.SelfParam.{SelfParam}
+use Rattle.params_spec.specs.Results.{SelfParam}
 use Rattle.params_spec.specs.Params.{Param, Declared, param_local, plain_binding, bound_to, declare_self, declare_param, declare_params, declare_binding, declare_bindings, declare}
 use Rattle.params_spec.specs.Calls.{binds_receiver, none_binds_receiver}
 use Rattle.counting.proofs.Holding.{Gives, gives, stops, gives_then}
@@ -129,8 +130,8 @@ declares_one d ty o st m =
 
 -- self's type, where there is one
 abbrev pub self_types : SelfParam → List ℕ
-self_types SelfParam.None = []
-self_types (SelfParam.Some b ty) = ty ∷ []
+self_types None = []
+self_types (Some (b, ty)) = ty ∷ []
 
 -- the parameters' types
 unfoldable pub param_types : List Param → List ℕ
@@ -147,29 +148,29 @@ some_is e = cc
 
 -- another binding than self's
 abbrev NotSelf : SelfParam → ℕ → Type 0
-NotSelf SelfParam.None x = Unit {0}
-NotSelf (SelfParam.Some b ty) x = some b.0 ≡ some x → ⊥
+NotSelf None x = Unit {0}
+NotSelf (Some (b, ty)) x = some b.0 ≡ some x → ⊥
 
 -- self: its local is its binding's
 declares_self : (self : SelfParam) (d : Declared) → Gives (Declares d (self_types self) (NotSelf self)) (declare_self self d)
 unfolding declare_self bound_to
-declares_self SelfParam.None d = gives (Declares d [] (NotSelf SelfParam.None)) d (declares_none d (NotSelf SelfParam.None))
-declares_self (SelfParam.Some b ty) d =
+declares_self None d = gives (Declares d [] (NotSelf None)) d (declares_none d (NotSelf None))
+declares_self (Some (b, ty)) d =
     gives_then (param_local d.state ty) _ (makes_param d.state ty) (λ st m.
-    gives (Declares d (ty ∷ []) (NotSelf (SelfParam.Some b ty))) _ (declares_one d ty (some b.0) st m))
+    gives (Declares d (ty ∷ []) (NotSelf (Some (b, ty)))) _ (declares_one d ty (some b.0) st m))
 
 -- self's local is its binding's, where there is such a binding
 abbrev SelfOwn : SelfParam → Declared → Declared → Type 0
-SelfOwn SelfParam.None d d₁ = Unit {0}
-SelfOwn (SelfParam.Some b ty) d d₁ = b.0 < length d.bindings → get_or d₁.bindings b.0 65535 ≡ length d.state.locals
+SelfOwn None d d₁ = Unit {0}
+SelfOwn (Some (b, ty)) d d₁ = b.0 < length d.bindings → get_or d₁.bindings b.0 65535 ≡ length d.state.locals
 
 -- so it is behind `declare_self`
 self_own : (self : SelfParam) (d : Declared) → Gives (SelfOwn self d) (declare_self self d)
 unfolding declare_self
-self_own SelfParam.None d = gives (SelfOwn SelfParam.None d) d tt
-self_own (SelfParam.Some b ty) d =
+self_own None d = gives (SelfOwn None d) d tt
+self_own (Some (b, ty)) d =
     gives_then {P = λ st. Unit {0}} (param_local d.state ty) _ (record { at = λ st e. tt }) (λ st m.
-    gives (SelfOwn (SelfParam.Some b ty) d) _ (λ i. get_or-set_same d.bindings b.0 (length d.state.locals) 65535 i))
+    gives (SelfOwn (Some (b, ty)) d) _ (λ i. get_or-set_same d.bindings b.0 (length d.state.locals) 65535 i))
 
 module _ (image : List ℕ) where
   -- no parameter is a plain `x` of this binding
@@ -251,14 +252,14 @@ module _ (image : List ℕ) where
 
   -- self's local is its binding's, where there is such a binding and no parameter is a plain `x` of it
   abbrev pub OwnKept : SelfParam → List Param → Declared → Declared → Type 0
-  OwnKept SelfParam.None params d d₁ = Unit {0}
-  OwnKept (SelfParam.Some b ty) params d d₁ = b.0 < length d.bindings → Apart params b.0 → get_or d₁.bindings b.0 65535 ≡ length d.state.locals
+  OwnKept None params d d₁ = Unit {0}
+  OwnKept (Some (b, ty)) params d d₁ = b.0 < length d.bindings → Apart params b.0 → get_or d₁.bindings b.0 65535 ≡ length d.state.locals
 
   -- it stays so
   own_kept : (self : SelfParam) (params : List Param) {d d₁ d₂ d₃ : Declared} {types : List ℕ} → Declares d (self_types self) (NotSelf self) d₁ → SelfOwn self d d₁ →
       Declares d₁ (param_types params) (Apart params) d₂ → Declares d₂ types (λ x. get_or d₂.bindings x 65535 ≢ 65535) d₃ → OwnKept self params d d₃
-  own_kept SelfParam.None params f own g h = tt
-  own_kept (SelfParam.Some b ty) params f own g h = λ i n.
+  own_kept None params f own g h = tt
+  own_kept (Some (b, ty)) params f own g h = λ i n.
       let second = g.keeps b.0 n ∙ own i in
       let few = f.makes.few (omega arith) in
       let count = makes_count f.makes in

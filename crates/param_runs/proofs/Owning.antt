@@ -1,4 +1,5 @@
 -- What becomes of a parameter: where its binding's local is its own nothing is done, and any other one is lowered. Assumes nothing.
+use Rattle.std.specs.Prelude.{None}
 use Prim.Native.Nat.{ℕ}
 use mathlib.Core.Path.{◌≡◌, refl, sym, subst}
 use mathlib.Core.Bool.{Bool, true, false, cond}
@@ -10,7 +11,6 @@ use Rattle.refusals.specs.Refusals.{done, stopped}
 use Rattle.image.specs.Tree.{Pat, tree}
 use Rattle.place.specs.declared.LocalId.{LocalId}
 use Rattle.mir.specs.declared.BasicBlockId.{BasicBlockId}
-use Rattle.lower_spec.specs.declared.merging.OptBlock.{OptBlock}
 use Rattle.lower_spec.specs.Temps.{binding_local}
 use Rattle.pattern_matching.specs.Walking.{Ctx, Out, Walk, ok, step, local_place}
 use Rattle.pattern_matching.specs.Patterns.{pattern_match}
@@ -21,7 +21,7 @@ use Rattle.param_runs.proofs.Shutting.{shut_out}
 
 -- nothing done
 abbrev pub unchanged : Ctx → BasicBlockId → Out
-unchanged ctx current = record { ctx = ctx; then = current; else = OptBlock.None }
+unchanged ctx current = record { ctx = ctx; then = current; else = None }
 
 -- a binding's local is l, or another
 bound_case : {C : Type 0} (bindings : List ℕ) (p b l : ℕ) (bound other : Walk Out) (r : Out) → unless_bound bindings p b l bound other ≡ ok r →
@@ -67,9 +67,9 @@ shut_case w r e k = walked w _ e (λ r₁ e₁ e₂. k r₁ e₁ (sym (ok_is e�
 module _ (image bindings : List ℕ) (l : ℕ) (ctx : Ctx) (current : BasicBlockId) (P : Out → Type 0) (r : Out) where
   -- what holds of a parameter: where nothing is done, and where it is lowered
   pub param_case : (p : ℕ) → (own_local bindings (tree image p) l ≡ true → P (unchanged ctx current)) →
-      ((r₁ : Out) → own_local bindings (tree image p) l ≡ false → pattern_match image bindings (tree image p) ctx current OptBlock.None (local_place (record { 0 = l })) ≡ ok r₁ → P (shut_out r₁)) →
+      ((r₁ : Out) → own_local bindings (tree image p) l ≡ false → pattern_match image bindings (tree image p) ctx current None (local_place (record { 0 = l })) ≡ ok r₁ → P (shut_out r₁)) →
       lower_param image bindings p l ctx current ≡ ok r → P r
   unfolding lower_param
   param_case p here lower e =
       own_case bindings (tree image p) l _ _ r e (λ own is. subst P (ok_is is) (here own)) (λ other is.
-      shut_case (pattern_match image bindings (tree image p) ctx current OptBlock.None (local_place (record { 0 = l }))) r is (λ r₁ e₁ same. subst P (sym same) (lower r₁ other e₁)))
+      shut_case (pattern_match image bindings (tree image p) ctx current None (local_place (record { 0 = l }))) r is (λ r₁ e₁ same. subst P (sym same) (lower r₁ other e₁)))

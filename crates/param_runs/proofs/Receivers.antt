@@ -1,4 +1,5 @@
 -- What lower.rs does with self besides, kept here as the definition had it, and that no call that is taken comes to it. Assumes nothing.
+use Rattle.std.specs.Prelude.{Some, None}
 use Prim.Native.Nat.{ℕ, ◌+◌, ◌<◌}
 use native.Mathlib.Omega.{arith}
 use mathlib.Core.Path.{◌≡◌, refl, sym, ap, ◌∙◌}
@@ -17,7 +18,6 @@ use Rattle.image.proofs.Bools.{and_left, and_right}
 use Rattle.mir.specs.declared.BasicBlockId.{BasicBlockId}
 use Rattle.mir.specs.declared.Counts.{Counts}
 use Rattle.state.specs.State.{Body, decode}
-use Rattle.lower_spec.specs.declared.merging.OptBlock.{OptBlock}
 use Rattle.lower_spec.specs.Temps.{binding_local}
 use Rattle.calls_spec.specs.Calls.{Called, bad_image, bad_call, call}
 use Rattle.body_calls_spec.specs.Calls.{body_taken}
@@ -27,16 +27,16 @@ use Rattle.pattern_matching.specs.Patterns.{match_self_param}
 use Rattle.pattern_walk_spec.specs.Answers.{ctx_of}
 use Rattle.pattern_walk_spec.specs.Calls.{by_walk, start_ctx}
 use Rattle.handed.specs.Handed.{binding_local_holds, bindings_hold}
-use Rattle.params_spec.specs.declared.SelfParam.{SelfParam}
+use Rattle.params_spec.specs.Results.{SelfParam}
 use Rattle.params_spec.specs.Params.{Param, Declared, ParamsOut, declare, shut, unless_bound, lower_params, self_count, lower_all, lower_params_and_bindings}
 use Rattle.params_spec.specs.Calls.{params_of, list_formed, receiver_apart, list_holds, self_named, params_hold, params_call}
 use Rattle.param_runs.proofs.Declaring.{makes_count, all_made}
 
 -- self, whose local is l, from the block `current` on: a binding with another local is filled by `match_self_param`
 unfoldable pub lower_self : List ℕ → List ℕ → SelfParam → ℕ → Ctx → BasicBlockId → Walk Out
-lower_self image bindings SelfParam.None l ctx current = out ctx current OptBlock.None
-lower_self image bindings (SelfParam.Some b ty) l ctx current =
-    unless_bound bindings no_pattern b.0 l (out ctx current OptBlock.None) (shut (match_self_param image bindings b.0 ctx current (record { 0 = l })))
+lower_self image bindings None l ctx current = out ctx current None
+lower_self image bindings (Some (b, ty)) l ctx current =
+    unless_bound bindings no_pattern b.0 l (out ctx current None) (shut (match_self_param image bindings b.0 ctx current (record { 0 = l })))
 
 -- self, and then the parameters
 unfoldable pub lower_all_with_self : List ℕ → List ℕ → SelfParam → List Param → ℕ → Ctx → BasicBlockId → Walk ParamsOut
@@ -59,20 +59,20 @@ call_with_self image words self bindings b c current =
 
 -- self's binding has the local l
 abbrev pub SelfHas : SelfParam → List ℕ → ℕ → Type 0
-SelfHas SelfParam.None bindings l = Unit {0}
-SelfHas (SelfParam.Some b ty) bindings l = get_or bindings b.0 65535 ≡ l
+SelfHas None bindings l = Unit {0}
+SelfHas (Some (b, ty)) bindings l = get_or bindings b.0 65535 ≡ l
 
 -- l is a local
 abbrev SelfLocal : SelfParam → ℕ → Type 0
-SelfLocal SelfParam.None l = Unit {0}
-SelfLocal (SelfParam.Some b ty) l = l < 65535
+SelfLocal None l = Unit {0}
+SelfLocal (Some (b, ty)) l = l < 65535
 
 -- then nothing is left to do for self
 self_idle : (image bindings : List ℕ) (self : SelfParam) (l : ℕ) (ctx : Ctx) (current : BasicBlockId) → SelfHas self bindings l × SelfLocal self l →
-    lower_self image bindings self l ctx current ≡ out ctx current OptBlock.None
+    lower_self image bindings self l ctx current ≡ out ctx current None
 unfolding lower_self unless_bound binding_local
-self_idle image bindings SelfParam.None l ctx current own = refl
-self_idle image bindings (SelfParam.Some b ty) l ctx current (own, small) =
+self_idle image bindings None l ctx current own = refl
+self_idle image bindings (Some (b, ty)) l ctx current (own, small) =
     rw (ne_eqb (get_or bindings b.0 65535) 65535 (λ e. let z = sym own ∙ e in omega (arith, z)), eq-eqb l (get_or bindings b.0 65535) (sym own)) refl
 
 -- two steps that follow one, and come to the same
@@ -90,9 +90,9 @@ module _ (image : List ℕ) (self : SelfParam) (params : List Param) (bindings :
     where
       go : (self : SelfParam) → self_named image self ≡ true → receiver_apart image self params ≡ true → declare image self params (record { state = ctx.state; bindings = bindings }) ≡ done made →
           SelfHas self made.bindings (length ctx.state.locals) × SelfLocal self (length ctx.state.locals)
-      go SelfParam.None n a e = (tt, tt)
-      go (SelfParam.Some b ty) n a e =
-          let m = (all_made image (SelfParam.Some b ty) params (record { state = ctx.state; bindings = bindings })).at made e in
+      go None n a e = (tt, tt)
+      go (Some (b, ty)) n a e =
+          let m = (all_made image (Some (b, ty)) params (record { state = ctx.state; bindings = bindings })).at made e in
           let there = ltb-true b.0 (binding_count image) (and_left (ltb b.0 (binding_count image)) (ltb ty (type_count image)) n) in
           let count = makes_count m.makes in
           (m.own (omega (arith, long, there)) a, let few = m.makes.few (omega arith) in omega (arith, few, count))

@@ -1,4 +1,5 @@
 -- The run through self and the parameters. Assumes nothing.
+use Rattle.std.specs.Prelude.{Some, None}
 use Prim.Native.Nat.{ℕ, ◌+◌, ◌≤◌, ◌<◌}
 use native.Mathlib.Omega.{arith}
 use mathlib.Core.Path.{◌≡◌, refl, sym, ap, subst}
@@ -17,11 +18,10 @@ use Rattle.image.specs.Lists.{member, distinct}
 use Rattle.image.specs.Tree.{tree}
 use Rattle.image.proofs.Bools.{and_left, and_right}
 use Rattle.mir.specs.declared.BasicBlockId.{BasicBlockId}
-use Rattle.lower_spec.specs.declared.merging.OptBlock.{OptBlock}
 use Rattle.views.specs.Views.{Line, Mir, mir_of}
 use Rattle.views.specs.Growing.{GoesOn}
 use Rattle.pattern_matching.specs.Walking.{Ctx, Out, ok, with_state}
-use Rattle.params_spec.specs.declared.SelfParam.{SelfParam}
+use Rattle.params_spec.specs.Results.{SelfParam}
 use Rattle.params_spec.specs.Params.{Param, Declared, ParamsOut, declare, plain_binding, self_count, lower_params, lower_params_and_bindings}
 use Rattle.params_spec.specs.Calls.{self_named, binds_receiver, none_binds_receiver}
 use Rattle.growth.specs.Opened.{Starts}
@@ -65,7 +65,7 @@ unnamed_apart image (q ∷ qs) b n =
     by false e others = others
 
 -- self's stands in none
-self_apart : (image : List ℕ) (b : BindingId) (ty : ℕ) (params : List Param) → bindings_differ image (SelfParam.Some b ty) params ≡ true → Apart image params b.0
+self_apart : (image : List ℕ) (b : BindingId) (ty : ℕ) (params : List Param) → bindings_differ image (Some (b, ty)) params ≡ true → Apart image params b.0
 unfolding distinct
 self_apart image b ty params e =
     unnamed_apart image params b.0 (not_and (member b.0 (params_bound image params)) (and_left (not (member b.0 (params_bound image params))) (distinct (params_bound image params)) e))
@@ -73,11 +73,11 @@ self_apart image b ty params e =
 -- those of the parameters differ
 params_differ : (image : List ℕ) (self : SelfParam) (params : List Param) → bindings_differ image self params ≡ true → distinct (params_bound image params) ≡ true
 unfolding distinct
-params_differ image SelfParam.None params e = e
-params_differ image (SelfParam.Some b ty) params e = and_right (not (member b.0 (params_bound image params))) (distinct (params_bound image params)) e
+params_differ image None params e = e
+params_differ image (Some (b, ty)) params e = and_right (not (member b.0 (params_bound image params))) (distinct (params_bound image params)) e
 
 -- self names a binding
-self_there : (image : List ℕ) (b : BindingId) (ty : ℕ) → self_named image (SelfParam.Some b ty) ≡ true → b.0 < binding_count image
+self_there : (image : List ℕ) (b : BindingId) (ty : ℕ) → self_named image (Some (b, ty)) ≡ true → b.0 < binding_count image
 unfolding self_named
 self_there image b ty e = ltb-true b.0 (binding_count image) (and_left (ltb b.0 (binding_count image)) (ltb ty (type_count image)) e)
 
@@ -101,7 +101,7 @@ module _ (image : List ℕ) (params : List Param) (bindings : List ℕ) (ctx : C
   behind_self : (self : SelfParam) (vs : List Value) → Handed image self params bindings ctx current → AllMade image self params (record { state = ctx.state; bindings = bindings }) made →
       lower_params image made.bindings params (first + self_count self) started current ≡ ok last →
       params_fit image made.bindings params (first + self_count self) vs ≡ true → bindings_differ image self params ≡ true → HeldFrom env (first + self_count self) vs →
-      Starts started current OptBlock.None →
+      Starts started current None →
       Passed image made.bindings M started current.0 env (first + self_count self) vs (params_bind image params (first + self_count self) vs) last.ctx last.then.0
   behind_self self vs handed m e fit differ held starts =
       let typed = typed_made self params m.others m.makes in
@@ -117,21 +117,21 @@ module _ (image : List ℕ) (params : List Param) (bindings : List ℕ) (ctx : C
   -- self, whose binding has its own local, and then the parameters
   passes : (self : SelfParam) (vs : List Value) → Handed image self params bindings ctx current → AllMade image self params (record { state = ctx.state; bindings = bindings }) made →
       lower_params image made.bindings params (first + self_count self) started current ≡ ok last →
-      all_fit image made.bindings self params first vs ≡ true → bindings_differ image self params ≡ true → HeldFrom env first vs → Starts started current OptBlock.None →
+      all_fit image made.bindings self params first vs ≡ true → bindings_differ image self params ≡ true → HeldFrom env first vs → Starts started current None →
       Passed image made.bindings M started current.0 env first vs (bound_by image self params first vs) last.ctx last.then.0
   unfolding all_fit bound_by self_count
-  passes SelfParam.None vs handed m e fit differ held starts =
+  passes None vs handed m e fit differ held starts =
       let none : first ≡ first + 0 = omega arith in
       subst (λ (l : ℕ). Passed image made.bindings M started current.0 env l vs (params_bind image params l vs) last.ctx last.then.0) (sym none)
-      (behind_self SelfParam.None vs handed m e (subst (λ (l : ℕ). params_fit image made.bindings params l vs ≡ true) none fit) differ
+      (behind_self None vs handed m e (subst (λ (l : ℕ). params_fit image made.bindings params l vs ≡ true) none fit) differ
       (subst (λ (l : ℕ). HeldFrom env l vs) none held) starts)
-  passes (SelfParam.Some b ty) [] handed m e fit differ held starts = absurd (false≢true fit)
-  passes (SelfParam.Some b ty) (v ∷ vs) handed m e fit differ held starts =
+  passes (Some (b, ty)) [] handed m e fit differ held starts = absurd (false≢true fit)
+  passes (Some (b, ty)) (v ∷ vs) handed m e fit differ held starts =
       let words = words_hold_lem bindings (binding_count image) ctx.state handed.bindings_hold_lem in
       let there = self_there image b ty handed.self_named_lem in
       let own = m.own (omega (arith, words.long, there)) (self_apart image b ty params differ) in
       let o = params_open image made.bindings params (first + 1) started current last starts e in
-      passed_own image made.bindings M b.0 starts.inside own held.0 (behind_self (SelfParam.Some b ty) vs handed m e fit differ held.1 starts) o.worked.blocks
+      passed_own image made.bindings M b.0 starts.inside own held.0 (behind_self (Some (b, ty)) vs handed m e fit differ held.1 starts) o.worked.blocks
       (leaves_goes_on starts o) (inl o.ready.opened)
 
 -- a run through values from where the parameters start, as it is stated
@@ -171,7 +171,7 @@ module _ (image : List ℕ) (self : SelfParam) (params : List Param) (bindings :
       m : AllMade image self params (record { state = ctx.state; bindings = bindings }) s.made
       m = (all_made image self params (record { state = ctx.state; bindings = bindings })).at s.made s.declared
 
-      starts : Starts (with_state ctx s.made.state) current OptBlock.None
+      starts : Starts (with_state ctx s.made.state) current None
       starts = (leaves_lines {v = ctx.visits} handed.starts (adds_words ctx.state s.made.state current.0 _ m.makes.blocks m.makes.statements m.makes.locals)).ready
 
       runs : Runs (record { ctx = s.end.ctx; then = s.end.then; bindings = s.made.bindings })

@@ -1,4 +1,5 @@
 -- A list of parameters leaves a local that stands in the scopes' entries at most once so: their own locals are new, and so are recorded though no live mark is made. Assumes nothing.
+use Rattle.std.specs.Prelude.{Some, None}
 use Prim.Native.Nat.{ℕ, zero, suc, ◌+◌, ◌≤◌, ◌<◌}
 use native.Mathlib.Omega.{arith}
 use mathlib.Core.Path.{◌≡◌, refl, sym, subst}
@@ -17,10 +18,10 @@ use Rattle.mir.specs.Locals.{local_limit}
 use Rattle.mir.specs.Scopes.{entry_limit}
 use Rattle.state.specs.State.{State}
 use Rattle.state.specs.Steps.{within, next_local, new_local, push_entry, try_local, try_entry}
-use Rattle.lower_spec.specs.declared.merging.OptBlock.{OptBlock}
+use Rattle.lower_spec.specs.Results.{OptBlock}
 use Rattle.lower_spec.specs.Recorded.{OncePerLocal}
 use Rattle.pattern_matching.specs.Walking.{Ctx, Out, ok, with_state, local_place}
-use Rattle.params_spec.specs.declared.SelfParam.{SelfParam}
+use Rattle.params_spec.specs.Results.{SelfParam}
 use Rattle.params_spec.specs.Params.{Param, Declared, ParamsOut, param_local, declare_self, declare_param, declare_params, declare_binding, declare_bindings, declare, shut_else, lower_param, lower_params, self_count, lower_params_and_bindings}
 use Rattle.counting.proofs.Holding.{Gives, gives, stops, gives_then}
 use Rattle.growth.proofs.Walks.{ok_is, walked}
@@ -70,8 +71,8 @@ scoped_param_local st ty h = by (ltb (length st.locals) local_limit)
 -- self's
 scoped_self : (self : SelfParam) (d : Declared) → NamedBelow d.state → Gives (ScopedIn d.state) (declare_self self d)
 unfolding declare_self
-scoped_self SelfParam.None d h = gives (ScopedIn d.state) d (h, same_once d.state d.state refl)
-scoped_self (SelfParam.Some b ty) d h =
+scoped_self None d h = gives (ScopedIn d.state) d (h, same_once d.state d.state refl)
+scoped_self (Some (b, ty)) d h =
     gives_then {Q = ScopedIn d.state} (param_local d.state ty) _ (scoped_param_local d.state ty h) (λ st g. gives (ScopedIn d.state) _ g)
 
 module _ (image : List ℕ) where
@@ -117,8 +118,8 @@ module _ (image : List ℕ) where
 -- an else that is shut
 kept_shut : {s₀ : State} {n : ℕ} (ctx : Ctx) (els : OptBlock) → Kept s₀ n ctx.state → Kept s₀ n (shut_else ctx els).state
 unfolding shut_else
-kept_shut ctx OptBlock.None k = k
-kept_shut ctx (OptBlock.Some b) k = kept_terminator ctx.state b Terminator.Unreachable tt k
+kept_shut ctx None k = k
+kept_shut ctx (Some b) k = kept_terminator ctx.state b Terminator.Unreachable tt k
 
 module _ {s₀ : State} {n : ℕ} (image bindings : List ℕ) (below : WordsBelow bindings n) where
   -- a parameter
@@ -126,7 +127,7 @@ module _ {s₀ : State} {n : ℕ} (image bindings : List ℕ) (below : WordsBelo
   unfolding local_place
   param_kept p l ctx current r there k =
       param_case image bindings l ctx current (λ (r : Out). Kept s₀ n r.ctx.state) r p (λ own. k)
-      (λ r₁ other e. kept_shut r₁.ctx r₁.else (match_kept image bindings below (tree image p) ctx current OptBlock.None (local_place (record { 0 = l })) r₁ there k e))
+      (λ r₁ other e. kept_shut r₁.ctx r₁.else (match_kept image bindings below (tree image p) ctx current None (local_place (record { 0 = l })) r₁ there k e))
 
   -- each parameter in order
   params_kept : (qs : List Param) (l : ℕ) (ctx : Ctx) (current : BasicBlockId) (r : Out) → l + length qs ≤ n → Kept s₀ n ctx.state → lower_params image bindings qs l ctx current ≡ ok r →
@@ -140,8 +141,8 @@ module _ {s₀ : State} {n : ℕ} (image bindings : List ℕ) (below : WordsBelo
 -- self has as many locals as types
 self_count_lem : (self : SelfParam) → length (self_types self) ≡ self_count self
 unfolding self_count
-self_count_lem SelfParam.None = refl
-self_count_lem (SelfParam.Some b ty) = refl
+self_count_lem None = refl
+self_count_lem (Some (b, ty)) = refl
 
 -- The theorem: from a state in which nothing names a local that there is not, with bindings' locals that there are.
 pub params_once : (image : List ℕ) (self : SelfParam) (params : List Param) (bindings : List ℕ) (ctx : Ctx) (current : BasicBlockId) (r : ParamsOut) → NamedBelow ctx.state →

@@ -7,7 +7,7 @@ use Rattle.refusals.specs.Refusals.{Result, no_pattern}
 use Rattle.refusals.specs.Refusals.{done, stopped}
 use Rattle.mir.specs.declared.BasicBlockId.{BasicBlockId}
 use Rattle.pattern_matching.specs.Walking.{Ctx, Out, Walk, ok, step, with_state}
-use Rattle.params_spec.specs.declared.SelfParam.{SelfParam}
+use Rattle.params_spec.specs.Results.{SelfParam}
 use Rattle.params_spec.specs.Params.{Param, Declared, ParamsOut, declare, self_count, lower_params, lower_all, lower_params_and_bindings}
 use Rattle.growth.proofs.Walks.{not_ok, ok_is, walked}
 

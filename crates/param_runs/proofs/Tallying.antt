@@ -1,4 +1,5 @@
 -- What each step adds to blocks, statements and visits, and one step after another. Assumes nothing.
+use Rattle.std.specs.Prelude.{Some, None}
 use Prim.Native.Nat.{ℕ, ◌+◌, ◌≤◌, ◌<◌}
 use native.Mathlib.Nat.{le_refl, le_trans, lt_of_lt_of_le}
 use native.Mathlib.Omega.{arith}
@@ -9,7 +10,7 @@ use Rattle.image.specs.Tree.{Pat}
 use Rattle.place.specs.declared.Place.{Place}
 use Rattle.mir.specs.declared.BasicBlockId.{BasicBlockId}
 use Rattle.mir.specs.declared.blocks.Terminator.{Terminator}
-use Rattle.lower_spec.specs.declared.merging.OptBlock.{OptBlock}
+use Rattle.lower_spec.specs.Results.{OptBlock}
 use Rattle.state.specs.State.{State}
 use Rattle.pattern_matching.specs.Walking.{Ctx, Out, ok, with_state}
 use Rattle.pattern_matching.specs.Variants.{place_ty}
@@ -82,8 +83,8 @@ tally_none c =
 -- an else that is shut is no block more
 tally_shut : {c c' : Ctx} {b : ℕ} {rs : List Reached} (els : OptBlock) → Tally c c' b rs → Tally c (shut_else c' els) b rs
 unfolding shut_else
-tally_shut OptBlock.None f = f
-tally_shut {c'} (OptBlock.Some e) f =
+tally_shut None f = f
+tally_shut {c'} (Some e) f =
     let built = built_terminator c'.state e Terminator.Unreachable in
     record {
       blocks = omega (arith, f.blocks, built.blocks);
@@ -96,12 +97,12 @@ tally_shut {c'} (OptBlock.Some e) f =
 
 module _ (image bindings : List ℕ) (ctx : Ctx) (current : BasicBlockId) (r : Out) where
   -- a pattern that is lowered: what document 01 counts of it
-  pub tally_pattern : (pat : Pat) (place : Place) → place.local.0 < length ctx.state.locals → length place.elems ≡ 16 → pattern_match image bindings pat ctx current OptBlock.None place ≡ ok r →
-      Tally ctx (shut_out r).ctx (new_blocks image pat (place_ty image ctx.state place) OptBlock.None) (reached_from image pat (place_ty image ctx.state place))
+  pub tally_pattern : (pat : Pat) (place : Place) → place.local.0 < length ctx.state.locals → length place.elems ≡ 16 → pattern_match image bindings pat ctx current None place ≡ ok r →
+      Tally ctx (shut_out r).ctx (new_blocks image pat (place_ty image ctx.state place) None) (reached_from image pat (place_ty image ctx.state place))
   unfolding Rattle.counting.specs.Counting.new_statements
   tally_pattern pat place rooted whole e =
-      let c = counted image bindings pat ctx current OptBlock.None place r rooted whole e in
-      let s = stepped image bindings pat ctx current OptBlock.None place r rooted whole e in
+      let c = counted image bindings pat ctx current None place r rooted whole e in
+      let s = stepped image bindings pat ctx current None place r rooted whole e in
       tally_shut r.else
       record {
         blocks = c.blocks;

@@ -1,4 +1,5 @@
 -- For parameters that all fit, on values that all match, the run comes to the block returned, with every parameter's bindings. Assumes nothing.
+use Rattle.std.specs.Prelude.{None}
 use Prim.Native.Nat.{ℕ, ◌+◌, ◌≤◌, ◌<◌}
 use native.Mathlib.Nat.{le_refl, lt_of_lt_of_le}
 use mathlib.Core.Path.{◌≡◌, refl, sym, ap, ◌∙◌, subst}
@@ -12,7 +13,6 @@ use Rattle.image.specs.Lists.{distinct}
 use Rattle.image.specs.Valid.{valid}
 use Rattle.image.specs.Tree.{tree}
 use Rattle.mir.specs.declared.BasicBlockId.{BasicBlockId}
-use Rattle.lower_spec.specs.declared.merging.OptBlock.{OptBlock}
 use Rattle.views.specs.Views.{Mir, mir_of}
 use Rattle.views.specs.Growing.{GoesOn}
 use Rattle.pattern_matching.specs.Walking.{Ctx, Out, ok}
@@ -97,7 +97,7 @@ module _ (image bindings : List ℕ) (M : Mir) where
 
     -- a parameter
     param_step : (q : Param) (qs : List Param) (l : ℕ) (v : Value) (vs : List Value) (ctx : Ctx) (current : BasicBlockId) (env : Env) (r : Out) → NamedParam image q →
-        Starts ctx current OptBlock.None → TypedFrom ctx.state.locals l (q ∷ qs) → SmallFrom l (q ∷ qs) → params_fit image bindings (q ∷ qs) l (v ∷ vs) ≡ true →
+        Starts ctx current None → TypedFrom ctx.state.locals l (q ∷ qs) → SmallFrom l (q ∷ qs) → params_fit image bindings (q ∷ qs) l (v ∷ vs) ≡ true →
         distinct (params_bound image (q ∷ qs)) ≡ true → HeldFrom env l (v ∷ vs) → lower_param image bindings q.pattern l ctx current ≡ ok r → GoesOn (mir_of r.ctx.state) M →
         Step l v vs ctx current env r (binds image (tree image q.pattern) (whole l) v)
     unfolding params_bound own_walked
@@ -120,7 +120,7 @@ module _ (image bindings : List ℕ) (M : Mir) where
 
     -- each parameter in order
     pub params_pass : (qs : List Param) (l : ℕ) (vs : List Value) (ctx : Ctx) (current : BasicBlockId) (env : Env) (r : Out) → params_named image qs ≡ true →
-        Starts ctx current OptBlock.None → TypedFrom ctx.state.locals l qs → SmallFrom l qs → WordsBelow bindings (length ctx.state.locals) →
+        Starts ctx current None → TypedFrom ctx.state.locals l qs → SmallFrom l qs → WordsBelow bindings (length ctx.state.locals) →
         params_fit image bindings qs l vs ≡ true → distinct (params_bound image qs) ≡ true → HeldFrom env l vs → lower_params image bindings qs l ctx current ≡ ok r →
         GoesOn (mir_of r.ctx.state) M → Passed ctx current.0 env l vs (params_bind image qs l vs) r.ctx r.then.0
     unfolding lower_params params_fit params_bind params_bound

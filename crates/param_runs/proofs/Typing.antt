@@ -1,4 +1,5 @@
 -- The parameters' locals have the parameters' types. Assumes nothing.
+use Rattle.std.specs.Prelude.{Some, None}
 use Prim.Native.Nat.{ℕ, ◌+◌, ◌-◌, ◌≤◌, ◌<◌}
 use native.Mathlib.Nat.{lt_of_lt_of_le}
 use native.Mathlib.Omega.{arith}
@@ -19,7 +20,7 @@ use Rattle.mir.specs.Locals.{local_ty, test_types}
 use Rattle.state.specs.State.{State}
 use Rattle.pattern_matching.specs.Walking.{local_place}
 use Rattle.pattern_matching.specs.Variants.{place_ty}
-use Rattle.params_spec.specs.declared.SelfParam.{SelfParam}
+use Rattle.params_spec.specs.Results.{SelfParam}
 use Rattle.params_spec.specs.Params.{Param, self_count}
 use Rattle.params_spec.specs.Calls.{params_named}
 use Rattle.meaning.proofs.Constants.{type_sized}
@@ -67,8 +68,8 @@ typed_made {st} {st₁} self params others m =
     (typed_behind (st.locals ++ self_types self) params others _ (count self))
   where
     count : (self : SelfParam) → length st.locals + self_count self ≡ length (st.locals ++ self_types self)
-    count SelfParam.None = let k = length-append st.locals [] in omega (arith, k)
-    count (SelfParam.Some b ty) = let k = length-append st.locals (ty ∷ []) in omega (arith, k)
+    count None = let k = length-append st.locals [] in omega (arith, k)
+    count (Some (b, ty)) = let k = length-append st.locals (ty ∷ []) in omega (arith, k)
 
 -- a parameter's type is one of the table
 pub record NamedParam (image : List ℕ) (q : Param) : Type 0 where

@@ -1,4 +1,5 @@
 -- What a parameter's walk does to a value that matches: where it needs nothing, and where it is lowered and its else is shut. Assumes nothing.
+use Rattle.std.specs.Prelude.{Some, None}
 use Prim.Native.Nat.{ℕ, ◌≤◌, ◌<◌}
 use native.Mathlib.Nat.{le_refl}
 use native.Mathlib.Omega.{arith}
@@ -13,7 +14,7 @@ use Rattle.mir.specs.declared.BasicBlockId.{BasicBlockId}
 use Rattle.mir.specs.declared.blocks.Terminator.{Terminator}
 use Rattle.state.specs.State.{State}
 use Rattle.state.specs.Steps.{set_terminator}
-use Rattle.lower_spec.specs.declared.merging.OptBlock.{OptBlock}
+use Rattle.lower_spec.specs.Results.{OptBlock}
 use Rattle.views.specs.Views.{Line, Mir, mir_of}
 use Rattle.views.specs.Growing.{GoesOn}
 use Rattle.pattern_matching.specs.Walking.{Ctx, Out, ok, local_place}
@@ -48,11 +49,11 @@ record Shut (ctx ctx₁ : Ctx) : Type 0 where
   statements : ctx₁.state.statements ≡ ctx.state.statements
 
 -- of a walk with no else supplied
-shut_stays : {st : State} {c : BasicBlockId} (ctx : Ctx) (then : BasicBlockId) (els : OptBlock) → Leaves st c OptBlock.None (record { ctx = ctx; then = then; else = els }) →
+shut_stays : {st : State} {c : BasicBlockId} (ctx : Ctx) (then : BasicBlockId) (els : OptBlock) → Leaves st c None (record { ctx = ctx; then = then; else = els }) →
     Shut ctx (shut_else ctx els)
 unfolding shut_else set_terminator
-shut_stays ctx then OptBlock.None q = record { goes = goes_on_refl (mir_of ctx.state); blocks = le_refl _; statements = refl }
-shut_stays ctx then (OptBlock.Some e) q =
+shut_stays ctx then None q = record { goes = goes_on_refl (mir_of ctx.state); blocks = le_refl _; statements = refl }
+shut_stays ctx then (Some e) q =
     record {
       goes = goes_on_lem (worked_terminator ctx.state e Terminator.Unreachable) q.else.1;
       blocks = omega (arith, count_terminator ctx.state e Terminator.Unreachable);
@@ -61,18 +62,18 @@ shut_stays ctx then (OptBlock.Some e) q =
 
 -- a pattern that is lowered, on a value that matches
 pub lowered_walks : (image bindings : List ℕ) (q : Param) (l : ℕ) (v : Value) (ctx : Ctx) (current : BasicBlockId) (r : Out) (M : Mir) (env : Env) → valid image ≡ true →
-    ((i : ℕ) → get_or image i 0 < 256) → NamedParam image q → Starts ctx current OptBlock.None → l < length ctx.state.locals → get_or ctx.state.locals l 0 ≡ q.ty →
+    ((i : ℕ) → get_or image i 0 < 256) → NamedParam image q → Starts ctx current None → l < length ctx.state.locals → get_or ctx.state.locals l 0 ≡ q.ty →
     fits image bindings l q.ty (tree image q.pattern) ≡ true → value_fits image v q.ty ≡ true →
-    matches image (tree image q.pattern) v ≡ true → pattern_match image bindings (tree image q.pattern) ctx current OptBlock.None (local_place (record { 0 = l })) ≡ ok r →
+    matches image (tree image q.pattern) v ≡ true → pattern_match image bindings (tree image q.pattern) ctx current None (local_place (record { 0 = l })) ≡ ok r →
     GoesOn (mir_of (shut_out r).ctx.state) M →
     Walked (scene_at image l v) bindings M ctx current.0 env (binds image (tree image q.pattern) (whole l) v) (shut_out r).ctx r.then.0 (rest (shut_out r).ctx.state M)
 unfolding local_place projection_of
 lowered_walks image bindings q l v ctx current r M env valid bytes named starts there typed fit valued m e onward =
     let pat = tree image q.pattern in
     let place = local_place (record { 0 = l }) in
-    let left = match_leaves image bindings pat ctx current OptBlock.None place r starts e in
+    let left = match_leaves image bindings pat ctx current None place r starts e in
     let stays = shut_stays r.ctx r.then r.else left in
-    let handed : Handed image bindings ctx current OptBlock.None place q.ty = record {
+    let handed : Handed image bindings ctx current None place q.ty = record {
       starts = starts;
       elements = refl;
       within = omega arith;
@@ -81,7 +82,7 @@ lowered_walks image bindings q l v ctx current r M env valid bytes named starts 
       named = named.ty;
     } in
     let fitting : Fitting image bindings ctx place q.ty pat v = record { image_valid = valid; image_bytes = bytes; pattern = fit; value = valued } in
-    let landed = lands image bindings pat ctx current OptBlock.None place q.ty v handed (tree_drawn image valid bytes q.pattern named.pattern) fitting r e M
+    let landed = lands image bindings pat ctx current None place q.ty v handed (tree_drawn image valid bytes q.pattern named.pattern) fitting r e M
     (goes_on_trans stays.goes onward) env in
     let w = led_on (subst (λ (b : Bool). Lands (scene_at image l v) bindings M ctx current.0 env (binds image pat (whole l) v) r b) m landed) in
     subst (λ (left : List Line). Walked (scene_at image l v) bindings M ctx current.0 env (binds image pat (whole l) v) (shut_out r).ctx r.then.0 left)

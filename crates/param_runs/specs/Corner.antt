@@ -9,7 +9,7 @@ use Rattle.image.specs.Valid.{valid}
 use Rattle.mir.specs.declared.BasicBlockId.{BasicBlockId}
 use Rattle.views.specs.Views.{Mir, mir_of}
 use Rattle.pattern_matching.specs.Walking.{Ctx, Walk, ok, refused}
-use Rattle.params_spec.specs.declared.SelfParam.{SelfParam}
+use Rattle.params_spec.specs.Results.{SelfParam}
 use Rattle.params_spec.specs.Params.{Param, ParamsOut, lower_params_and_bindings}
 use Rattle.params_spec.specs.Calls.{receiver_apart}
 use Rattle.meaning.specs.Values.{Value}

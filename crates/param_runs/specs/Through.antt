@@ -1,4 +1,5 @@
 -- Parameters on values: when they fit, what they bind, and a run through them. Assumes nothing: these are definitions.
+use Rattle.std.specs.Prelude.{Some, None}
 use Rattle.std.specs.Prelude.{ℕ, ◌+◌, ◌<◌, ◌≡◌, Bool, true, false, cond, ◌&&◌, List, [], ◌∷◌, ◌++◌, map, eqb, length, get_or, drop}
 use Rattle.refusals.specs.Refusals.{Result, done, stopped}
 use Rattle.image.specs.declared.kinds.BindingMode.{BindingMode}
@@ -8,11 +9,10 @@ use Rattle.image.specs.Valid.{valid}
 use Rattle.image.specs.Tree.{Pat, PatOpt, no, sub, tree}
 use Rattle.mir.specs.declared.BasicBlockId.{BasicBlockId}
 use Rattle.state.specs.State.{counts_of}
-use Rattle.lower_spec.specs.declared.merging.OptBlock.{OptBlock}
 use Rattle.views.specs.Views.{Path, Line, Mir}
 use Rattle.pattern_matching.specs.Walking.{Ctx}
 use Rattle.handed.specs.Handed.{bindings_hold}
-use Rattle.params_spec.specs.declared.SelfParam.{SelfParam}
+use Rattle.params_spec.specs.Results.{SelfParam}
 use Rattle.params_spec.specs.Params.{Param, Declared, ParamsOut, declare}
 use Rattle.params_spec.specs.Calls.{params_named, self_named}
 use Rattle.cases_spec.specs.Cases.{if_bind}
@@ -59,9 +59,9 @@ module _ (image : List ℕ) where
 
   -- with self's value before the others, if there is one
   unfoldable pub all_fit : List ℕ → SelfParam → List Param → ℕ → List Value → Bool
-  all_fit bindings SelfParam.None params l vs = params_fit bindings params l vs
-  all_fit bindings (SelfParam.Some b ty) params l [] = false
-  all_fit bindings (SelfParam.Some b ty) params l (v ∷ vs) = params_fit bindings params (l + 1) vs
+  all_fit bindings None params l vs = params_fit bindings params l vs
+  all_fit bindings (Some (b, ty)) params l [] = false
+  all_fit bindings (Some (b, ty)) params l (v ∷ vs) = params_fit bindings params (l + 1) vs
 
   -- what the parameters bind, by the Reference, each of its own value
   unfoldable pub params_bind : List Param → ℕ → List Value → List Bound
@@ -71,9 +71,9 @@ module _ (image : List ℕ) where
 
   -- self binds its value
   unfoldable pub bound_by : SelfParam → List Param → ℕ → List Value → List Bound
-  bound_by SelfParam.None params l vs = params_bind params l vs
-  bound_by (SelfParam.Some b ty) params l [] = []
-  bound_by (SelfParam.Some b ty) params l (v ∷ vs) = record { binding = b.0; what = value v } ∷ params_bind params (l + 1) vs
+  bound_by None params l vs = params_bind params l vs
+  bound_by (Some (b, ty)) params l [] = []
+  bound_by (Some (b, ty)) params l (v ∷ vs) = record { binding = b.0; what = value v } ∷ params_bind params (l + 1) vs
 
   -- the bindings of the parameters, by their numbers
   unfoldable pub params_bound : List Param → List ℕ
@@ -82,8 +82,8 @@ module _ (image : List ℕ) where
 
   -- self's
   abbrev pub self_bound : SelfParam → List ℕ
-  self_bound SelfParam.None = []
-  self_bound (SelfParam.Some b ty) = b.0 ∷ []
+  self_bound None = []
+  self_bound (Some (b, ty)) = b.0 ∷ []
 
   -- no binding stands in two parameters
   abbrev pub bindings_differ : SelfParam → List Param → Bool
@@ -115,7 +115,7 @@ pub record Handed (image : List ℕ) (self : SelfParam) (params : List Param) (b
   pub params_named_lem : params_named image params ≡ true
   pub self_named_lem : self_named image self ≡ true
   pub bindings_hold_lem : bindings_hold (binding_count image) (counts_of ctx.state) bindings ≡ true
-  pub starts : Starts ctx current OptBlock.None
+  pub starts : Starts ctx current None
 
 -- The run through the values in the body M, from the block current behind the lines that there were, comes to the end of the block returned and enters no block
 -- twice. Then every local that there was before the first parameter was lowered holds what all parameters bind, or what it held.

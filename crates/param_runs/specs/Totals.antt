@@ -1,10 +1,10 @@
 -- How many blocks and statements a list of parameters makes: document 01's counts, over those parameters that are lowered. Assumes nothing: these are definitions.
+use Rattle.std.specs.Prelude.{None}
 use Rattle.std.specs.Prelude.{ℕ, ◌+◌, ◌<◌, ◌≡◌, cond, List, [], ◌∷◌, ◌++◌, length, get_or}
 use Rattle.image.specs.Tree.{tree}
 use Rattle.place.specs.declared.place_ty.PlaceTy.{PlaceTy}
-use Rattle.lower_spec.specs.declared.merging.OptBlock.{OptBlock}
 use Rattle.pattern_matching.specs.Walking.{Ctx}
-use Rattle.params_spec.specs.declared.SelfParam.{SelfParam}
+use Rattle.params_spec.specs.Results.{SelfParam}
 use Rattle.params_spec.specs.Params.{Param, ParamsOut, self_count}
 use Rattle.counting.specs.Reaching.{Reached}
 use Rattle.counting.specs.Counting.{total, reached_from, visits_of, new_blocks, statements_of}
@@ -21,7 +21,7 @@ module _ (image bindings : List ℕ) where
   unfoldable pub params_blocks : List Param → ℕ → ℕ
   params_blocks [] l = 0
   params_blocks (q ∷ qs) l =
-      cond (own_local bindings (tree image q.pattern) l) 0 (new_blocks image (tree image q.pattern) (PlaceTy.Ty q.ty) OptBlock.None) + params_blocks qs (l + 1)
+      cond (own_local bindings (tree image q.pattern) l) 0 (new_blocks image (tree image q.pattern) (PlaceTy.Ty q.ty) None) + params_blocks qs (l + 1)
 
   -- the total of their new statements
   unfoldable pub params_statements : List Param → ℕ → ℕ

@@ -1,4 +1,5 @@
 -- An else that cannot be reached: a walk, and then its else is shut. Assumes nothing.
+use Rattle.std.specs.Prelude.{Some, None, Ok, Err}
 use Prim.Native.Nat.{ℕ, ◌<◌}
 use mathlib.Core.Path.{◌≡◌, refl, ap}
 use mathlib.Core.Logic.{inl, inr}
@@ -15,9 +16,9 @@ use Rattle.state.specs.State.{Body, State, decode}
 use Rattle.state.specs.Steps.{set_terminator}
 use Rattle.state.specs.Promises.{Ready, Own, Answers}
 use Rattle.state.proofs.Answering.{kept_trans}
-use Rattle.lower_spec.specs.declared.merging.OptBlock.{OptBlock}
+use Rattle.lower_spec.specs.Results.{OptBlock}
 use Rattle.pattern_matching.specs.Walking.{Ctx, Out, Walk, out}
-use Rattle.pattern_walk_spec.specs.declared.Lowered.{Lowered}
+use Rattle.pattern_walk_spec.specs.Results.{Lowered}
 use Rattle.pattern_walk_spec.specs.Answers.{ctx_of, walk_of, OwnElse, Walks}
 use Rattle.pattern_walk_spec.proofs.Following.{goes_on_lem, next_then}
 use Rattle.pattern_walk_spec.proofs.Sequences.{lowers_skips, lowers_walks, walks_stops, walks_then}
@@ -27,39 +28,39 @@ use Rattle.body_tables.proofs.Building.{terminator_set}
 
 -- what follows the walk
 abbrev shutting : Out → Walk Out
-shutting r = out (shut_else r.ctx r.else) r.then OptBlock.None
+shutting r = out (shut_else r.ctx r.else) r.then None
 
 -- with no else a new one is a new block
-new_else : (c : Counts) (current : ℕ) (b : BasicBlockId) → OwnElse c OptBlock.None (OptBlock.Some b) → Own c current b.0
+new_else : (c : Counts) (current : ℕ) (b : BasicBlockId) → OwnElse c None (Some b) → Own c current b.0
 new_else c current b (inl e) = absurd (let z : ◌≡◌ {A = ℕ} 0 1 = cc in omega arith)
 new_else c current b (inr new) = inr new
 
 -- the else m of an answer is shut: t is the body before, and t₁ after
-module _ (c : Counts) (then m : BasicBlockId) (t : Body) {t₁ : Body} (after : t₁ ≡ shut_by (OptBlock.Some m) t) (there : m.0 < c.blocks) where
+module _ (c : Counts) (then m : BasicBlockId) (t : Body) {t₁ : Body} (after : t₁ ≡ shut_by (Some m) t) (there : m.0 < c.blocks) where
   else_shut : (visits : List ℕ) → Ready t c →
-      Answers t c m.0 t₁ (some c) (walk_of (Lowered.Done c then OptBlock.None) t₁ visits) (shutting (record { ctx = ctx_of t c visits; then = then; else = OptBlock.Some m }))
+      Answers t c m.0 t₁ (some c) (walk_of (Ok (c, then, None)) t₁ visits) (shutting (record { ctx = ctx_of t c visits; then = then; else = Some m }))
   unfolding shut_else
   else_shut visits R =
       let E = terminator_set t c m Terminator.Unreachable after there R in
       let same : decode t₁ c ≡ set_terminator (decode t c) m Terminator.Unreachable = cc E.says in
-      record { says = ap (λ (st : State). out (record { state = st; visits = visits }) then OptBlock.None) same; goes = E.goes; kept = E.kept }
+      record { says = ap (λ (st : State). out (record { state = st; visits = visits }) then None) same; goes = E.goes; kept = E.kept }
 
 module _ {defined : Ctx → Walk Out} {c : Counts} {current : BasicBlockId} {t₀ : Body} {v₀ v : List ℕ} (P : Ready t₀ c) where
   -- the walk is refused
-  shut_refused : {e : MirLowerError} {p : PatId} {t : Body} → Walks defined c current OptBlock.None t₀ v₀ (Lowered.Refused e p) t v →
-      Walks (λ ctx. shut (defined ctx)) c current OptBlock.None t₀ v₀ (Lowered.Refused e p) t v
+  shut_refused : {e : MirLowerError} {p : PatId} {t : Body} → Walks defined c current None t₀ v₀ (Err (e, p)) t v →
+      Walks (λ ctx. shut (defined ctx)) c current None t₀ v₀ (Err (e, p)) t v
   unfolding shut
   shut_refused W = walks_stops shutting W
 
   -- it has no else
-  shut_none : {c₁ : Counts} {then : BasicBlockId} {t : Body} → Walks defined c current OptBlock.None t₀ v₀ (Lowered.Done c₁ then OptBlock.None) t v →
-      Walks (λ ctx. shut (defined ctx)) c current OptBlock.None t₀ v₀ (Lowered.Done c₁ then OptBlock.None) t v
+  shut_none : {c₁ : Counts} {then : BasicBlockId} {t : Body} → Walks defined c current None t₀ v₀ (Ok (c₁, then, None)) t v →
+      Walks (λ ctx. shut (defined ctx)) c current None t₀ v₀ (Ok (c₁, then, None)) t v
   unfolding shut shut_else
   shut_none W = walks_then W P shutting (lowers_walks v (lowers_skips (λ ctx. refl) W.onward.begins))
 
   -- it has one
-  shut_some : {c₁ : Counts} {then m : BasicBlockId} {t t₁ : Body} → Walks defined c current OptBlock.None t₀ v₀ (Lowered.Done c₁ then (OptBlock.Some m)) t v →
-      t₁ ≡ shut_by (OptBlock.Some m) t → Walks (λ ctx. shut (defined ctx)) c current OptBlock.None t₀ v₀ (Lowered.Done c₁ then OptBlock.None) t₁ v
+  shut_some : {c₁ : Counts} {then m : BasicBlockId} {t t₁ : Body} → Walks defined c current None t₀ v₀ (Ok (c₁, then, Some m)) t v →
+      t₁ ≡ shut_by (Some m) t → Walks (λ ctx. shut (defined ctx)) c current None t₀ v₀ (Ok (c₁, then, None)) t₁ v
   unfolding shut
   shut_some {c₁ = c₁} {then = then} {m = m} {t = t} {t₁ = t₁} W after =
       let there = W.onward.begins.else in
@@ -80,14 +81,14 @@ module _ {defined : Ctx → Walk Out} {c : Counts} {current : BasicBlockId} {t�
       }
 
   -- any answer x: r is the one that is handed on, and t₁ is the body then
-  pub shut_walks : (x : Lowered) {r : Lowered} {t t₁ : Body} → Walks defined c current OptBlock.None t₀ v₀ x t v → r ≡ shut_answer x → t₁ ≡ shut_body x t →
-      Walks (λ ctx. shut (defined ctx)) c current OptBlock.None t₀ v₀ r t₁ v
-  shut_walks (Lowered.Refused err p) W is after = rw (is, after) (shut_refused W)
-  shut_walks (Lowered.Done c₁ then OptBlock.None) W is after = rw (is, after) (shut_none W)
-  shut_walks (Lowered.Done c₁ then (OptBlock.Some m)) W is after = rw is (shut_some W after)
+  pub shut_walks : (x : Lowered) {r : Lowered} {t t₁ : Body} → Walks defined c current None t₀ v₀ x t v → r ≡ shut_answer x → t₁ ≡ shut_body x t →
+      Walks (λ ctx. shut (defined ctx)) c current None t₀ v₀ r t₁ v
+  shut_walks (Err (err, p)) W is after = rw (is, after) (shut_refused W)
+  shut_walks (Ok (c₁, then, None)) W is after = rw (is, after) (shut_none W)
+  shut_walks (Ok (c₁, then, Some m)) W is after = rw is (shut_some W after)
 
   -- the else of an answer has a row
   pub shuttable_of : (x : Lowered) {els : OptBlock} {t : Body} → Walks defined c current els t₀ v₀ x t v → Shuttable x
-  shuttable_of (Lowered.Refused err p) W = tt
-  shuttable_of (Lowered.Done c₁ then OptBlock.None) W = tt
-  shuttable_of (Lowered.Done c₁ then (OptBlock.Some b)) W = le_trans W.onward.begins.else (W.leaves P).0.0.block_count_lem
+  shuttable_of (Err (err, p)) W = tt
+  shuttable_of (Ok (c₁, then, None)) W = tt
+  shuttable_of (Ok (c₁, then, Some b)) W = le_trans W.onward.begins.else (W.leaves P).0.0.block_count_lem

@@ -7,7 +7,6 @@ ghost use Rattle.body_tables.specs.Layout.{body_of};
 
 use body_tables::BODY_WORDS;
 use body_tables::blocks::set_terminator;
-use lower_spec::merging::OptBlock;
 use mir::blocks::Terminator;
 use pattern_walk_spec::Lowered;
 
@@ -16,14 +15,12 @@ pub fn shut(body: &mut [u16; BODY_WORDS], lowered: Lowered) -> Lowered
     requires { Shuttable lowered }
     ensures { (result ≡ shut_answer lowered) × (body_of body.new ≡ shut_body lowered (body_of body.old)) }
 {
-    match lowered {
-        Lowered::Refused(e, p) => Lowered::Refused(e, p),
-        Lowered::Done(c, then, other) => match other {
-            OptBlock::None => Lowered::Done(c, then, OptBlock::None),
-            OptBlock::Some(b) => {
-                set_terminator(body, b, Terminator::Unreachable);
-                Lowered::Done(c, then, OptBlock::None)
-            }
-        },
+    let (c, then, other) = lowered?;
+    match other {
+        None => Ok((c, then, None)),
+        Some(b) => {
+            set_terminator(body, b, Terminator::Unreachable);
+            Ok((c, then, None))
+        }
     }
 }

@@ -1,19 +1,19 @@
 // The numbers of the parameters' locals.
 ghost use Rattle.std.specs.Prelude.{◌≡◌, ◌+◌, ◌<◌};
-ghost use Rattle.params_spec.specs.declared.ParamsCall.{ParamsCall};
 ghost use Rattle.params_spec.specs.Params.{self_count};
 
+use body_calls_spec::PatternCallError;
+use image::BindingId;
 use mir::{BasicBlockId, Counts};
-use params_spec::{ParamsCall, SelfParam};
 use place::LocalId;
 
 // How many locals self has.
-pub fn self_count(receiver: SelfParam) -> u16
+pub fn self_count(receiver: Option<(BindingId, u16)>) -> u16
     ensures { result ≡ self_count receiver }
 {
     match receiver {
-        SelfParam::None => 0,
-        SelfParam::Some(b, ty) => 1,
+        None => 0,
+        Some((b, ty)) => 1,
     }
 }
 
@@ -26,8 +26,12 @@ pub fn next_local(l: LocalId) -> LocalId
 }
 
 // The answer of a call whose parameters are lowered: the first parameter's local, self's or not, is the next one when the call comes, the counts being `before` then.
-pub fn lowered_answer(before: Counts, counts: Counts, then: BasicBlockId) -> ParamsCall
-    ensures { result ≡ ParamsCall.Lowered counts then (record { 0 = before.locals }) }
+pub fn lowered_answer(
+    before: Counts,
+    counts: Counts,
+    then: BasicBlockId,
+) -> Result<(Counts, BasicBlockId, LocalId), PatternCallError>
+    ensures { result ≡ Ok (counts, then, record { 0 = before.locals }) }
 {
-    ParamsCall::Lowered(counts, then, LocalId(before.locals))
+    Ok((counts, then, LocalId(before.locals)))
 }

@@ -10,19 +10,19 @@ ghost use Rattle.params_spec.specs.Calls.{params_of, GivesParams, ParamsGives};
 ghost use Rattle.param_locals.specs.Looking.{ParamsTaken};
 ghost use Rattle.body_tables.specs.Layout.{body_of};
 
-use body_calls_spec::Opened;
+use body_calls_spec::PatternCallError;
 use body_clearing::clear_above;
 use body_restoring::{block_row, put_back};
 use body_tables::BODY_WORDS;
-use image::Tables;
+use image::{BindingId, Tables};
 use lowering::walk_params;
 use mir::{BasicBlockId, Counts};
 use param_locals::lists::open_params;
 use param_steps::numbering::lowered_answer;
 use param_steps::saving::{put_words, saved_words};
-use params_spec::{ParamsCall, SelfParam};
 use pattern_entering::VISIT_WORDS;
 use pattern_walk_spec::Lowered;
+use place::LocalId;
 use row_tables::clear_from;
 
 // The call's own step, on values that were looked at: zeros are written above the counts first, so that a new row lies among zeros.
@@ -34,9 +34,9 @@ fn params_step(
     visits: &mut [u16; VISIT_WORDS],
     counts: Counts,
     words: &[u16],
-    receiver: SelfParam,
+    receiver: Option<(BindingId, u16)>,
     current: BasicBlockId,
-) -> ParamsCall
+) -> Result<(Counts, BasicBlockId, LocalId), PatternCallError>
     requires { ParamsTaken image.now tables words.now receiver bindings.old (body_of body.old) counts current }
     ensures { GivesParams bindings.old (body_of body.old) visits.old counts (by_walk (lower_params_and_bindings image.now receiver (params_of words.now) bindings.old (start_ctx (body_of body.old) counts) current)) result bindings.new (body_of body.new) visits.new }
 {
@@ -47,13 +47,13 @@ fn params_step(
     match walk_params(
         image, tables, bindings, body, visits, counts, words, receiver, current,
     ) {
-        Lowered::Done(c, then, other) => lowered_answer(counts, c, then),
-        Lowered::Refused(e, q) => {
+        Ok((c, then, other)) => lowered_answer(counts, c, then),
+        Err((e, q)) => {
             put_back(body, current, row);
             clear_above(body, counts);
             clear_from(visits, 0);
             put_words(bindings, &saved);
-            ParamsCall::Refused(e, q)
+            Err(PatternCallError::Refused(e, q))
         }
     }
 }
@@ -67,17 +67,14 @@ pub fn lower_params_and_bindings(
     visits: &mut [u16; VISIT_WORDS],
     counts: Counts,
     params: &[u16],
-    self_param: SelfParam,
+    self_param: Option<(BindingId, u16)>,
     current: BasicBlockId,
-) -> ParamsCall
+) -> Result<(Counts, BasicBlockId, LocalId), PatternCallError>
     ensures { ParamsGives image.now params.now self_param counts current bindings.old (body_of body.old) visits.old result
         bindings.new (body_of body.new) visits.new }
 {
-    match open_params(image, params, self_param, bindings, body, counts, current) {
-        Opened::BadImage => ParamsCall::BadImage,
-        Opened::BadCall => ParamsCall::BadCall,
-        Opened::Image(tables) => params_step(
-            image, tables, bindings, body, visits, counts, params, self_param, current,
-        ),
-    }
+    let tables = open_params(image, params, self_param, bindings, body, counts, current)?;
+    params_step(
+        image, tables, bindings, body, visits, counts, params, self_param, current,
+    )
 }

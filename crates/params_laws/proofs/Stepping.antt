@@ -1,4 +1,5 @@
 -- The call's own step: what it asks for, and what it gives, by what the walk promises. Assumes nothing.
+use Rattle.std.specs.Prelude.{Ok, Err}
 use Prim.Native.Nat.{ℕ, ◌*◌, ◌≤◌, ◌<◌}
 use mathlib.Core.Path.{◌≡◌, refl, sym, ap, subst, ◌∙◌}
 use mathlib.Core.Bool.{Bool, true, ◌&&◌}
@@ -21,26 +22,26 @@ use Rattle.mir.specs.declared.Counts.{Counts}
 use Rattle.mir.specs.Blocks.{is_open, block_width, block_words}
 use Rattle.state.specs.State.{Body, State, decode, encode}
 use Rattle.body_row_rules.specs.Bodies.{is_block, counts_within}
-use Rattle.lower_spec.specs.declared.merging.OptBlock.{OptBlock}
+use Rattle.lower_spec.specs.Results.{OptBlock}
 use Rattle.calls_spec.specs.Calls.{Called}
 use Rattle.body_calls_spec.specs.Sizes.{Sized}
 use Rattle.body_calls_spec.proofs.Clearing.{Cleared, clears, counted}
 use Rattle.body_calls_spec.proofs.Prologue.{taken_sized}
 use Rattle.body_calls_spec.proofs.Replying.{accepts, refuses}
 use Rattle.body_calls_spec.proofs.Restoring.{put_back}
-use Rattle.pattern_walk_spec.specs.declared.Lowered.{Lowered}
 use Rattle.pattern_walk_spec.specs.Calls.{by_walk, start_ctx}
 use Rattle.handed.specs.Handed.{start_holds, binding_local_holds, bindings_hold}
 use Rattle.pattern_calls_spec.proofs.Starting.{no_visits, visits_cleared, row_found}
 use Rattle.body_tables.specs.Layout.{with_blocks}
 use Rattle.body_opening.proofs.Replying.{few_counts}
-use Rattle.params_spec.specs.declared.SelfParam.{SelfParam}
-use Rattle.params_spec.specs.declared.ParamsCall.{ParamsCall}
+use Rattle.params_spec.specs.Results.{SelfParam}
+use Rattle.params_spec.specs.Results.{ParamsCall}
 use Rattle.params_spec.specs.Params.{ParamsOut, lower_params_and_bindings}
 use Rattle.params_spec.specs.Calls.{params_of, params_refusal, self_named, params_hold, GivesParams}
 use Rattle.param_locals.specs.Looking.{ParamsTaken}
 use Rattle.param_lists.proofs.Listing.{taken_formed}
 use Rattle.params_laws.specs.Walking.{Startable, WalksParams}
+use Rattle.body_calls_spec.specs.declared.PatternCallError.{PatternCallError}
 
 -- the same by another name
 pub params_by : {m m' v v' : List ℕ} {b b' : Body} {c : Counts} {given defined : Called ParamsOut} {r : ParamsCall} → given ≡ defined →
@@ -128,8 +129,8 @@ module _ {image : List ℕ} {tables : Tables} {words : List ℕ} {self : SelfPar
       no_visit = visits_cleared visits sized blank
 
       -- the walk is accepted
-      pub lowered : {c' : Counts} {then : BasicBlockId} {els : OptBlock} {t : Body} {v' m : List ℕ} {r : ParamsCall} → r ≡ ParamsCall.Lowered c' then (record { 0 = c.locals }) →
-          WalksParams (λ ctx. lower_params_and_bindings image self (params_of words) bindings ctx current) c current b₁ v₁ (Lowered.Done c' then els) t v' m →
+      pub lowered : {c' : Counts} {then : BasicBlockId} {els : OptBlock} {t : Body} {v' m : List ℕ} {r : ParamsCall} → r ≡ Ok (c', then, record { 0 = c.locals }) →
+          WalksParams (λ ctx. lower_params_and_bindings image self (params_of words) bindings ctx current) c current b₁ v₁ (Ok (c', then, els)) t v' m →
           GivesParams bindings b visits c (by_walk (lower_params_and_bindings image self (params_of words) bindings (start_ctx b c) current)) r m t v'
       lowered {c' = c'} {then = then} {t = t} is-answer W =
           let A = W.answers (zeros 512) step_cleared.ready (no_visit ∙ no_visits) in
@@ -139,7 +140,7 @@ module _ {image : List ℕ} {tables : Tables} {words : List ℕ} {self : SelfPar
           (record {
             visits = record {
               gives = accepts c' _ refl refl ready
-                  (is-answer ∙ ap (λ (n : Counts). ParamsCall.Lowered n then (record { 0 = c.locals })) (sym (counted t c' ready)))
+                  (is-answer ∙ ap (λ (n : Counts). Ok (n, then, record { 0 = c.locals })) (sym (counted t c' ready)))
                   (ap params_refusal is-answer);
               visits = A.holds;
             };
@@ -149,10 +150,10 @@ module _ {image : List ℕ} {tables : Tables} {words : List ℕ} {self : SelfPar
       -- it is refused: t is the body behind the walk, t₂ after the row of the block where it started was put back, and b₃ after zeros were written again; the bindings' locals
       -- are put back
       pub not_lowered : {err : MirLowerError} {q : PatId} {t t₂ b₃ : Body} {v' m v₃ m₃ row : List ℕ} (saved : List ℕ) →
-          WalksParams (λ ctx. lower_params_and_bindings image self (params_of words) bindings ctx current) c current b₁ v₁ (Lowered.Refused err q) t v' m →
+          WalksParams (λ ctx. lower_params_and_bindings image self (params_of words) bindings ctx current) c current b₁ v₁ (Err (err, q)) t v' m →
           length t.blocks ≡ block_words → length v' ≡ 512 → length m ≡ length bindings → row ≡ row_at block_width b.blocks current.0 → take (length bindings) saved ≡ bindings →
           t₂ ≡ with_blocks t (stored t.blocks (block_width * current.0) row) → b₃ ≡ encode (decode t₂ c) → v₃ ≡ cleared v' 0 → m₃ ≡ take (length m) saved →
-          GivesParams bindings b visits c (by_walk (lower_params_and_bindings image self (params_of words) bindings (start_ctx b c) current)) (ParamsCall.Refused err q) m₃ b₃ v₃
+          GivesParams bindings b visits c (by_walk (lower_params_and_bindings image self (params_of words) bindings (start_ctx b c) current)) (Err (PatternCallError.Refused err q)) m₃ b₃ v₃
       not_lowered {err = err} {q = q} {t = t} {v' = v'} saved W long seen many is_row kept back again blank₃ put =
           let C = step_cleared in
           let R = C.ready in

@@ -1,4 +1,5 @@
 -- The locals that are made: each parameter's has the parameter's type. Assumes nothing.
+use Rattle.std.specs.Prelude.{Some, None, Ok}
 use Prim.Native.Nat.{ℕ, zero, suc, ◌+◌, ◌<◌}
 use mathlib.Core.Path.{◌≡◌, refl, sym, ap, ◌∙◌}
 use mathlib.Core.Bool.{Bool, true, false, cond, ◌&&◌}
@@ -18,7 +19,6 @@ use Rattle.place.specs.PlaceTypes.{Named}
 use Rattle.mir.specs.declared.Counts.{Counts}
 use Rattle.mir.specs.Locals.{local_ty, local_limit}
 use Rattle.mir.specs.Scopes.{entry_limit}
-use Rattle.state.specs.declared.Stepped.{Stepped}
 use Rattle.state.specs.State.{Body, State, decode}
 use Rattle.state.specs.Steps.{next_local, new_local, push_entry, try_local, try_entry}
 use Rattle.state.specs.Promises.{Ready}
@@ -26,7 +26,7 @@ use Rattle.state.proofs.Answering.{local_count}
 use Rattle.body_row_rules.specs.Bodies.{is_type_word}
 use Rattle.pattern_matching.specs.Walking.{local_place}
 use Rattle.pattern_calls_spec.proofs.Starting.{word_named}
-use Rattle.params_spec.specs.declared.SelfParam.{SelfParam}
+use Rattle.params_spec.specs.Results.{SelfParam}
 use Rattle.params_spec.specs.Params.{Param, Declared, param_local, plain_binding, bound_to, declare_self, declare_param, declare_params, declare_binding, declare_bindings, declare, self_count}
 use Rattle.params_spec.specs.Calls.{params_from, param_count, params_of, params_named, list_formed}
 use Rattle.param_locals.specs.Declaring.{declared_of, Declares}
@@ -69,16 +69,16 @@ local_behind st ty {st₁ = st₁} e =
 
 -- the types of self's locals
 abbrev self_types : SelfParam → List ℕ
-self_types SelfParam.None = []
-self_types (SelfParam.Some b ty) = ty ∷ []
+self_types None = []
+self_types (Some (b, ty)) = ty ∷ []
 
 -- the locals after self's, the parameters' and the others' are made
 self_behind : (self : SelfParam) (d : Declared) {d₁ : Declared} → done d₁ ≡ declare_self self d → d₁.state.locals ≡ d.state.locals ++ self_types self
 unfolding declare_self
-self_behind SelfParam.None d {d₁ = d₁} e =
+self_behind None d {d₁ = d₁} e =
     let same : d₁ ≡ d = cc in
     ap (λ (x : Declared). x.state.locals) same ∙ sym (append-nil d.state.locals)
-self_behind (SelfParam.Some b ty) d {d₁ = d₁} e =
+self_behind (Some (b, ty)) d {d₁ = d₁} e =
     let T = through (param_local d.state ty) (λ st. done (record { state = st; bindings = set d.bindings b.0 (length d.state.locals) })) e in
     let same : d₁ ≡ record { state = T.middle; bindings = set d.bindings b.0 (length d.state.locals) } = cc T.goes in
     ap (λ (x : Declared). x.state.locals) same ∙ local_behind d.state ty T.comes
@@ -154,8 +154,8 @@ declare_behind image self qs d e =
 -- self has so many
 self_length : (self : SelfParam) → length (self_types self) ≡ self_count self
 unfolding self_count
-self_length SelfParam.None = refl
-self_length (SelfParam.Some b ty) = refl
+self_length None = refl
+self_length (Some (b, ty)) = refl
 
 -- a list has so many parameters
 params_length : (words : List ℕ) (k n : ℕ) → length (params_from words k n) ≡ n
@@ -198,7 +198,7 @@ type_named image word h = word_named image word (rw (lt-ltb word (type_count ima
 
 -- after all locals were made, each parameter's is there, with its type
 pub declared_placed : (image words : List ℕ) (self : SelfParam) {c c₁ : Counts} {m₀ m₁ : List ℕ} {b₀ b₁ : Body} → list_formed image words ≡ true → Ready b₀ c →
-    Declares (declare image self (params_of words)) c m₀ b₀ (Stepped.Now c₁) m₁ b₁ → LocalsPlaced image b₁ c₁ (c.locals + self_count self) (param_count words)
+    Declares (declare image self (params_of words)) c m₀ b₀ (Ok c₁) m₁ b₁ → LocalsPlaced image b₁ c₁ (c.locals + self_count self) (param_count words)
 unfolding local_place decode
 declared_placed image words self {c = c} {c₁ = c₁} {m₀ = m₀} {b₀ = b₀} {b₁ = b₁} list R D i h =
     let A = D.answers 0 R in

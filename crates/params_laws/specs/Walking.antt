@@ -1,4 +1,5 @@
 -- What the functions that lower parameters ask for and promise. Assumes nothing: these are definitions.
+use Rattle.std.specs.Prelude.{Ok, Err}
 use Rattle.std.specs.Prelude.{ℕ, ◌+◌, ◌<◌, ◌≡◌, true, List, length}
 use Rattle.image.specs.declared.Tables.{Tables}
 use Rattle.image.specs.Tables.{Whole, binding_count}
@@ -8,9 +9,9 @@ use Rattle.mir.specs.declared.Counts.{Counts}
 use Rattle.state.specs.State.{Body}
 use Rattle.state.specs.Promises.{Ready, Answers}
 use Rattle.pattern_matching.specs.Walking.{Ctx, Walk, ok, refused, local_place}
-use Rattle.pattern_walk_spec.specs.declared.Lowered.{Lowered}
+use Rattle.pattern_walk_spec.specs.Results.{Lowered}
 use Rattle.pattern_walk_spec.specs.Answers.{Placed, ctx_of, lowered_counts, Holds}
-use Rattle.params_spec.specs.declared.SelfParam.{SelfParam}
+use Rattle.params_spec.specs.Results.{SelfParam}
 use Rattle.params_spec.specs.Params.{ParamsOut}
 use Rattle.params_spec.specs.Calls.{param_count, list_formed, self_named}
 
@@ -41,8 +42,8 @@ pub record ParamsWalkable (image : List ℕ) (tables : Tables) (words bindings :
 
 -- an answer, with the tables and the bindings' locals at exit, as the definitions have it
 abbrev pub params_walk : Lowered → Body → List ℕ → List ℕ → Walk ParamsOut
-params_walk (Lowered.Done c then els) b visits bindings = ok (record { ctx = ctx_of b c visits; then = then; bindings = bindings })
-params_walk (Lowered.Refused e p) b visits bindings = refused e p.0
+params_walk (Ok (c, then, els)) b visits bindings = ok (record { ctx = ctx_of b c visits; then = then; bindings = bindings })
+params_walk (Err (e, p)) b visits bindings = refused e p.0
 
 -- an answer that began with some counts of visits; the visits' table is v after, and the bindings' locals are m
 pub record ParamsWalked (defined : Ctx → Walk ParamsOut) (c : Counts) (current : BasicBlockId) (b : Body) (visits : List ℕ) (r : Lowered) (b' : Body) (v m : List ℕ) : Type 0 where

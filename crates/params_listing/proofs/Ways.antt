@@ -1,4 +1,5 @@
 -- The ways through the call's text. Assumes nothing.
+use Rattle.std.specs.Prelude.{None}
 use Prim.Native.Nat.{ℕ, ◌-◌, ◌≤◌, ◌<◌}
 use mathlib.Core.Path.{◌≡◌, sym, ap, ◌∙◌}
 use mathlib.Core.Bool.{true}
@@ -10,12 +11,12 @@ use Rattle.refusals.specs.Refusals.{breaks_a_rule, names_nothing}
 use Rattle.image.specs.Valid.{valid}
 use Rattle.mir.specs.declared.Counts.{Counts}
 use Rattle.state.specs.State.{Body}
-use Rattle.read_image.specs.declared.Read.{Read}
+use Rattle.read_image.specs.Results.{Read}
 use Rattle.read_image.specs.Read.{Reads}
 use Rattle.calls_spec.specs.Calls.{call}
 use Rattle.body_calls_spec.proofs.Prologue.{read_refused}
 use Rattle.listing_text.specs.Listing.{refusal_text}
-use Rattle.params_spec.specs.declared.SelfParam.{SelfParam}
+use Rattle.params_spec.specs.Results.{SelfParam}
 use Rattle.params_spec.specs.Calls.{params_call}
 use Rattle.params_text.specs.Texts.{call_text}
 use Rattle.params_start.specs.declared.CallWords.{CallWords}
@@ -31,7 +32,7 @@ text_is S self list is = λ i. call_text (no_locals S i) (is i) (same_call S sel
 
 -- the ways through `put_params`
 module _ (image words : List ℕ) where
-  pub prints_refused : {r : Read} → Reads image r → r ≡ Read.Refused → refusal_text breaks_a_rule ≡ params_text image words
+  pub prints_refused : {r : Read} → Reads image r → r ≡ None → refusal_text breaks_a_rule ≡ params_text image words
   unfolding params_text start_text start_call params_call call call_text
   prints_refused R is = rw (read_refused image (sym is ∙ R.answer))
 

@@ -3,7 +3,7 @@ use Rattle.std.specs.Prelude.{ℕ, cond, ◌&&◌, List, ltb, length, drop}
 use Rattle.refusals.specs.Refusals.{names_nothing}
 use Rattle.image.specs.Valid.{valid}
 use Rattle.listing_text.specs.Listing.{refusal_text}
-use Rattle.params_spec.specs.declared.SelfParam.{SelfParam}
+use Rattle.params_spec.specs.Results.{SelfParam}
 use Rattle.params_text.specs.Texts.{call_text}
 use Rattle.params_start.specs.Started.{call_words, many_of, start_call}
 

@@ -11,23 +11,22 @@ ghost use Rattle.params_listing.specs.Listed.{start_text, params_text};
 ghost use Rattle.body_tables.specs.Layout.{body_of};
 
 use body_tables::BODY_WORDS;
-use image::{PatId, Tables};
+use image::{BindingId, PatId, Tables};
 use listing_text::pen::Pen;
 use listing_text::put_refusal;
 use mir::{BasicBlockId, Counts};
 use params_call::lower_params_and_bindings;
-use params_spec::SelfParam;
 use params_start::{call_words, many_of, start_params, unbind};
 use params_text::put_params_answer;
 use pattern_entering::VISIT_WORDS;
-use read_image::{Read, read_image};
+use read_image::read_image;
 use row_tables::clear_from;
 
 // Self and the list are lowered from the start, and the text of the answer is written.
 fn put_called(
     image: &[u8],
     opened: u16,
-    receiver: SelfParam,
+    receiver: Option<(BindingId, u16)>,
     list: &[u16],
     bindings: &mut [u16],
     body: &mut [u16; BODY_WORDS],
@@ -58,7 +57,7 @@ fn put_lowered(
     image: &[u8],
     tables: Tables,
     opened: u16,
-    receiver: SelfParam,
+    receiver: Option<(BindingId, u16)>,
     list: &[u16],
     body: &mut [u16; BODY_WORDS],
     visits: &mut [u16; VISIT_WORDS],
@@ -98,7 +97,7 @@ fn put_params(
 ) -> Pen
     ensures { Wrote out.old pen (params_text image.now words.now) result out.new }
 {
-    let Read::Image(tables) = read_image(image) else {
+    let Some(tables) = read_image(image) else {
         return put_refusal(out, pen, 1, PatId(65535), 0);
     };
     if words.len() < 4 {

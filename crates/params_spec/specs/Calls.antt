@@ -1,4 +1,5 @@
 -- The public call on parameters: every image, list, body and number is taken, or refused by document 01's number. Assumes nothing: these are definitions.
+use Rattle.std.specs.Prelude.{Some, None, Ok, Err}
 use Rattle.std.specs.Prelude.{ℕ, zero, suc, ◌+◌, ◌*◌, ◌/◌, ◌≡◌, Bool, true, false, not, ◌&&◌, List, [], ◌∷◌, eqb, ltb, leb, length, get_or}
 use Rattle.std.proofs.Math.Option.{Option, none, some}
 use Rattle.refusals.specs.Refusals.{Refusal, breaks_a_rule, names_nothing, refusal_at}
@@ -15,9 +16,10 @@ use Rattle.body_calls_spec.specs.Calls.{body_taken}
 use Rattle.pattern_matching.specs.Walking.{Ctx}
 use Rattle.pattern_walk_spec.specs.Calls.{by_walk, start_ctx, Visits}
 use Rattle.handed.specs.Handed.{bindings_hold, start_holds}
-use Rattle.params_spec.specs.declared.SelfParam.{SelfParam}
-use Rattle.params_spec.specs.declared.ParamsCall.{ParamsCall}
+use Rattle.params_spec.specs.Results.{SelfParam}
+use Rattle.params_spec.specs.Results.{ParamsCall}
 use Rattle.params_spec.specs.Params.{Param, ParamsOut, plain_binding, lower_params_and_bindings}
+use Rattle.body_calls_spec.specs.declared.PatternCallError.{PatternCallError}
 
 -- so many parameters of a list, from the word k on: two words for each, its pattern and its type
 unfoldable pub params_from : List ℕ → ℕ → ℕ → List Param
@@ -53,8 +55,8 @@ none_binds_receiver image b (q ∷ qs) = not (binds_receiver b (plain_binding (t
 
 -- the same of self's binding; without self nothing is looked at
 unfoldable pub receiver_apart : List ℕ → SelfParam → List Param → Bool
-receiver_apart image SelfParam.None params = true
-receiver_apart image (SelfParam.Some b ty) params = none_binds_receiver image b.0 params
+receiver_apart image None params = true
+receiver_apart image (Some (b, ty)) params = none_binds_receiver image b.0 params
 
 -- a list that is taken: "A call in which one is so is now number 1"
 unfoldable pub list_holds : List ℕ → SelfParam → List ℕ → Bool
@@ -62,8 +64,8 @@ list_holds image self words = list_formed image words && receiver_apart image se
 
 -- self names a binding and a type
 unfoldable pub self_named : List ℕ → SelfParam → Bool
-self_named image SelfParam.None = true
-self_named image (SelfParam.Some b ty) = ltb b.0 (binding_count image) && ltb ty (type_count image)
+self_named image None = true
+self_named image (Some (b, ty)) = ltb b.0 (binding_count image) && ltb ty (type_count image)
 
 -- all else that the call is handed names something
 unfoldable pub params_hold : List ℕ → SelfParam → List ℕ → List ℕ → Counts → BasicBlockId → Bool
@@ -78,17 +80,17 @@ params_call image words self bindings b c current =
 
 -- the answer: the counts, the block to go on from and the first parameter's local, which is the next one when the call comes
 abbrev pub params_answer : Counts → Called ParamsOut → ParamsCall
-params_answer c bad_image = ParamsCall.BadImage
-params_answer c bad_call = ParamsCall.BadCall
-params_answer c (refused_at e p) = ParamsCall.Refused e (record { 0 = p })
-params_answer c (accepted r) = ParamsCall.Lowered (counts_of r.ctx.state) r.then (record { 0 = c.locals })
+params_answer c bad_image = (Err PatternCallError.BadImage)
+params_answer c bad_call = (Err PatternCallError.BadCall)
+params_answer c (refused_at e p) = Err (PatternCallError.Refused e (record { 0 = p }))
+params_answer c (accepted r) = Ok (counts_of r.ctx.state, r.then, record { 0 = c.locals })
 
 -- document 01's three numbers, where it is a refusal
 abbrev pub params_refusal : ParamsCall → Option Refusal
-params_refusal (ParamsCall.Lowered c then first) = none
-params_refusal (ParamsCall.Refused e p) = some (refusal_at e p.0)
-params_refusal ParamsCall.BadCall = some names_nothing
-params_refusal ParamsCall.BadImage = some breaks_a_rule
+params_refusal (Ok (c, then, first)) = none
+params_refusal (Err (PatternCallError.Refused e p)) = some (refusal_at e p.0)
+params_refusal (Err PatternCallError.BadCall) = some names_nothing
+params_refusal (Err PatternCallError.BadImage) = some breaks_a_rule
 
 -- how the call answers, and the context that an accepted walk leaves
 abbrev pub params_way : Way ParamsOut ParamsCall

@@ -1,4 +1,5 @@
 -- Parameters and receivers: `lower_params_and_bindings` of lower.rs. Assumes nothing: these are definitions.
+use Rattle.std.specs.Prelude.{Some, None}
 use Rattle.std.specs.Prelude.{ℕ, zero, suc, ◌+◌, Bool, true, false, cond, ◌&&◌, List, [], ◌∷◌, eqb, length, get_or, set}
 use Rattle.std.proofs.Math.Option.{Option, none, some}
 use Rattle.refusals.specs.declared.MirLowerError.{MirLowerError}
@@ -11,12 +12,12 @@ use Rattle.mir.specs.declared.BasicBlockId.{BasicBlockId}
 use Rattle.mir.specs.declared.blocks.Terminator.{Terminator}
 use Rattle.state.specs.State.{State}
 use Rattle.state.specs.Steps.{next_local, set_terminator, try_local, try_entry}
-use Rattle.lower_spec.specs.declared.merging.OptBlock.{OptBlock}
+use Rattle.lower_spec.specs.Results.{OptBlock}
 use Rattle.lower_spec.specs.Temps.{binding_local}
 use Rattle.pattern_matching.specs.Walking.{Ctx, Out, Walk, next, step, out, with_state, local_place}
 use Rattle.pattern_matching.specs.Walking.{ok as gives}
 use Rattle.pattern_matching.specs.Patterns.{pattern_match}
-use Rattle.params_spec.specs.declared.SelfParam.{SelfParam}
+use Rattle.params_spec.specs.Results.{SelfParam}
 
 -- a parameter: the numbers of its pattern and of its type
 pub record Param : Type 0 where
@@ -72,8 +73,8 @@ bound_to bindings (some b) l = set bindings b l
 
 -- a local for self; its binding is that local
 unfoldable pub declare_self : SelfParam → Declared → Result Declared
-declare_self SelfParam.None d = done d
-declare_self (SelfParam.Some b ty) d =
+declare_self None d = done d
+declare_self (Some (b, ty)) d =
     and_then (param_local d.state ty) (λ st. done (record { state = st; bindings = set d.bindings b.0 (length d.state.locals) }))
 
 -- a local for a parameter; the binding of a plain one is that local
@@ -106,12 +107,12 @@ declare image self params d =
 
 -- a parameter does not fail: its else becomes Unreachable
 unfoldable pub shut_else : Ctx → OptBlock → Ctx
-shut_else ctx OptBlock.None = ctx
-shut_else ctx (OptBlock.Some b) = with_state ctx (set_terminator ctx.state b Terminator.Unreachable)
+shut_else ctx None = ctx
+shut_else ctx (Some b) = with_state ctx (set_terminator ctx.state b Terminator.Unreachable)
 
 -- a lowered parameter: what follows goes on from its then
 unfoldable pub shut : Walk Out → Walk Out
-shut w = next w (λ r. out (shut_else r.ctx r.else) r.then OptBlock.None)
+shut w = next w (λ r. out (shut_else r.ctx r.else) r.then None)
 
 -- a Bind whose binding's local is the parameter's own needs nothing; document 01: p is the "parameter when its binding's local is looked up"
 unfoldable pub unless_bound : List ℕ → ℕ → ℕ → ℕ → Walk Out → Walk Out → Walk Out
@@ -140,19 +141,19 @@ unless_own bindings (Pat.Deref h) l bound other = other
 -- a parameter, whose local is l
 unfoldable pub lower_param : List ℕ → List ℕ → ℕ → ℕ → Ctx → BasicBlockId → Walk Out
 lower_param image bindings p l ctx current =
-    unless_own bindings (tree image p) l (out ctx current OptBlock.None)
-    (shut (pattern_match image bindings (tree image p) ctx current OptBlock.None (local_place (record { 0 = l }))))
+    unless_own bindings (tree image p) l (out ctx current None)
+    (shut (pattern_match image bindings (tree image p) ctx current None (local_place (record { 0 = l }))))
 
 -- each parameter in order; the local of the first is l, and the others follow
 unfoldable pub lower_params : List ℕ → List ℕ → List Param → ℕ → Ctx → BasicBlockId → Walk Out
-lower_params image bindings [] l ctx current = out ctx current OptBlock.None
+lower_params image bindings [] l ctx current = out ctx current None
 lower_params image bindings (q ∷ qs) l ctx current =
     next (lower_param image bindings q.pattern l ctx current) (λ r. lower_params image bindings qs (l + 1) r.ctx r.then)
 
 -- how many locals self has
 unfoldable pub self_count : SelfParam → ℕ
-self_count SelfParam.None = 0
-self_count (SelfParam.Some b ty) = 1
+self_count None = 0
+self_count (Some (b, ty)) = 1
 
 -- what comes of parameters: the body, the block to go on from, and the bindings' locals
 pub record ParamsOut : Type 0 where

@@ -1,15 +1,14 @@
 -- What the call on parameters is handed, and the ways through the code before it. Assumes nothing.
-use Prim.Native.Nat.{ℕ, zero, suc, ◌+◌, ◌-◌, ◌/◌, ◌≤◌, ◌<◌}
+use Rattle.std.specs.Prelude.{Some, None}
+use Prim.Native.Nat.{ℕ, zero, suc, ◌+◌, ◌/◌, ◌≤◌, ◌<◌}
 use mathlib.Core.Path.{◌≡◌, refl, sym, ap, ◌∙◌}
 use mathlib.Core.Bool.{Bool, true, false, cond}
-use mathlib.Core.List.{List, [], ◌∷◌, ◌++◌, append-nil}
-use native.Mathlib.Nat.{zero-add}
+use mathlib.Core.List.{List, [], ◌∷◌}
 use native.Mathlib.Omega.{arith}
 use borrow.Author.Tests.{eq-eqb, ne_eqb, le-leb, lt-leb, leb-true}
 use lib.Dec.{eqb, leb}
-use lib.ListN.{length, get_or, set, take, replicate, length-replicate, get_or-replicate, drop_of_length-le}
-use Rattle.row_tables.specs.Rows.{zeros, joined, encode_rows, stored, cleared}
-use Rattle.row_tables.proofs.Loops.{Storing, store_more, store_end}
+use lib.ListN.{length, get_or, take, replicate}
+use Rattle.row_tables.specs.Rows.{zeros, joined, encode_rows, cleared}
 use Rattle.image.specs.declared.BindingId.{BindingId}
 use Rattle.image.specs.declared.Tables.{Tables}
 use Rattle.image.specs.Tables.{Whole}
@@ -21,7 +20,7 @@ use Rattle.body_tables.specs.Layout.{body_words, body_of}
 use Rattle.pattern_calls_spec.proofs.Starting.{visits_cleared}
 use Rattle.listing_start.proofs.Limits.{limits}
 use Rattle.listing_start_body.proofs.Filling.{open_block, body_cleared}
-use Rattle.params_spec.specs.declared.SelfParam.{SelfParam}
+use Rattle.params_spec.specs.Results.{SelfParam}
 use Rattle.params_spec.specs.Params.{self_count}
 use Rattle.params_spec.specs.Calls.{params_call}
 use Rattle.params_start.specs.Started.{start_state, receiver, call_words, unbound, many_of, Starts, start_call}
@@ -35,22 +34,6 @@ same_take (suc m) (suc n) a h = ap (λ (l : List ℕ). a ∷ l) (same_take m n a
 -- 256 bindings without a local
 abbrev none_of_all : List ℕ
 none_of_all = replicate 256 65535
-
--- `unbind`: the first i bindings have no local
-abbrev pub Unbinding : List ℕ → ℕ → List ℕ → Type 0
-Unbinding before i bindings = Storing before 0 none_of_all i bindings
-
-module _ {before : List ℕ} where
-  pub unbind_more : {i : ℕ} {bindings : List ℕ} → Unbinding before i bindings → length before ≡ 256 → i < 256 → Unbinding before (i + 1) (set bindings i 65535)
-  unbind_more {i} {bindings} U long h =
-      let few : length none_of_all ≡ 256 = length-replicate {A = ℕ} 256 65535 in
-      rw (get_or-replicate {A = ℕ} 256 i 65535 0 h, zero-add i) at (store_more U (omega arith) (omega arith))
-
-  pub unbind_end : {i : ℕ} {bindings : List ℕ} → Unbinding before i bindings → length before ≡ 256 → 256 ≤ i → bindings ≡ none_of_all
-  unfolding stored
-  unbind_end {i} {bindings} U long h =
-      let few : length none_of_all ≡ 256 = length-replicate {A = ℕ} 256 65535 in
-      store_end U (omega arith) ∙ ap (λ (l : List ℕ). none_of_all ++ l) (drop_of_length-le before {i = 0 + length none_of_all} (omega arith)) ∙ append-nil none_of_all
 
 -- the scopes' table, with one scope or none: no entry was there when it was opened
 scope_zeros : (none : Bool) → padded 32 (cond none [] (0 ∷ [])) ≡ zeros 32
@@ -80,8 +63,8 @@ unfolding many_of self_count
 many_few self size = by_size (leb size 128) refl
   where
     few : (self : SelfParam) → self_count self ≤ 1
-    few SelfParam.None = omega arith
-    few (SelfParam.Some b ty) = omega arith
+    few None = omega arith
+    few (Some (b, ty)) = omega arith
 
     by_size : (r : Bool) → leb size 128 ≡ r → cond r (size / 2 + self_count self) 0 ≤ 65
     by_size true e = omega (arith, leb-true size 128 e, few self)
@@ -91,11 +74,11 @@ pub many_none : (self : SelfParam) (size : ℕ) → 128 < size → 0 ≡ many_of
 unfolding many_of
 many_none self size h = rw (lt-leb size 128 h)
 
-pub many_listed : {self : SelfParam} (size : ℕ) → size ≤ 128 → self ≡ SelfParam.None → size / 2 ≡ many_of self size
+pub many_listed : {self : SelfParam} (size : ℕ) → size ≤ 128 → self ≡ None → size / 2 ≡ many_of self size
 unfolding many_of self_count
 many_listed size h is = rw (le-leb size 128 h, is) (omega arith)
 
-pub many_with_self : {self : SelfParam} {b : BindingId} {ty : ℕ} (size : ℕ) → size ≤ 128 → self ≡ SelfParam.Some b ty → size / 2 + 1 ≡ many_of self size
+pub many_with_self : {self : SelfParam} {b : BindingId} {ty : ℕ} (size : ℕ) → size ≤ 128 → self ≡ Some (b, ty) → size / 2 + 1 ≡ many_of self size
 unfolding many_of self_count
 many_with_self size h is = rw (le-leb size 128 h, is)
 

@@ -1,10 +1,11 @@
 -- What a call on parameters starts from: block 0, and words for the opened scopes, self and the list. Assumes nothing: these are definitions.
+use Rattle.std.specs.Prelude.{Some, None}
 use Rattle.std.specs.Prelude.{ℕ, ◌+◌, ◌/◌, ◌≡◌, cond, List, [], ◌∷◌, eqb, leb, get_or, replicate}
 use Rattle.row_tables.specs.Rows.{zeros}
 use Rattle.image.specs.Tables.{binding_count}
 use Rattle.mir.specs.declared.Counts.{Counts}
 use Rattle.state.specs.State.{Body, State, encode, counts_of}
-use Rattle.params_spec.specs.declared.SelfParam.{SelfParam}
+use Rattle.params_spec.specs.Results.{SelfParam}
 use Rattle.calls_spec.specs.Calls.{Called}
 use Rattle.params_spec.specs.Params.{ParamsOut, self_count}
 use Rattle.params_spec.specs.Calls.{params_call}
@@ -23,7 +24,7 @@ start_state opened =
 
 -- self, by a word that is 0 for none, its binding and its type
 unfoldable pub receiver : ℕ → ℕ → ℕ → SelfParam
-receiver own binding ty = cond (eqb own 0) SelfParam.None (SelfParam.Some (record { 0 = binding }) ty)
+receiver own binding ty = cond (eqb own 0) None (Some (record { 0 = binding }, ty))
 
 -- the words of a call: the opened scopes, 1 or 0 for self or none, and self's binding and type
 unfoldable pub call_words : List ℕ → CallWords

@@ -9,24 +9,23 @@ ghost use Rattle.body_tables.specs.Layout.{body_of};
 use body_tables::BODY_WORDS;
 use image::BindingId;
 use mir::Counts;
-use params_spec::SelfParam;
 use row_tables::clear_from;
 
 // What the first four words of a call say: how many scopes are open, and self.
 #[derive(Clone, Copy)]
 pub struct CallWords {
     pub opened: u16,
-    pub receiver: SelfParam,
+    pub receiver: Option<(BindingId, u16)>,
 }
 
 // Self, by a word that is 0 for none, its binding and its type.
-fn receiver_of(own: u16, binding: BindingId, ty: u16) -> SelfParam
+fn receiver_of(own: u16, binding: BindingId, ty: u16) -> Option<(BindingId, u16)>
     ensures { result ≡ receiver own binding.0 ty }
 {
     if own == 0 {
-        return SelfParam::None;
+        return None;
     }
-    SelfParam::Some(binding, ty)
+    Some((binding, ty))
 }
 
 // The words for the opened scopes, for self or none, and of self's binding and type.
@@ -41,7 +40,7 @@ pub fn call_words(words: &[u16]) -> CallWords
 }
 
 // How many locals self and a list of so many words have; a list of more than 64 parameters is not taken.
-pub fn many_of(receiver: SelfParam, size: usize) -> u16
+pub fn many_of(receiver: Option<(BindingId, u16)>, size: usize) -> u16
     ensures { result ≡ many_of receiver size }
 {
     if size > 128 {
@@ -49,8 +48,8 @@ pub fn many_of(receiver: SelfParam, size: usize) -> u16
     }
     let count = (size / 2) as u16;
     match receiver {
-        SelfParam::None => count,
-        SelfParam::Some(_, _) => count + 1,
+        None => count,
+        Some((_, _)) => count + 1,
     }
 }
 
@@ -59,11 +58,7 @@ pub fn unbind(bindings: &mut [u16])
     requires { length bindings.old ≡ 256 }
     ensures { bindings.new ≡ replicate 256 65535 }
 {
-    let mut i = 0;
-    while i < bindings.len() {
-        bindings[i] = 65535;
-        i += 1;
-    }
+    bindings.fill(65535);
 }
 
 // Block 0 is open, there is no local, and a scope is open or none.

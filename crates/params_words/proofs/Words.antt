@@ -25,27 +25,21 @@ pub words_end : (ws : List ℕ) (i : ℕ) → length ws ≤ i → words_from ws 
 unfolding words_text
 words_end ws i h = let none : drop i ws ≡ [] = drop_of_length-le ws {i = i} h in rw none
 
--- of so many locals one after the other, those from the place i on
+-- of so many locals one after the other, those from the local w on
 abbrev pub run_from : ℕ → ℕ → ℕ → List ℕ
-run_from first count i = words_text (up_from (first + i) (count - i))
+run_from first count w = words_text (up_from w (first + count - w))
 
 module _ (first count : ℕ) where
   -- from the first on, they are all
-  pub run_begin : run_from first count 0 ≡ words_text (up_from first count)
-  run_begin =
-      let at : first + 0 ≡ first = omega arith in
-      let all : count - 0 ≡ count = omega arith in
-      rw (at, all)
+  pub run_begin : run_from first count first ≡ words_text (up_from first count)
+  run_begin = let all : first + count - first ≡ count = omega arith in rw all
 
-  -- the local at the place i, and those behind it
-  pub run_more : (i : ℕ) → i < count → run_from first count i ≡ word_text (first + i) ++ run_from first count (i + 1)
+  -- the local w, and those behind it
+  pub run_more : (w : ℕ) → w < first + count → run_from first count w ≡ word_text w ++ run_from first count (w + 1)
   unfolding words_text up_from
-  run_more i h =
-      let left : count - i ≡ suc (count - (i + 1)) = omega arith in
-      let at : first + i + 1 ≡ first + (i + 1) = omega arith in
-      rw (left, at)
+  run_more w h = let left : first + count - w ≡ suc (first + count - (w + 1)) = omega arith in rw left
 
   -- behind the last there is none
-  pub run_end : (i : ℕ) → count ≤ i → run_from first count i ≡ []
+  pub run_end : (w : ℕ) → first + count ≤ w → run_from first count w ≡ []
   unfolding words_text up_from
-  run_end i h = let none : count - i ≡ 0 = omega arith in rw none
+  run_end w h = let none : first + count - w ≡ 0 = omega arith in rw none

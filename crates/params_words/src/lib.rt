@@ -25,10 +25,8 @@ pub fn put_words(out: &mut [u8], pen: Pen, words: &[u16]) -> Pen
     ensures { Wrote out.old pen (words_text words.now) result out.new }
 {
     let mut written = put(out, pen, b"");
-    let mut i = 0;
-    while i < words.len() {
-        written = put_word(out, written, words[i]);
-        i += 1;
+    for word in words {
+        written = put_word(out, written, *word);
     }
     written
 }
@@ -39,10 +37,8 @@ pub fn put_run(out: &mut [u8], pen: Pen, first: LocalId, count: u16) -> Pen
     ensures { Wrote out.old pen (words_text (up_from first.0 count)) result out.new }
 {
     let mut written = put(out, pen, b"");
-    let mut i = 0u16;
-    while i < count {
-        written = put_word(out, written, first.0 + i);
-        i += 1;
+    for word in first.0..first.0 + count {
+        written = put_word(out, written, word);
     }
     written
 }

@@ -1,12 +1,12 @@
 -- Tests on marks and values, as the code makes them. Assumes nothing.
+use Rattle.std.specs.Prelude.{Some, None}
 use Prim.Native.Nat.{ℕ, ◌+◌, ◌*◌, ◌^◌, ◌<◌, ◌≤◌}
 use mathlib.Core.Path.{◌≡◌, refl, sym}
 use mathlib.Core.Bool.{Bool, true, false, cond, ◌||◌, ◌&&◌}
 use native.Mathlib.Omega.{arith}
 use lib.Dec.{eqb, ltb}
 use borrow.Author.Tests.{ltb-true, ltb-false, lt-ltb, le-ltb}
-use Rattle.decimal_values.specs.declared.Value.{Value}
-use Rattle.decimal_values.specs.declared.Value.TheVariants.{Halves, Over}
+use Rattle.decimal_values.specs.Results.{Value}
 use Rattle.pattern_grammar.specs.Lexemes.{over}
 use Rattle.parsing_machine.specs.Waiting.{closes}
 use Rattle.parsing_moves.specs.Rows.{over_in}
@@ -46,16 +46,16 @@ and_one true = refl
 and_one false = refl
 
 -- a value over 16 bytes, one that is not behind a minus, and one that is
-pub over_over : (value : Value) (minus : Bool) → value ≡ Over → true ≡ over_in minus value
+pub over_over : (value : Value) (minus : Bool) → value ≡ None → true ≡ over_in minus value
 unfolding over
 over_over value minus e = rw e refl
 
-pub over_plain : (value : Value) (minus : Bool) (low high : ℕ) → value ≡ Halves low high → minus ≡ false → false ≡ over_in minus value
+pub over_plain : (value : Value) (minus : Bool) (low high : ℕ) → value ≡ Some (low, high) → minus ≡ false → false ≡ over_in minus value
 unfolding over
 over_plain value minus low high e f = rw e (rw f refl)
 
 pub over_minus :
-    (value : Value) (minus : Bool) (low high : ℕ) (r : Bool) → value ≡ Halves low high → minus ≡ true → r ≡ ltb (2 ^ 127) (high * 2 ^ 64 + low)
+    (value : Value) (minus : Bool) (low high : ℕ) (r : Bool) → value ≡ Some (low, high) → minus ≡ true → r ≡ ltb (2 ^ 127) (high * 2 ^ 64 + low)
     → r ≡ over_in minus value
 unfolding over
 over_minus value minus low high r e f g = rw e (rw f (rw (and_one (ltb (2 ^ 127) (high * 2 ^ 64 + low))) g))

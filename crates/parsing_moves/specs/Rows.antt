@@ -8,7 +8,7 @@ use Rattle.node_rows.specs.declared.NodeRow.{NodeRow}
 use Rattle.node_rows.specs.Nodes.{literal_in, closed_node_of}
 use Rattle.parsing_machine.specs.declared.ReadState.{ReadState}
 use Rattle.parsing_machine.specs.declared.ReadState.TheVariants.{Begin, Expect, BehindAmp, BehindRef, BehindMut, AtName, AtBound, AtPath, AtSep, AtMinus, AtLiteral, AtDots, AtFrom, AtTo, AtToPath, AtAlt, AtBrace, AtLabel, AtIndex, AtField, AtEtc}
-use Rattle.decimal_values.specs.declared.Value.{Value}
+use Rattle.decimal_values.specs.Results.{Value}
 use Rattle.parsing_machine.specs.Waiting.{closes}
 use Rattle.parsing_machine.specs.Moves.{Held, no_name, named_held, literal_held, place_held, nothing_held, Move, halts, holds, opens, opens_two, opens_behind, mutates, shuts, shuts_before, shuts_range, shuts_range_before, shuts_open_range, shuts_rest, passes_on, shuts_top, adds_field, adds_last_field, name_held, index_name, held_bound_path, held_bound, range_from, fit_move, ranged_move, path_move, field_move, bound_move, mark_move}
 use Rattle.parsing_moves.specs.declared.HeldRow.{HeldRow}

@@ -5,7 +5,7 @@ ghost use Rattle.parsing_moves.specs.Rows.{DecidesStart, DecidesBound, DecidesDo
 
 use crate::NodeMove;
 use crate::makers::{holds_flags, holds_literal, literal_row, opens_row, two_references};
-use decimal_values::{Value, integer_value};
+use decimal_values::integer_value;
 use parsing_machine::ReadState;
 
 // 2^127 is below a value in halves.
@@ -19,12 +19,12 @@ fn over_halves(low: u64, high: u64) -> bool
 }
 
 // An integer's value is over 16 bytes.
-fn is_over(value: Value, minus: bool) -> bool
+fn is_over(value: Option<(u64, u64)>, minus: bool) -> bool
     ensures { result ≡ over_in minus value }
 {
     match value {
-        Value::Over => true,
-        Value::Halves(low, high) => {
+        None => true,
+        Some((low, high)) => {
             if !minus {
                 return false;
             }

@@ -22,13 +22,8 @@ pub fn grown_row(row: NodeRow) -> NodeRow
     ensures { result ≡ grown_row row }
 {
     NodeRow {
-        kind: row.kind,
-        at: row.at,
         parts: row.parts + 1,
-        more: row.more,
-        spot: row.spot,
-        from: row.from,
-        to: row.to,
+        ..row
     }
 }
 
@@ -56,15 +51,16 @@ fn pass(
     requires { (depth + rows ≤ 16384) × PartsMost 60001 stack.now depth }
     ensures { Passes stack.now nodes.old depth rows nodes.new result }
 {
-    let mut d = depth;
     let mut n = rows;
-    while 0 < d {
-        let f = node_at(stack, d - 1);
+    for d in (0..depth).rev() {
+        let f = node_at(stack, d);
         if !passes(f) {
-            return Heights { depth: d, rows: n };
+            return Heights {
+                depth: d + 1,
+                rows: n,
+            };
         }
         put_node(nodes, n, grown_row(f));
-        d -= 1;
         n += 1;
     }
     Heights { depth: 0, rows: n }

@@ -8,35 +8,20 @@ ghost use Rattle.name_resolving.specs.Gives.{Gives};
 ghost use Rattle.part_resolving.specs.Parts.{has_name, field_row};
 
 use image::Tables;
-use name_resolving::lookup::{Named, look_up};
+use name_resolving::Resolution;
+use name_resolving::lookup::look_up;
 use name_resolving::rows::{made, refused_here};
-use name_resolving::{Refused, Resolution};
 use name_tables::NameUse;
 use node_rows::NodeRow;
 use type_crossing::variant_fields;
 use type_parts::PartsRow;
 
 // A node of this kind has a name.
+#[tactic(auto, unfolding(crate::specs::Parts::has_name))]
 fn has_name(kind: u16) -> bool
     ensures { result ≡ has_name kind }
 {
-    match kind {
-        0 => false,
-        1 => false,
-        2 => false,
-        3 => false,
-        4 => true,
-        5 => false,
-        6 => true,
-        7 => true,
-        8 => false,
-        9 => false,
-        10 => true,
-        11 => false,
-        12 => true,
-        13 => true,
-        _ => false,
-    }
+    matches!(kind, 4 | 6 | 7 | 10 | 12 | 13)
 }
 
 // The node with its own name, and none for a node that has none.
@@ -72,7 +57,7 @@ pub fn resolve_field(
     ensures { Gives spelled.now result node.parts (λ text. resolved_field sheet.now names.now (field_name (node_of text spelled.now node)) t v mode) }
 {
     let key = field_row(node);
-    let Named::As(kind, number) = look_up(names, NameUse::FieldOf(v), spelled, key) else {
+    let Some((kind, number)) = look_up(names, NameUse::FieldOf(v), spelled, key) else {
         return refused_here(node.parts, key.spot);
     };
     let fields = variant_fields(sheet, tables, t, v);
@@ -86,7 +71,7 @@ pub fn resolve_field(
         many: 0,
     };
     Resolution {
-        refused: Refused::No,
+        refused: None,
         making: making,
         reads: reads,
     }

@@ -14,7 +14,7 @@ ghost use Rattle.part_resolving.specs.Parts.{rest_bound_to};
 use image::Tables;
 use name_resolving::Resolution;
 use name_resolving::bindings::binding;
-use name_resolving::lookup::{Named, look_up};
+use name_resolving::lookup::look_up;
 use name_resolving::rows::{refused_here, whole_made};
 use name_tables::NameUse;
 use node_rows::NodeRow;
@@ -41,7 +41,7 @@ fn bind_rest(
     requires { NameBytesWithin names.now }
     ensures { Gives spelled.now result node.parts (λ text. rest_bound_to (row_for names.now as_value (name_in spelled.now node).bytes) (marked_in spelled.now node) t mode (bound_at_of t element many copy)) }
 {
-    let Named::As(kind, number) = look_up(names, NameUse::Value, spelled, node) else {
+    let Some((kind, number)) = look_up(names, NameUse::Value, spelled, node) else {
         return binding(node, t, mode, element, many, copy);
     };
     refused_here(node.parts, node.spot)

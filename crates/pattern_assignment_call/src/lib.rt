@@ -4,7 +4,6 @@
 
 ghost use Rattle.std.specs.Prelude.{◌≡◌, true};
 ghost use Rattle.image.specs.Tree.{tree};
-ghost use Rattle.lower_spec.specs.declared.merging.OptBlock.{OptBlock};
 ghost use Rattle.body_calls_spec.specs.Sizes.{Taken};
 ghost use Rattle.pattern_matching.specs.Patterns.{pattern_match_assignment};
 ghost use Rattle.handed.specs.Handed.{match_holds};
@@ -12,16 +11,14 @@ ghost use Rattle.pattern_walk_spec.specs.Calls.{by_walk, start_ctx, Visits};
 ghost use Rattle.pattern_calls_spec.specs.Calls.{match_way, match_ctx, named_in, AssignmentGives};
 ghost use Rattle.body_tables.specs.Layout.{body_of};
 
-use body_calls_spec::Opened;
+use body_calls_spec::PatternCallError;
 use body_clearing::clear_above;
 use body_handed::match_holds;
 use body_opening::open;
 use body_restoring::{block_row, put_back};
 use body_tables::BODY_WORDS;
 use image::{PatId, Tables};
-use lower_spec::merging::OptBlock;
 use mir::{BasicBlockId, Counts};
-use pattern_calls_spec::MatchCall;
 use pattern_entering::VISIT_WORDS;
 use pattern_matching::MatchingMode;
 use pattern_walk::pattern_match_inner;
@@ -41,8 +38,8 @@ fn assignment_step(
     p: PatId,
     current: BasicBlockId,
     place: Place,
-) -> MatchCall
-    requires { Taken image.now tables (body_of body.old) counts × (match_holds (named_in image.now) bindings.now (body_of body.old).blocks counts p.0 current OptBlock.None place ≡ true) }
+) -> Result<(Counts, BasicBlockId, Option<BasicBlockId>), PatternCallError>
+    requires { Taken image.now tables (body_of body.old) counts × (match_holds (named_in image.now) bindings.now (body_of body.old).blocks counts p.0 current None place ≡ true) }
     ensures { Visits match_way match_ctx (body_of body.old) visits.old counts (by_walk (pattern_match_assignment image.now bindings.now (tree image.now p.0) (start_ctx (body_of body.old) counts) current place)) result (body_of body.new) visits.new }
 {
     let row = block_row(body, current);
@@ -58,15 +55,15 @@ fn assignment_step(
         MatchingMode::Assign,
         p,
         current,
-        OptBlock::None,
+        None,
         place,
     ) {
-        Lowered::Done(c, then, other) => MatchCall::Matched(c, then, other),
-        Lowered::Refused(e, q) => {
+        Ok((c, then, other)) => Ok((c, then, other)),
+        Err((e, q)) => {
             put_back(body, current, row);
             clear_above(body, counts);
             clear_from(visits, 0);
-            MatchCall::Refused(e, q)
+            Err(PatternCallError::Refused(e, q))
         }
     }
 }
@@ -81,28 +78,14 @@ pub fn pattern_match_assignment(
     p: PatId,
     current: BasicBlockId,
     place: Place,
-) -> MatchCall
+) -> Result<(Counts, BasicBlockId, Option<BasicBlockId>), PatternCallError>
     ensures { AssignmentGives image.now bindings.now counts p.0 current place (body_of body.old) visits.old result (body_of body.new) visits.new }
 {
-    match open(image, body, counts) {
-        Opened::BadImage => MatchCall::BadImage,
-        Opened::BadCall => MatchCall::BadCall,
-        Opened::Image(tables) => {
-            if !match_holds(
-                tables,
-                bindings,
-                body,
-                counts,
-                p,
-                current,
-                OptBlock::None,
-                place,
-            ) {
-                return MatchCall::BadCall;
-            }
-            assignment_step(
-                image, tables, bindings, body, visits, counts, p, current, place,
-            )
-        }
+    let tables = open(image, body, counts)?;
+    if !match_holds(tables, bindings, body, counts, p, current, None, place) {
+        return Err(PatternCallError::BadCall);
     }
+    assignment_step(
+        image, tables, bindings, body, visits, counts, p, current, place,
+    )
 }

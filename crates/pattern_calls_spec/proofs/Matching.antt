@@ -1,4 +1,5 @@
 -- The steps of `pattern_match` and of `pattern_match_assignment`: what they ask for, and what they give. Assumes nothing.
+use Rattle.std.specs.Prelude.{Ok, Err}
 use Prim.Native.Nat.{ℕ, ◌*◌, ◌<◌}
 use mathlib.Core.Path.{◌≡◌}
 use mathlib.Core.List.{List}
@@ -15,20 +16,19 @@ use Rattle.mir.specs.declared.Counts.{Counts}
 use Rattle.state.specs.State.{Body, decode, encode}
 use Rattle.mir.specs.Blocks.{block_width, block_words}
 use Rattle.body_tables.specs.Layout.{with_blocks}
-use Rattle.lower_spec.specs.declared.merging.OptBlock.{OptBlock}
+use Rattle.lower_spec.specs.Results.{OptBlock}
 use Rattle.body_calls_spec.specs.Sizes.{Taken}
 use Rattle.body_calls_spec.proofs.Clearing.{Cleared}
 use Rattle.body_calls_spec.proofs.Prologue.{taken_sized}
 use Rattle.pattern_matching.specs.Walking.{Ctx, Out, Walk}
-use Rattle.pattern_walk_spec.specs.declared.Lowered.{Lowered}
 use Rattle.pattern_walk_spec.specs.Answers.{Walks}
 use Rattle.pattern_walk_spec.specs.Calls.{by_walk, start_ctx, Visits}
 use Rattle.pattern_walk_laws.specs.Walk.{Walkable}
 use Rattle.handed.proofs.Handing.{Handed, pattern_there, bindings_sized, start_there, else_there, root_there, elems_within}
-use Rattle.pattern_calls_spec.specs.declared.MatchCall.{MatchCall}
 use Rattle.pattern_calls_spec.specs.Calls.{named_in, match_way, match_ctx}
 use Rattle.pattern_calls_spec.proofs.Starting.{visits_cleared, cleared_now, placed_of}
 use Rattle.pattern_calls_spec.proofs.Stepping.{walk_accepted, walk_refused}
+use Rattle.body_calls_spec.specs.declared.PatternCallError.{PatternCallError}
 
 -- image, body and numbers were looked at
 module _ {image : List ℕ} {tables : Tables} {b : Body} {c : Counts} (bindings : List ℕ) (p : ℕ) (current : BasicBlockId) (els : OptBlock) (place : Place) (T : Taken image tables b c) (H : Handed (named_in image) bindings b.blocks c p current els place) where
@@ -70,13 +70,13 @@ module _ {image : List ℕ} {tables : Tables} {b : Body} {c : Counts} (bindings 
       -- the walk gives `defined`
       module _ (defined : Ctx → Walk Out) {b₂ : Body} {v₂ : List ℕ} where
         -- and is accepted
-        pub matched : {c' : Counts} {then : BasicBlockId} {els' : OptBlock} → Walks defined c current els b₁ v₁ (Lowered.Done c' then els') b₂ v₂ →
-            Visits match_way match_ctx b visits c (by_walk (defined (start_ctx b c))) (MatchCall.Matched c' then els') b₂ v₂
+        pub matched : {c' : Counts} {then : BasicBlockId} {els' : OptBlock} → Walks defined c current els b₁ v₁ (Ok (c', then, els')) b₂ v₂ →
+            Visits match_way match_ctx b visits c (by_walk (defined (start_ctx b c))) (Ok (c', then, els')) b₂ v₂
         matched W = walk_accepted defined ready_body no_visit W
 
         -- or refused: the row of the block is put back, and zeros are written again
-        pub not_matched : {err : MirLowerError} {q : PatId} {row v₄ : List ℕ} {b₃ b₄ : Body} → Walks defined c current els b₁ v₁ (Lowered.Refused err q) b₂ v₂ →
+        pub not_matched : {err : MirLowerError} {q : PatId} {row v₄ : List ℕ} {b₃ b₄ : Body} → Walks defined c current els b₁ v₁ (Err (err, q)) b₂ v₂ →
             length b₂.blocks ≡ block_words → length v₂ ≡ 512 → row ≡ row_at block_width b.blocks current.0 →
             b₃ ≡ with_blocks b₂ (stored b₂.blocks (block_width * current.0) row) → b₄ ≡ encode (decode b₃ c) → v₄ ≡ cleared v₂ 0 →
-            Visits match_way match_ctx b visits c (by_walk (defined (start_ctx b c))) (MatchCall.Refused err q) b₄ v₄
+            Visits match_way match_ctx b visits c (by_walk (defined (start_ctx b c))) (Err (PatternCallError.Refused err q)) b₄ v₄
         not_matched W long seen is_row back is unseen₄ = walk_refused defined ready_body no_visit (taken_sized image b c T) W starts long is_row back is (visits_cleared v₂ seen unseen₄)

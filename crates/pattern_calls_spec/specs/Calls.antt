@@ -1,4 +1,5 @@
 -- The public calls on patterns: every image, body and number is taken, or refused by document 01's number. Assumes nothing: these are definitions.
+use Rattle.std.specs.Prelude.{None, Ok, Err}
 use Rattle.std.specs.Prelude.{ℕ, List}
 use Rattle.std.proofs.Math.Option.{Option, none, some}
 use Rattle.refusals.specs.Refusals.{Refusal, breaks_a_rule, names_nothing, refusal_at}
@@ -9,15 +10,16 @@ use Rattle.place.specs.declared.Place.{Place}
 use Rattle.mir.specs.declared.BasicBlockId.{BasicBlockId}
 use Rattle.mir.specs.declared.Counts.{Counts}
 use Rattle.state.specs.State.{Body, counts_of}
-use Rattle.lower_spec.specs.declared.merging.OptBlock.{OptBlock}
+use Rattle.lower_spec.specs.Results.{OptBlock}
 use Rattle.calls_spec.specs.Calls.{Called, bad_image, bad_call, refused_at, accepted}
 use Rattle.calls_spec.specs.Promises.{Way, Gives}
 use Rattle.body_calls_spec.specs.Calls.{body_call}
 use Rattle.pattern_matching.specs.Walking.{Ctx, Out}
 use Rattle.pattern_matching.specs.Patterns.{pattern_match, pattern_match_assignment, match_self_param}
 use Rattle.pattern_walk_spec.specs.Calls.{by_walk, start_ctx, Visits}
-use Rattle.pattern_calls_spec.specs.declared.MatchCall.{MatchCall}
+use Rattle.pattern_calls_spec.specs.Results.{MatchCall}
 use Rattle.handed.specs.Handed.{Named, match_holds, self_holds}
+use Rattle.body_calls_spec.specs.declared.PatternCallError.{PatternCallError}
 
 -- how many variants, patterns and bindings an image has
 abbrev pub named_in : List ℕ → Named
@@ -32,7 +34,7 @@ pattern_match_call image bindings b c p current els place =
 -- `pattern_match_assignment`: it has no else
 unfoldable pub pattern_match_assignment_call : List ℕ → List ℕ → Body → Counts → ℕ → BasicBlockId → Place → Called Out
 pattern_match_assignment_call image bindings b c p current place =
-    body_call image b c (match_holds (named_in image) bindings b.blocks c p current OptBlock.None place)
+    body_call image b c (match_holds (named_in image) bindings b.blocks c p current None place)
     (by_walk (pattern_match_assignment image bindings (tree image p) (start_ctx b c) current place))
 
 -- `match_self_param`: it visits no pattern
@@ -43,17 +45,17 @@ match_self_param_call image bindings b c binding current l =
 
 -- the answer: the counts, then and else, or why it was refused
 abbrev pub match_answer : Counts → Called Out → MatchCall
-match_answer c bad_image = MatchCall.BadImage
-match_answer c bad_call = MatchCall.BadCall
-match_answer c (refused_at e p) = MatchCall.Refused e (record { 0 = p })
-match_answer c (accepted r) = MatchCall.Matched (counts_of r.ctx.state) r.then r.else
+match_answer c bad_image = (Err PatternCallError.BadImage)
+match_answer c bad_call = (Err PatternCallError.BadCall)
+match_answer c (refused_at e p) = Err (PatternCallError.Refused e (record { 0 = p }))
+match_answer c (accepted r) = Ok (counts_of r.ctx.state, r.then, r.else)
 
 -- document 01's three numbers, where it is a refusal
 abbrev pub match_refusal : MatchCall → Option Refusal
-match_refusal (MatchCall.Matched c then els) = none
-match_refusal (MatchCall.Refused e p) = some (refusal_at e p.0)
-match_refusal MatchCall.BadCall = some names_nothing
-match_refusal MatchCall.BadImage = some breaks_a_rule
+match_refusal (Ok (c, then, els)) = none
+match_refusal (Err (PatternCallError.Refused e p)) = some (refusal_at e p.0)
+match_refusal (Err PatternCallError.BadCall) = some names_nothing
+match_refusal (Err PatternCallError.BadImage) = some breaks_a_rule
 
 -- how each call answers, and the context that an accepted walk leaves
 abbrev pub match_way : Way Out MatchCall

@@ -1,4 +1,5 @@
 -- A pattern is entered: visits, derefs and one element more of a place. Assumes nothing.
+use Rattle.std.specs.Prelude.{Err}
 use Prim.Native.Nat.{ℕ, zero, suc, ◌+◌, ◌-◌, ◌≤◌, ◌<◌}
 use mathlib.Core.Path.{◌≡◌, refl, sym, ap, ap₂, ◌∙◌}
 use mathlib.Core.Bool.{Bool, true, false, cond}
@@ -11,7 +12,6 @@ use lib.Seq.{set-get_or}
 use Rattle.image.specs.declared.PatId.{PatId}
 use Rattle.refusals.specs.declared.MirLowerError.{MirLowerError}
 use Rattle.refusals.specs.Refusals.{Result, done, stopped, and_then}
-use Rattle.row_tables.specs.Rows.{zeros}
 use Rattle.place.specs.declared.Place.{Place}
 use Rattle.place.specs.declared.Projected.{Projected}
 use Rattle.place.specs.declared.elems.ProjectionElem.{ProjectionElem}
@@ -19,10 +19,10 @@ use Rattle.place.specs.Places.{onward, Projects}
 use Rattle.mir.specs.declared.Counts.{Counts}
 use Rattle.mir.specs.declared.BasicBlockId.{BasicBlockId}
 use Rattle.state.proofs.Answering.{kept_refl}
-use Rattle.lower_spec.specs.declared.merging.OptBlock.{OptBlock}
+use Rattle.lower_spec.specs.Results.{OptBlock}
 use Rattle.pattern_matching.specs.declared.MatchingMode.{MatchingMode}
 use Rattle.pattern_matching.specs.Walking.{Out, Walk, Lowering, step, visited, project, derefed, entered}
-use Rattle.pattern_walk_spec.specs.declared.Lowered.{Lowered}
+use Rattle.pattern_walk_spec.specs.Results.{Lowered}
 use Rattle.pattern_walk_spec.specs.Answers.{Placed, ctx_of, visit_word, Holds, Walks}
 use Rattle.pattern_walk_spec.proofs.Following.{refuses, answers_by}
 use Rattle.pattern_entering.specs.Entering.{one_more, projected_result, derefs_of}
@@ -77,32 +77,29 @@ project_stops place elem {r = r} P e = ap (λ (t : Bool). cond t (done r.place) 
 pub project_goes : (place : Place) (elem : ProjectionElem) {r : Projected} → Projects place elem r → r.ok ≡ true → done r.place ≡ project place elem
 project_goes place elem {r = r} P e = ap (λ (t : Bool). cond t (done r.place) (stopped MirLowerError.Limit)) (sym e) ∙ project_by place elem P
 
--- `deref_place`, so many derefs being left
-module _ (here : Place) (left : ℕ) (more : 0 < left) {r : Projected} (P : Projects here ProjectionElem.Deref r) where
+-- `deref_place`, all but the first i derefs being left
+pub deref_begin : (place : Place) (derefs : ℕ) → derefs_of place (derefs - 0) ≡ derefs_of place derefs
+deref_begin place derefs = let all : derefs - 0 ≡ derefs = omega arith in ap (derefs_of place) all
+
+module _ (here : Place) (derefs i : ℕ) (more : i < derefs) {r : Projected} (P : Projects here ProjectionElem.Deref r) where
   -- there is no room for one of them
-  pub deref_stops : r.ok ≡ false → stopped MirLowerError.Limit ≡ derefs_of here left
+  pub deref_stops : r.ok ≡ false → stopped MirLowerError.Limit ≡ derefs_of here (derefs - i)
   unfolding derefs_of
-  deref_stops e = go left more
-    where
-      go : (n : ℕ) → 0 < n → stopped MirLowerError.Limit ≡ derefs_of here n
-      go zero h = absurd (omega arith)
-      go (suc n) h = ap (λ (q : Result Place). and_then q (λ on. derefs_of on n)) (project_stops here ProjectionElem.Deref P e)
+  deref_stops e =
+      let left : derefs - i ≡ suc (derefs - (i + 1)) = omega arith in
+      rw left (ap (λ (q : Result Place). and_then q (λ on. derefs_of on (derefs - (i + 1)))) (project_stops here ProjectionElem.Deref P e))
 
   -- one of them
-  pub deref_more : r.ok ≡ true → derefs_of r.place (left - 1) ≡ derefs_of here left
+  pub deref_more : r.ok ≡ true → derefs_of r.place (derefs - (i + 1)) ≡ derefs_of here (derefs - i)
   unfolding derefs_of
-  deref_more e = go left more
-    where
-      go : (n : ℕ) → 0 < n → derefs_of r.place (n - 1) ≡ derefs_of here n
-      go zero h = absurd (omega arith)
-      go (suc n) h =
-          let one : suc n - 1 ≡ n = omega arith in
-          ap (derefs_of r.place) one ∙ ap (λ (q : Result Place). and_then q (λ on. derefs_of on n)) (project_goes here ProjectionElem.Deref P e)
+  deref_more e =
+      let left : derefs - i ≡ suc (derefs - (i + 1)) = omega arith in
+      rw left (ap (λ (q : Result Place). and_then q (λ on. derefs_of on (derefs - (i + 1)))) (project_goes here ProjectionElem.Deref P e))
 
 -- none is left
-pub deref_end : (here : Place) (left : ℕ) → left ≤ 0 → done here ≡ derefs_of here left
+pub deref_end : (here : Place) (derefs i : ℕ) → derefs ≤ i → done here ≡ derefs_of here (derefs - i)
 unfolding derefs_of
-deref_end here left h = let none : 0 ≡ left = omega arith in ap (derefs_of here) none
+deref_end here derefs i h = let none : derefs - i ≡ 0 = omega arith in rw none
 
 -- the derefs of a pattern are one step
 pub derefed_by : (p : ℕ) (place : Place) (k : Place → Walk Out) (n : ℕ) → derefed p place k n ≡ step p (derefs_of place n) k
@@ -161,7 +158,7 @@ module _ (p : PatId) (derefs : ℕ) (lowering : Lowering) (mode : MatchingMode) 
   Enters = Walks (λ ctx. entered p.0 derefs lowering mode ctx current els place) c current els t v
 
   -- there is no room for its derefs
-  pub enter_stops : stopped MirLowerError.Limit ≡ derefs_of place derefs → Enters (Lowered.Refused MirLowerError.Limit p) t (visited_in v p)
+  pub enter_stops : stopped MirLowerError.Limit ≡ derefs_of place derefs → Enters (Err (MirLowerError.Limit, p)) t (visited_in v p)
   unfolding entered
   enter_stops full = record {
     answers = λ visits R H. record {

@@ -28,14 +28,12 @@ pub fn deref_place(place: Place, derefs: u16) -> Projected
     ensures { projected_result result ≡ derefs_of place derefs }
 {
     let mut here = place;
-    let mut left = derefs;
-    while 0 < left {
+    for _ in 0..derefs {
         let onward = project(here, ProjectionElem::Deref);
         if !onward.ok {
             return onward;
         }
         here = onward.place;
-        left -= 1;
     }
     Projected {
         ok: true,

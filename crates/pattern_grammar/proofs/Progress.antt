@@ -1,4 +1,5 @@
 -- Every text is read to its end or to a failure: tokens go on, and the last one ends the reading. Assumes nothing.
+use Rattle.std.specs.Prelude.{Some, None, Ok, Err}
 use Prim.Native.Nat.{ℕ, zero, suc, ◌+◌, ◌-◌, ◌<◌, ◌≤◌}
 use mathlib.Core.Path.{◌≡◌, refl, sym, ap, ◌∙◌}
 use mathlib.Core.Bool.{Bool, true, false, not, cond, ◌&&◌, ◌||◌, false≢true}
@@ -8,8 +9,8 @@ use native.Mathlib.Omega.{arith}
 use lib.Dec.{eqb}
 use lib.ListN.{length, get_or, drop, length-drop}
 use Rattle.text_chars.specs.declared.Gap.{Gap}
-use Rattle.text_chars.specs.declared.Scalar.{Scalar}
-use Rattle.text_chars.specs.declared.Start.{Start}
+use Rattle.text_chars.specs.Results.{Scalar}
+use Rattle.text_chars.specs.Results.{Start}
 use Rattle.text_chars.specs.Bytes.{run, ascii}
 use Rattle.text_chars.specs.Scalars.{on_scalar}
 use Rattle.text_chars.specs.Gaps.{gap_of, on_gap, start_from, start_of}
@@ -78,8 +79,8 @@ unfolding char_piece closed_char is_end of_kind
 chars_move bytes = by (char_of (drop 1 bytes))
   where
     by : (s : Scalar) → Moves (on_scalar s failing (closed_char bytes))
-    by (Scalar.Of v more) = moves_if (eqb (get_or bytes (more + 2) 0) 39 && not (is_suffix (get_or bytes (more + 3) 0) (get_or bytes (more + 4) 0))) (long (λ q. refl) (omega arith)) failing_moves
-    by Scalar.Nothing = failing_moves
+    by (Some (v, more)) = moves_if (eqb (get_or bytes (more + 2) 0) 39 && not (is_suffix (get_or bytes (more + 3) 0) (get_or bytes (more + 4) 0))) (long (λ q. refl) (omega arith)) failing_moves
+    by None = failing_moves
 
 marks_move : (bytes : List ℕ) → Moves (first_where bytes punctuation)
 unfolding first_where punctuation is_end of_kind
@@ -119,16 +120,16 @@ piece_moves at b bytes = by (begins_word b) refl (is_digit b) refl
     by false e true f = integers_move b bytes f
     by false e false f = moves_if (eqb b 39) (chars_move (b ∷ bytes)) (marks_move (b ∷ bytes))
 
-at_same : (a b : ℕ) → Start.At a ≡ Start.At b → a ≡ b
+at_same : (a b : ℕ) → ◌≡◌ {A = Start} (Ok a) (Ok b) → a ≡ b
 at_same a b e = cc
 
-not_broken : (a b : ℕ) → Start.BrokenAt a ≡ Start.At b → ⊥
+not_broken : (a b : ℕ) → ◌≡◌ {A = Start} (Err a) (Ok b) → ⊥
 not_broken a b e =
     let z : ◌≡◌ {A = ℕ} 0 1 = cc in
     omega arith
 
 -- the next token does not begin before the position
-start_later : (bytes : List ℕ) (at rest from : ℕ) → start_from at rest bytes ≡ Start.At from → at ≤ from
+start_later : (bytes : List ℕ) (at rest from : ℕ) → start_from at rest bytes ≡ Ok from → at ≤ from
 unfolding start_from
 start_later [] at zero from e = let s = at_same at from e in omega arith
 start_later [] at (suc rest) from e = let s = at_same at from e in omega arith
@@ -136,14 +137,14 @@ start_later (b ∷ bytes) at (suc rest) from e = let h = start_later bytes (suc 
 start_later (b ∷ bytes) at zero from e = by (gap_of (b ∷ bytes)) (λ more. start_later bytes (suc at) more from) e
   where
     by :
-        (g : Gap) → ((more : ℕ) → start_from (suc at) more bytes ≡ Start.At from → suc at ≤ from)
-        → on_gap g (Start.At at) (Start.BrokenAt at) (λ more. start_from (suc at) more bytes) ≡ Start.At from → at ≤ from
+        (g : Gap) → ((more : ℕ) → start_from (suc at) more bytes ≡ Ok from → suc at ≤ from)
+        → on_gap g (Ok at) (Err at) (λ more. start_from (suc at) more bytes) ≡ Ok from → at ≤ from
     by (Gap.Of more) down h = let l = down more h in omega arith
     by Gap.Nothing down h = let s = at_same at from h in omega arith
     by Gap.Broken down h = absurd (not_broken at from h)
 
 -- nor behind the text
-start_inside : (bytes : List ℕ) (at rest from : ℕ) → start_from at rest bytes ≡ Start.At from → from ≤ at + length bytes
+start_inside : (bytes : List ℕ) (at rest from : ℕ) → start_from at rest bytes ≡ Ok from → from ≤ at + length bytes
 unfolding start_from
 start_inside [] at zero from e = let s = at_same at from e in omega arith
 start_inside [] at (suc rest) from e = let s = at_same at from e in omega arith
@@ -151,8 +152,8 @@ start_inside (b ∷ bytes) at (suc rest) from e = let h = start_inside bytes (su
 start_inside (b ∷ bytes) at zero from e = by (gap_of (b ∷ bytes)) (λ more. start_inside bytes (suc at) more from) e
   where
     by :
-        (g : Gap) → ((more : ℕ) → start_from (suc at) more bytes ≡ Start.At from → from ≤ suc at + length bytes)
-        → on_gap g (Start.At at) (Start.BrokenAt at) (λ more. start_from (suc at) more bytes) ≡ Start.At from → from ≤ at + length (b ∷ bytes)
+        (g : Gap) → ((more : ℕ) → start_from (suc at) more bytes ≡ Ok from → from ≤ suc at + length bytes)
+        → on_gap g (Ok at) (Err at) (λ more. start_from (suc at) more bytes) ≡ Ok from → from ≤ at + length (b ∷ bytes)
     by (Gap.Of more) down h = let l = down more h in omega arith
     by Gap.Nothing down h = let s = at_same at from h in omega arith
     by Gap.Broken down h = absurd (not_broken at from h)
@@ -184,8 +185,8 @@ advances text at = by (start_of text at) refl
     here from h (b ∷ bytes) e = piece_advances text at from b bytes h e
 
     by : (s : Start) → start_of text at ≡ s → Advances text at (token_behind text s)
-    by (Start.At from) e = here from (start_later (drop at text) at 0 from e) (drop from text) refl
-    by (Start.BrokenAt from) e = inl refl
+    by (Ok from) e = here from (start_later (drop at text) at 0 from e) (drop from text) refl
+    by (Err from) e = inl refl
 
 -- the end stands behind the text's last byte
 pub end_there : (text : List ℕ) (at : ℕ) → at ≤ length text → is_end (lexeme (token_at text at)) ≡ true → (token_at text at).from ≡ length text
@@ -201,12 +202,12 @@ end_there text at h = by (start_of text at) refl
         omega arith
     here from g (b ∷ bytes) e i = absurd (false≢true (sym ((piece_moves from b bytes).inner (record { from = from; to = from + (piece_of from (b ∷ bytes)).size })) ∙ i))
 
-    inside : (from : ℕ) → start_of text at ≡ Start.At from → from ≤ length text
+    inside : (from : ℕ) → start_of text at ≡ Ok from → from ≤ length text
     inside from e =
         let s = start_inside (drop at text) at 0 from e in
         let d = length-drop at text in
         omega arith
 
     by : (s : Start) → start_of text at ≡ s → is_end (lexeme (token_behind text s)) ≡ true → (token_behind text s).from ≡ length text
-    by (Start.At from) e i = here from (inside from e) (drop from text) refl i
-    by (Start.BrokenAt from) e i = absurd (false≢true i)
+    by (Ok from) e i = here from (inside from e) (drop from text) refl i
+    by (Err from) e i = absurd (false≢true i)

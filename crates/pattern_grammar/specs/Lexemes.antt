@@ -1,10 +1,10 @@
 -- Tokens as the grammar's machine takes them: names, chars, and marks, which are numbers. Assumes nothing: these are definitions.
+use Rattle.std.specs.Prelude.{Some, None}
 use Rattle.std.specs.Prelude.{ℕ, ◌+◌, ◌*◌, ◌^◌, Bool, true, false, cond, ◌&&◌, List, ltb}
 use Rattle.pattern_words.specs.declared.Kind.{Kind}
 use Rattle.pattern_words.specs.declared.Kind.TheVariants.{Name, Ref, Mut, True, False, Underscore, Integer, Char, OpenParen, CloseParen, OpenBracket, CloseBracket, OpenBrace, CloseBrace, Comma, Or, And, AndAnd, Bind, Minus, Colon, PathSep, DotDot, DotDotEq, End, Fails}
 use Rattle.pattern_tokens.specs.declared.Token.{Token}
-use Rattle.decimal_values.specs.declared.Value.{Value}
-use Rattle.decimal_values.specs.declared.Value.TheVariants.{Halves, Over}
+use Rattle.decimal_values.specs.Results.{Value}
 use Rattle.decimal_values.specs.Values.{integer_value}
 
 -- where a token stands: its first byte, and the byte behind it
@@ -140,8 +140,8 @@ lexeme t = of_kind t.kind (record { from = t.from; to = t.to })
 
 -- a value is "over 16 bytes": 2^128 or more, or behind a minus more than 2^127
 unfoldable pub over : Bool → Value → Bool
-over behindMinus Over = true
-over behindMinus (Halves low high) = cond behindMinus (ltb (2 ^ 127) (high * 2 ^ 64 + low)) false
+over behindMinus None = true
+over behindMinus (Some (low, high)) = cond behindMinus (ltb (2 ^ 127) (high * 2 ^ 64 + low)) false
 
 -- a text, and whether it is judged by more than the grammar alone
 pub record Source : Type 0 where

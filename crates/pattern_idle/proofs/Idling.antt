@@ -1,4 +1,5 @@
 -- Patterns at which there is nothing to do: they are visited, and the walk goes on as it was. Assumes nothing.
+use Rattle.std.specs.Prelude.{Ok}
 use Prim.Native.Nat.{ℕ, ◌<◌}
 use mathlib.Core.Path.{◌≡◌, refl, ◌∙◌}
 use mathlib.Core.Bool.{Bool, true, false, cond, false≢true}
@@ -20,13 +21,12 @@ use Rattle.image.proofs.Bools.{and_left, and_right}
 use Rattle.place.specs.declared.Place.{Place}
 use Rattle.mir.specs.declared.BasicBlockId.{BasicBlockId}
 use Rattle.mir.specs.declared.Counts.{Counts}
-use Rattle.lower_spec.specs.declared.merging.OptBlock.{OptBlock}
+use Rattle.lower_spec.specs.Results.{OptBlock}
 use Rattle.pattern_matching.specs.declared.MatchingMode.{MatchingMode}
 use Rattle.pattern_matching.specs.Modes.{is_check}
 use Rattle.pattern_matching.specs.Walking.{Ctx, Lowering, out}
 use Rattle.pattern_matching.specs.Tests.{literal, lit_by, constant_path}
 use Rattle.pattern_matching.specs.Patterns.{range_pattern, path_pattern, bind_pattern, pattern_match_inner}
-use Rattle.pattern_walk_spec.specs.declared.Lowered.{Lowered}
 use Rattle.pattern_walk_spec.specs.Answers.{Begins}
 use Rattle.pattern_entering.proofs.Visiting.{visited_in}
 use Rattle.pattern_tests.specs.Testing.{is_literal}
@@ -146,7 +146,7 @@ idle_kind image bindings p row mode e = go mode (is_check mode) refl (and_right 
 -- The theorem: a pattern at which there is nothing to do is lowered by its visit alone.
 pub idle_walks : (image bindings : List ℕ) (q : PatId) (mode : MatchingMode) (c : Counts) (current : BasicBlockId) (els : OptBlock) (t : Body) (v : List ℕ) {v₁ : List ℕ} →
     valid image ≡ true → q.0 < pattern_count image → Begins c current els → v₁ ≡ visited_in v q → nothing_to_do image mode (pat_at image q.0) ≡ true →
-    (place : Place) → Inner image bindings q mode c current els place t v (Lowered.Done c current els) t v₁
+    (place : Place) → Inner image bindings q mode c current els place t v (Ok (c, current, els)) t v₁
 unfolding nothing_to_do
 idle_walks image bindings q mode c current els t v good h B seen e place =
     let row = pat_at image q.0 in

@@ -8,7 +8,7 @@ ghost use Rattle.image.specs.Patterns.{pattern_shape_holds};
 ghost use Rattle.image.specs.Valid.{valid};
 ghost use Rattle.pattern_idle.specs.Idle.{idle_in_check, names_constant, idle_beyond_check, nothing_to_do};
 
-use image::kinds::{PatKind, PathKind, operand_kind, pat_kind, path_kind};
+use image::kinds::{OperandKind, PatKind, PathKind};
 use image::rows::{PatRow, operand_at, pat_at};
 use image::{PatId, Tables};
 use pattern_matching::{MatchingMode, is_check};
@@ -26,13 +26,11 @@ fn idle_in_check(kind: PatKind, b: u16) -> bool
 }
 
 // A path that names a constant.
+#[tactic(auto, unfolding(crate::specs::Idle::names_constant))]
 fn names_constant(kind: PathKind) -> bool
     ensures { result ≡ names_constant kind }
 {
-    match kind {
-        PathKind::Constant => true,
-        _ => false,
-    }
+    matches!(kind, PathKind::Constant)
 }
 
 // Beyond Check: a wildcard, and what only tests.
@@ -43,8 +41,8 @@ fn idle_beyond_check(image: &[u8], tables: Tables, kind: PatKind, row: PatRow) -
     match kind {
         PatKind::Wild => true,
         PatKind::Range => true,
-        PatKind::Path => names_constant(path_kind(row.a)),
-        PatKind::Lit => is_literal(operand_kind(operand_at(image, tables, row.a).kind)),
+        PatKind::Path => names_constant(PathKind::from(row.a)),
+        PatKind::Lit => is_literal(OperandKind::from(operand_at(image, tables, row.a).kind)),
         _ => false,
     }
 }
@@ -59,7 +57,7 @@ pub fn nothing_to_do(image: &[u8], tables: Tables, mode: MatchingMode, q: PatId)
         return false;
     }
     if is_check(mode) {
-        return idle_in_check(pat_kind(row.kind), row.b);
+        return idle_in_check(PatKind::from(row.kind), row.b);
     }
-    idle_beyond_check(image, tables, pat_kind(row.kind), row)
+    idle_beyond_check(image, tables, PatKind::from(row.kind), row)
 }

@@ -1,4 +1,5 @@
 -- What a walk does in Check and beyond it, by the ways through the code. Assumes nothing.
+use Rattle.std.specs.Prelude.{Ok, Err}
 use mathlib.Core.Path.{◌≡◌, refl}
 use mathlib.Core.Bool.{true, false, true≢false, false≢true}
 use mathlib.Core.List.{List}
@@ -9,14 +10,14 @@ use Rattle.refusals.specs.declared.MirLowerError.{MirLowerError}
 use Rattle.place.specs.declared.Place.{Place}
 use Rattle.mir.specs.declared.BasicBlockId.{BasicBlockId}
 use Rattle.mir.specs.declared.Counts.{Counts}
-use Rattle.lower_spec.specs.declared.merging.OptBlock.{OptBlock}
+use Rattle.lower_spec.specs.Results.{OptBlock}
 use Rattle.pattern_matching.specs.declared.MatchingMode.{MatchingMode}
 use Rattle.pattern_matching.specs.Modes.{is_check}
 use Rattle.pattern_matching.specs.Walking.{Ctx, Out, Walk, refused, out, in_check}
 use Rattle.pattern_matching.specs.Tests.{pattern_match_binding}
 use Rattle.pattern_nodes.specs.Modes.{bound}
 use Rattle.pattern_switching.proofs.Cutting.{in_check_lem, not_in_check}
-use Rattle.pattern_walk_spec.specs.declared.Lowered.{Lowered}
+use Rattle.pattern_walk_spec.specs.Results.{Lowered}
 use Rattle.pattern_walk_spec.specs.Answers.{Begins, Lowers}
 use Rattle.pattern_walk_spec.proofs.Sequences.{lowers_skips, lowers_refuses, lowers_by}
 use Rattle.pattern_leaves.specs.Modes.{other_path}
@@ -24,13 +25,13 @@ use Rattle.state.specs.State.{Body}
 
 -- `other_path`, as the code answers it
 module _ (c : Counts) (p : PatId) (current : BasicBlockId) (els : OptBlock) where
-  pub other_refused : (mode : MatchingMode) → is_check mode ≡ true → Lowered.Refused MirLowerError.NotSupported p ≡ other_path c mode p current els
+  pub other_refused : (mode : MatchingMode) → is_check mode ≡ true → Err (MirLowerError.NotSupported, p) ≡ other_path c mode p current els
   unfolding is_check other_path
   other_refused MatchingMode.Check e = refl
   other_refused MatchingMode.Bind e = absurd (false≢true e)
   other_refused MatchingMode.Assign e = absurd (false≢true e)
 
-  pub other_done : (mode : MatchingMode) → is_check mode ≡ false → Lowered.Done c current els ≡ other_path c mode p current els
+  pub other_done : (mode : MatchingMode) → is_check mode ≡ false → Ok (c, current, els) ≡ other_path c mode p current els
   unfolding is_check other_path
   other_done MatchingMode.Check e = absurd (true≢false e)
   other_done MatchingMode.Bind e = refl
@@ -53,7 +54,7 @@ module _ (bindings : List ℕ) (t : Body) (c : Counts) (mode : MatchingMode) (p 
   filled ctx = pattern_match_binding bindings p.0 p.0 b how ctx current els place
 
   -- nothing is bound in Check
-  pub bind_skips : is_check mode ≡ true → Begins c current els → Bound (Lowered.Done c current els) t
+  pub bind_skips : is_check mode ≡ true → Begins c current els → Bound (Ok (c, current, els)) t
   unfolding bound
   bind_skips check h = lowers_skips (λ ctx. in_check_lem mode (out ctx current els) (filled ctx) check) h
 

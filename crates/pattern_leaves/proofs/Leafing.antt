@@ -1,4 +1,5 @@
 -- The patterns that have no subpattern, by the ways through the code. Assumes nothing.
+use Rattle.std.specs.Prelude.{Ok, Err}
 use mathlib.Core.Path.{◌≡◌, refl, ap, ◌∙◌}
 use mathlib.Core.Bool.{true, ◌&&◌}
 use mathlib.Core.List.{List}
@@ -23,13 +24,13 @@ use Rattle.image.proofs.Bools.{and_left, and_right}
 use Rattle.place.specs.declared.Place.{Place}
 use Rattle.mir.specs.declared.BasicBlockId.{BasicBlockId}
 use Rattle.mir.specs.declared.Counts.{Counts}
-use Rattle.lower_spec.specs.declared.merging.OptBlock.{OptBlock}
+use Rattle.lower_spec.specs.Results.{OptBlock}
 use Rattle.pattern_matching.specs.declared.MatchingMode.{MatchingMode}
 use Rattle.pattern_matching.specs.Walking.{Lowering}
 use Rattle.pattern_matching.specs.Tests.{constant_path, local_path}
 use Rattle.pattern_matching.specs.Patterns.{refusing, passing, path_pattern}
 use Rattle.pattern_nodes.specs.Leaves.{path_leaf, leaf_pattern}
-use Rattle.pattern_walk_spec.specs.declared.Lowered.{Lowered}
+use Rattle.pattern_walk_spec.specs.Results.{Lowered}
 use Rattle.pattern_walk_spec.specs.Answers.{Begins, Lowers}
 use Rattle.pattern_walk_spec.proofs.Sequences.{lowers_skips, lowers_refuses, lowers_by}
 use Rattle.pattern_leaves.specs.Modes.{other_path}
@@ -62,11 +63,11 @@ module _ (image bindings : List ℕ) (t : Body) (c : Counts) (mode : MatchingMod
   Path kind = Lowers (λ ctx. path_leaf kind image bindings p.0 ty b mode ctx current els place) c current els t
 
   -- a path that names nothing, or a variant
-  pub path_unresolved : {kind : PathKind} → kind ≡ PathKind.Unresolved → Path kind (Lowered.Refused MirLowerError.UnresolvedName p) t
+  pub path_unresolved : {kind : PathKind} → kind ≡ PathKind.Unresolved → Path kind (Err (MirLowerError.UnresolvedName, p)) t
   unfolding path_leaf path_pattern
   path_unresolved is = lowers_refuses (λ ctx. rw is refl)
 
-  pub path_variant : {kind : PathKind} → kind ≡ PathKind.Variant → Path kind (Lowered.Refused MirLowerError.IncompletePattern p) t
+  pub path_variant : {kind : PathKind} → kind ≡ PathKind.Variant → Path kind (Err (MirLowerError.IncompletePattern, p)) t
   unfolding path_leaf
   path_variant is = lowers_refuses (λ ctx. rw is refl)
 
@@ -118,11 +119,11 @@ module _ (image bindings : List ℕ) (t : Body) (c : Counts) (mode : MatchingMod
   leaf_lowers defined is L = lowers_by (λ ctx. ap (λ (f : Lowering). f mode ctx current els place) (is ∙ ap (λ (k : PatKind). leaf_pattern k image bindings p.0 row) read)) L
 
   -- one that is refused
-  pub leaf_refused : {e : MirLowerError} → refusing e p.0 ≡ leaf_pattern kind image bindings p.0 row → Leaf (Lowered.Refused e p) t
+  pub leaf_refused : {e : MirLowerError} → refusing e p.0 ≡ leaf_pattern kind image bindings p.0 row → Leaf (Err (e, p)) t
   leaf_refused {e = e} is = leaf_lowers (refusing e p.0) is (lowers_refuses (λ ctx. refl))
 
   -- one that has nothing to do
-  pub leaf_passed : passing ≡ leaf_pattern kind image bindings p.0 row → Begins c current els → Leaf (Lowered.Done c current els) t
+  pub leaf_passed : passing ≡ leaf_pattern kind image bindings p.0 row → Begins c current els → Leaf (Ok (c, current, els)) t
   leaf_passed is h = leaf_lowers passing is (lowers_skips (λ ctx. refl) h)
 
   -- a path, by what it names

@@ -1,4 +1,5 @@
 -- What a pattern with subpatterns tests in Check, an enum's variant and a slice's length, by the ways through the code. Assumes nothing.
+use Rattle.std.specs.Prelude.{Ok, Err}
 use mathlib.Core.Path.{◌≡◌, refl, sym, ap, ◌∙◌}
 use mathlib.Core.Bool.{Bool, true, false, cond, not}
 use mathlib.Core.List.{List}
@@ -15,7 +16,7 @@ use Rattle.image.specs.Types.{shape_by, ty_of}
 use Rattle.place.specs.declared.Place.{Place}
 use Rattle.mir.specs.declared.BasicBlockId.{BasicBlockId}
 use Rattle.mir.specs.declared.Counts.{Counts}
-use Rattle.lower_spec.specs.declared.merging.OptBlock.{OptBlock}
+use Rattle.lower_spec.specs.Results.{OptBlock}
 use Rattle.pattern_matching.specs.declared.MatchingMode.{MatchingMode}
 use Rattle.pattern_matching.specs.Modes.{is_check}
 use Rattle.pattern_matching.specs.Walking.{Ctx, Out, Walk, refused, out, in_check}
@@ -26,7 +27,7 @@ use Rattle.pattern_nodes.specs.Modes.{enum_test, slice_test}
 use Rattle.pattern_tests.specs.Testing.{has_rest, length_test_by}
 use Rattle.pattern_switching.proofs.Cutting.{in_check_lem, not_in_check}
 use Rattle.pattern_tests.proofs.Cutting.{length_test_by_lem}
-use Rattle.pattern_walk_spec.specs.declared.Lowered.{Lowered}
+use Rattle.pattern_walk_spec.specs.Results.{Lowered}
 use Rattle.pattern_walk_spec.specs.Answers.{Begins, Lowers}
 use Rattle.pattern_walk_spec.proofs.Sequences.{lowers_skips, lowers_refuses, lowers_by}
 use Rattle.pattern_rows.specs.declared.Sequence.{Sequence}
@@ -42,7 +43,7 @@ module _ (image : List ℕ) (t : Body) (c : Counts) (mode : MatchingMode) (p : P
   tests ctx = discriminant_test image p.0 v ctx current els place
 
   -- nothing is tested beyond Check
-  pub enum_skips : is_check mode ≡ false → Begins c current els → Tested (Lowered.Done c current els) t
+  pub enum_skips : is_check mode ≡ false → Begins c current els → Tested (Ok (c, current, els)) t
   unfolding enum_test
   enum_skips beyond h = lowers_skips (λ ctx. not_in_check mode (tests ctx) (out ctx current els) beyond) h
 
@@ -123,15 +124,15 @@ module _ (image : List ℕ) (t : Body) (c : Counts) (mode : MatchingMode) (p : P
   by_sequence is ctx = rw (is, read, at) (shape_test (type_kind (type_at image ty).kind) (type_at image ty) image p.0 n rest_is mode ctx current els place)
 
   -- a type that is neither
-  pub slice_refused : Sequence.Other ≡ sequence_by kind → Sliced (Lowered.Refused (MirLowerError.TypeError 2) p) t
+  pub slice_refused : Sequence.Other ≡ sequence_by kind → Sliced (Err (MirLowerError.TypeError 2, p)) t
   slice_refused is = lowers_refuses (λ ctx. by_sequence is ctx)
 
   -- an array
-  pub slice_array : Sequence.Array ≡ sequence_by kind → Begins c current els → Sliced (Lowered.Done c current els) t
+  pub slice_array : Sequence.Array ≡ sequence_by kind → Begins c current els → Sliced (Ok (c, current, els)) t
   slice_array is h = lowers_skips (λ ctx. by_sequence is ctx) h
 
   -- a slice, beyond Check
-  pub slice_skips : Sequence.Slice ≡ sequence_by kind → is_check mode ≡ false → Begins c current els → Sliced (Lowered.Done c current els) t
+  pub slice_skips : Sequence.Slice ≡ sequence_by kind → is_check mode ≡ false → Begins c current els → Sliced (Ok (c, current, els)) t
   slice_skips is beyond h = lowers_skips (λ ctx. not_in_check mode (measured ctx) (out ctx current els) beyond ∙ by_sequence is ctx) h
 
   -- and in Check

@@ -11,10 +11,9 @@ ghost use Rattle.body_tables.specs.Layout.{body_of};
 ghost use Rattle.state.specs.Promises.{Ready};
 
 use body_tables::BODY_WORDS;
-use image::kinds::{PatKind, PathKind, pat_kind, path_kind};
+use image::kinds::{PatKind, PathKind};
 use image::rows::PatRow;
 use image::{BindingId, PatId, Tables};
-use lower_spec::merging::OptBlock;
 use mir::{BasicBlockId, Counts};
 use pattern_matching::{MatchingMode, is_check};
 use pattern_parts::bindings::local_path;
@@ -57,7 +56,7 @@ fn path_leaf(
     kind: PathKind,
     b: u16,
     current: BasicBlockId,
-    els: OptBlock,
+    els: Option<BasicBlockId>,
     place: Place,
 ) -> Lowered
     requires whole { Whole image.now tables × (path_holds kind image.now b ≡ true) × (length bindings.now ≡ binding_count image.now) }
@@ -65,8 +64,8 @@ fn path_leaf(
     ensures { Lowers (λ ctx. path_leaf kind image.now bindings.now p.0 ty b mode ctx current els place) counts current els (body_of body.old) result (body_of body.new) }
 {
     match kind {
-        PathKind::Unresolved => Lowered::Refused(MirLowerError::UnresolvedName, p),
-        PathKind::Variant => Lowered::Refused(MirLowerError::IncompletePattern, p),
+        PathKind::Unresolved => Err((MirLowerError::UnresolvedName, p)),
+        PathKind::Variant => Err((MirLowerError::IncompletePattern, p)),
         PathKind::Local => local_path(
             bindings,
             body,
@@ -91,14 +90,14 @@ fn other_path(
     mode: MatchingMode,
     p: PatId,
     current: BasicBlockId,
-    els: OptBlock,
+    els: Option<BasicBlockId>,
 ) -> Lowered
     ensures { result ≡ other_path counts mode p current els }
 {
     if is_check(mode) {
-        return Lowered::Refused(MirLowerError::NotSupported, p);
+        return Err((MirLowerError::NotSupported, p));
     }
-    Lowered::Done(counts, current, els)
+    Ok((counts, current, els))
 }
 
 // The pattern p, whose row is given, at a place behind its derefs.
@@ -112,15 +111,15 @@ pub fn pattern_match_leaf(
     p: PatId,
     row: PatRow,
     current: BasicBlockId,
-    els: OptBlock,
+    els: Option<BasicBlockId>,
     place: Place,
 ) -> Lowered
     requires image_value { (valid image.now ≡ true) × Whole image.now tables × (row.ty < type_count image.now) × (pattern_shape_holds (pat_kind row.kind) image.now row ≡ true) × (length bindings.now ≡ binding_count image.now) }
     requires ready { Ready (body_of body.old) counts × Begins counts current els }
     ensures { Lowers (λ ctx. leaf_pattern (pat_kind row.kind) image.now bindings.now p.0 row mode ctx current els place) counts current els (body_of body.old) result (body_of body.new) }
 {
-    match pat_kind(row.kind) {
-        PatKind::Wild => Lowered::Done(counts, current, els),
+    match PatKind::from(row.kind) {
+        PatKind::Wild => Ok((counts, current, els)),
         PatKind::Range => pattern_match_range(
             image, tables, body, counts, mode, p, row.ty, row.a, row.b, row.c, current, els, place,
         ),
@@ -133,7 +132,7 @@ pub fn pattern_match_leaf(
             mode,
             p,
             row.ty,
-            path_kind(row.a),
+            PathKind::from(row.a),
             row.b,
             current,
             els,
@@ -142,9 +141,9 @@ pub fn pattern_match_leaf(
         PatKind::Lit => pattern_match_lit(
             image, tables, body, counts, mode, p, row.ty, row.a, current, els, place,
         ),
-        PatKind::Expr => Lowered::Refused(MirLowerError::Expr, p),
-        PatKind::Box => Lowered::Refused(MirLowerError::NotSupported, p),
-        PatKind::Deref => Lowered::Refused(MirLowerError::NotSupported, p),
-        _ => Lowered::Refused(MirLowerError::IncompletePattern, p),
+        PatKind::Expr => Err((MirLowerError::Expr, p)),
+        PatKind::Box => Err((MirLowerError::NotSupported, p)),
+        PatKind::Deref => Err((MirLowerError::NotSupported, p)),
+        _ => Err((MirLowerError::IncompletePattern, p)),
     }
 }

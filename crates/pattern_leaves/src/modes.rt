@@ -12,11 +12,10 @@ ghost use Rattle.state.specs.Promises.{Ready};
 
 use body_tables::BODY_WORDS;
 use body_tables::blocks::{set_goto, set_terminator};
-use image::kinds::{BindingMode, type_kind};
+use image::kinds::{BindingMode, TypeKind};
 use image::rows::type_at;
 use image::{BindingId, PatId, Tables};
-use lower_spec::merging::OptBlock;
-use mir::blocks::{NewBlock, Terminator};
+use mir::blocks::Terminator;
 use mir::{BasicBlockId, Counts};
 use pattern_items::sequence_of;
 use pattern_matching::{MatchingMode, is_check};
@@ -39,7 +38,7 @@ pub fn enum_test(
     p: PatId,
     v: u16,
     current: BasicBlockId,
-    els: OptBlock,
+    els: Option<BasicBlockId>,
     place: Place,
 ) -> Lowered
     requires image_value { (valid image.now ≡ true) × Whole image.now tables × (v < variant_count image.now) }
@@ -47,7 +46,7 @@ pub fn enum_test(
     ensures { Lowers (λ ctx. enum_test image.now p.0 v mode ctx current els place) counts current els (body_of body.old) result (body_of body.new) }
 {
     if !is_check(mode) {
-        return Lowered::Done(counts, current, els);
+        return Ok((counts, current, els));
     }
     discriminant_test(image, tables, body, counts, p, v, current, els, place)
 }
@@ -64,19 +63,19 @@ pub fn slice_test(
     n: u16,
     rest: u16,
     current: BasicBlockId,
-    els: OptBlock,
+    els: Option<BasicBlockId>,
     place: Place,
 ) -> Lowered
     requires whole { Whole image.now tables × (ty < type_count image.now) }
     requires ready { Ready (body_of body.old) counts × Begins counts current els }
     ensures { Lowers (λ ctx. slice_test (ty_of image.now ty).shape image.now p.0 n (rest_of (tree? (tree image.now) rest)) mode ctx current els place) counts current els (body_of body.old) result (body_of body.new) }
 {
-    match sequence_of(type_kind(type_at(image, tables, ty).kind)) {
-        Sequence::Other => Lowered::Refused(MirLowerError::TypeError(2), p),
-        Sequence::Array => Lowered::Done(counts, current, els),
+    match sequence_of(TypeKind::from(type_at(image, tables, ty).kind)) {
+        Sequence::Other => Err((MirLowerError::TypeError(2), p)),
+        Sequence::Array => Ok((counts, current, els)),
         Sequence::Slice => {
             if !is_check(mode) {
-                return Lowered::Done(counts, current, els);
+                return Ok((counts, current, els));
             }
             length_test(
                 image,
@@ -104,14 +103,14 @@ pub fn bind(
     b: BindingId,
     how: BindingMode,
     current: BasicBlockId,
-    els: OptBlock,
+    els: Option<BasicBlockId>,
     place: Place,
 ) -> Lowered
     requires { (b.0 < length bindings.now) × Ready (body_of body.old) counts × Begins counts current els }
     ensures { Lowers (λ ctx. bound bindings.now p.0 b.0 how mode ctx current els place) counts current els (body_of body.old) result (body_of body.new) }
 {
     if is_check(mode) {
-        return Lowered::Done(counts, current, els);
+        return Ok((counts, current, els));
     }
     pattern_match_binding(bindings, body, counts, p, p, b, how, current, els, place)
 }
@@ -125,18 +124,16 @@ pub fn alternatives_end(
     p: PatId,
     left: BasicBlockId,
     join: BasicBlockId,
-    els: OptBlock,
+    els: Option<BasicBlockId>,
 ) -> Lowered
     requires { (counts.blocks ≤ 512) × Begins counts left els × (join.0 < counts.blocks) }
     ensures { Ends (λ ctx. alternatives_left p.0 mode ctx left join els) counts left join els (body_of body.old) result (body_of body.new) }
 {
     if !is_check(mode) {
         set_terminator(body, left, Terminator::Unreachable);
-        return Lowered::Done(counts, join, els);
+        return Ok((counts, join, els));
     }
-    let NewBlock::Block(c1, other) = else_block(counts, els) else {
-        return Lowered::Refused(MirLowerError::Limit, p);
-    };
+    let (c1, other) = else_block(counts, els).ok_or((MirLowerError::Limit, p))?;
     set_goto(body, left, other);
-    Lowered::Done(c1, join, OptBlock::Some(other))
+    Ok((c1, join, Some(other)))
 }

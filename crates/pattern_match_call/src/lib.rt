@@ -11,16 +11,14 @@ ghost use Rattle.pattern_walk_spec.specs.Calls.{by_walk, start_ctx, Visits};
 ghost use Rattle.pattern_calls_spec.specs.Calls.{match_way, match_ctx, named_in, MatchGives};
 ghost use Rattle.body_tables.specs.Layout.{body_of};
 
-use body_calls_spec::Opened;
+use body_calls_spec::PatternCallError;
 use body_clearing::clear_above;
 use body_handed::match_holds;
 use body_opening::open;
 use body_restoring::{block_row, put_back};
 use body_tables::BODY_WORDS;
 use image::{PatId, Tables};
-use lower_spec::merging::OptBlock;
 use mir::{BasicBlockId, Counts};
-use pattern_calls_spec::MatchCall;
 use pattern_entering::VISIT_WORDS;
 use pattern_passes::check_and_bind;
 use pattern_walk_spec::Lowered;
@@ -37,9 +35,9 @@ fn match_step(
     counts: Counts,
     p: PatId,
     current: BasicBlockId,
-    els: OptBlock,
+    els: Option<BasicBlockId>,
     place: Place,
-) -> MatchCall
+) -> Result<(Counts, BasicBlockId, Option<BasicBlockId>), PatternCallError>
     requires { Taken image.now tables (body_of body.old) counts × (match_holds (named_in image.now) bindings.now (body_of body.old).blocks counts p.0 current els place ≡ true) }
     ensures { Visits match_way match_ctx (body_of body.old) visits.old counts (by_walk (pattern_match image.now bindings.now (tree image.now p.0) (start_ctx (body_of body.old) counts) current els place)) result (body_of body.new) visits.new }
 {
@@ -49,12 +47,12 @@ fn match_step(
     match check_and_bind(
         image, tables, bindings, body, visits, counts, p, current, els, place,
     ) {
-        Lowered::Done(c, then, other) => MatchCall::Matched(c, then, other),
-        Lowered::Refused(e, q) => {
+        Ok((c, then, other)) => Ok((c, then, other)),
+        Err((e, q)) => {
             put_back(body, current, row);
             clear_above(body, counts);
             clear_from(visits, 0);
-            MatchCall::Refused(e, q)
+            Err(PatternCallError::Refused(e, q))
         }
     }
 }
@@ -68,21 +66,16 @@ pub fn pattern_match(
     counts: Counts,
     p: PatId,
     current: BasicBlockId,
-    els: OptBlock,
+    els: Option<BasicBlockId>,
     place: Place,
-) -> MatchCall
+) -> Result<(Counts, BasicBlockId, Option<BasicBlockId>), PatternCallError>
     ensures { MatchGives image.now bindings.now counts p.0 current els place (body_of body.old) visits.old result (body_of body.new) visits.new }
 {
-    match open(image, body, counts) {
-        Opened::BadImage => MatchCall::BadImage,
-        Opened::BadCall => MatchCall::BadCall,
-        Opened::Image(tables) => {
-            if !match_holds(tables, bindings, body, counts, p, current, els, place) {
-                return MatchCall::BadCall;
-            }
-            match_step(
-                image, tables, bindings, body, visits, counts, p, current, els, place,
-            )
-        }
+    let tables = open(image, body, counts)?;
+    if !match_holds(tables, bindings, body, counts, p, current, els, place) {
+        return Err(PatternCallError::BadCall);
     }
+    match_step(
+        image, tables, bindings, body, visits, counts, p, current, els, place,
+    )
 }

@@ -1,5 +1,6 @@
 -- The lowering of patterns, as pattern_matching.rs does it but for requests S-1, S-4 and S-5: a transcription by recursion over the tree. Refusals come in the order in which it meets them.
 -- Assumes nothing: these are definitions.
+use Rattle.std.specs.Prelude.{Some, None}
 use Rattle.std.specs.Prelude.{ℕ, Bool, true, false, List, [], ◌∷◌}
 use Rattle.std.proofs.Math.Option.{Option, none}
 use Rattle.image.specs.declared.kinds.BindingMode.{BindingMode}
@@ -13,7 +14,7 @@ use Rattle.mir.specs.declared.BasicBlockId.{BasicBlockId}
 use Rattle.mir.specs.declared.blocks.Terminator.{Terminator}
 use Rattle.mir.specs.declared.rvalues.BinOp.{BinOp}
 use Rattle.state.specs.Steps.{next_block, try_block, set_terminator}
-use Rattle.lower_spec.specs.declared.merging.OptBlock.{OptBlock}
+use Rattle.lower_spec.specs.Results.{OptBlock}
 use Rattle.lower_spec.specs.Merging.{set_goto}
 use Rattle.pattern_matching.specs.declared.MatchingMode.{MatchingMode}
 use Rattle.pattern_matching.specs.Walking.{Ctx, Out, Walk, ok, refused, Lowering, next, step, out, with_state, local_place, else_state, else_block, entered, in_check}
@@ -36,18 +37,18 @@ pub record Alternatives : Type 0 where
 
 -- an alternative that matched goes on at `join`; the next one starts where it does not match, and behind one that cannot fail none is lowered
 abbrev pub behind : OptBlock → Ctx → (BasicBlockId → Walk Alternatives) → Walk Alternatives
-behind OptBlock.None ctx rest = ok (record { ctx = ctx; left = OptBlock.None })
-behind (OptBlock.Some b) ctx rest = rest b
+behind None ctx rest = ok (record { ctx = ctx; left = None })
+behind (Some b) ctx rest = rest b
 
 -- beyond Check an alternative is tested, and then walked again in the mode that is asked for
 abbrev pub alternative : Lowering → MatchingMode → Ctx → BasicBlockId → Place → Walk Out
 alternative alt mode ctx current place =
-    next (alt MatchingMode.Check ctx current OptBlock.None place) (λ c.
+    next (alt MatchingMode.Check ctx current None place) (λ c.
     in_check mode (ok c)
-    (next (alt mode c.ctx c.then OptBlock.None place) (λ b. out b.ctx b.then c.else)))
+    (next (alt mode c.ctx c.then None place) (λ b. out b.ctx b.then c.else)))
 
 unfoldable pub alternatives : ℕ → List Lowering → MatchingMode → Ctx → BasicBlockId → BasicBlockId → Place → Walk Alternatives
-alternatives p [] mode ctx join current place = ok (record { ctx = ctx; left = OptBlock.Some current })
+alternatives p [] mode ctx join current place = ok (record { ctx = ctx; left = Some current })
 alternatives p (alt ∷ alts) mode ctx join current place =
     next (alternative alt mode ctx current place) (λ r.
     behind r.else (with_state r.ctx (set_goto r.ctx.state r.then join)) (λ b.
@@ -58,11 +59,11 @@ unfoldable pub alternatives_end : ℕ → MatchingMode → Alternatives → Basi
 alternatives_end p mode alts join else = ended alts.left
   where
     ended : OptBlock → Walk Out
-    ended OptBlock.None = out alts.ctx join else
-    ended (OptBlock.Some b) =
+    ended None = out alts.ctx join else
+    ended (Some b) =
         in_check mode
         (step p (else_state alts.ctx.state else) (λ st.
-        out (with_state alts.ctx (set_goto st b (else_block alts.ctx.state else))) join (OptBlock.Some (else_block alts.ctx.state else))))
+        out (with_state alts.ctx (set_goto st b (else_block alts.ctx.state else))) join (Some (else_block alts.ctx.state else))))
         (out (with_state alts.ctx (set_terminator alts.ctx.state b Terminator.Unreachable)) join else)
 
 unfoldable pub or_pattern : ℕ → List Lowering → Lowering
@@ -166,8 +167,8 @@ module _ (image bindings : List ℕ) where
 
   -- `pattern_match_assignment`: it is walked in Assign, with no else
   unfoldable pub pattern_match_assignment : Pat → Ctx → BasicBlockId → Place → Walk Out
-  pattern_match_assignment pat ctx current place = pattern_match_inner pat MatchingMode.Assign ctx current OptBlock.None place
+  pattern_match_assignment pat ctx current place = pattern_match_inner pat MatchingMode.Assign ctx current None place
 
   -- `match_self_param`: a binding is filled with a copy of a local
   unfoldable pub match_self_param : ℕ → Ctx → BasicBlockId → LocalId → Walk Out
-  match_self_param b ctx current l = pattern_match_binding bindings no_pattern no_pattern b BindingMode.Value ctx current OptBlock.None (local_place l)
+  match_self_param b ctx current l = pattern_match_binding bindings no_pattern no_pattern b BindingMode.Value ctx current None (local_place l)

@@ -1,5 +1,6 @@
 -- Slice patterns: a slice's length is tested, an array's never; then the items in front, the rest's binding, and the items at the end.
 -- Assumes nothing: these are definitions.
+use Rattle.std.specs.Prelude.{Some}
 use Rattle.std.specs.Prelude.{ℕ, ◌+◌, ◌-◌, List, map, length}
 use Rattle.image.specs.declared.kinds.BindingMode.{BindingMode}
 use Rattle.image.specs.Lists.{up_from}
@@ -17,7 +18,7 @@ use Rattle.mir.specs.declared.rvalues.PlaceRvalue.{PlaceRvalue}
 use Rattle.mir.specs.Rvalues.{place_rvalue_row}
 use Rattle.state.specs.State.{State}
 use Rattle.state.specs.Steps.{next_block, next_local, try_block, try_statement, set_terminator}
-use Rattle.lower_spec.specs.declared.merging.OptBlock.{OptBlock}
+use Rattle.lower_spec.specs.Results.{OptBlock}
 use Rattle.lower_spec.specs.Temps.{temp}
 use Rattle.pattern_matching.specs.Walking.{Ctx, Out, Walk, refused, Lowering, next, step, out, with_state, project, local_place, else_state, else_block, in_check}
 use Rattle.pattern_matching.specs.Tests.{usize_word, compare, pattern_match_binding}
@@ -36,7 +37,7 @@ length_constant n = record { count = 8; ty = usize_word; offset = 0; low = n; hi
 -- the end of the length's test, where the local len holds it: exactly n without a rest, and at least n with one
 unfoldable pub length_compared : RestOf → List ℕ → ℕ → ℕ → Ctx → State → State → BasicBlockId → BasicBlockId → BasicBlockId → Walk Out
 length_compared none image p n ctx st₀ st current then else =
-    out (with_state ctx (set_terminator st current (Terminator.Switch (next_local st₀) n 0 then else))) then (OptBlock.Some else)
+    out (with_state ctx (set_terminator st current (Terminator.Switch (next_local st₀) n 0 then else))) then (Some else)
 length_compared (binds q b how) image p n ctx st₀ st current then else =
     compare image p BinOp.Le (Left.Constant (length_constant n)) (local_place (next_local st₀)) ctx st current then else
 length_compared ignores image p n ctx st₀ st current then else =

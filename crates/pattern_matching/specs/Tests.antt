@@ -1,4 +1,5 @@
 -- The tests: literals, constants, ranges, and what a binding is filled with. Assumes nothing: these are definitions.
+use Rattle.std.specs.Prelude.{Some}
 use Rattle.std.specs.Prelude.{ℕ, List}
 use Rattle.std.proofs.Math.Option.{Option, none, some}
 use Rattle.image.specs.declared.kinds.BindingMode.{BindingMode}
@@ -17,7 +18,7 @@ use Rattle.mir.specs.Rvalues.{place_rvalue_row, constant_row, binary_row}
 use Rattle.state.specs.State.{State}
 use Rattle.state.specs.Steps.{next_block, next_local, try_block, try_statement, set_terminator}
 use Rattle.literals.specs.Literals.{lower_literal_to_operand, lower_const_to_operand, lower_literal_or_const_to_operand}
-use Rattle.lower_spec.specs.declared.merging.OptBlock.{OptBlock}
+use Rattle.lower_spec.specs.Results.{OptBlock}
 use Rattle.lower_spec.specs.Temps.{temp, binding_local, push_storage_live_for_local}
 use Rattle.pattern_matching.specs.declared.MatchingMode.{MatchingMode}
 use Rattle.pattern_matching.specs.Walking.{Ctx, Out, Walk, refused, Lowering, step, out, with_state, else_state, else_block, in_check}
@@ -38,7 +39,7 @@ unfoldable pub compare : List ℕ → ℕ → BinOp → Left → Place → Ctx �
 compare image p op left place ctx st current then else =
     step p (temp image st bool_word current) (λ st₁.
     step p (try_statement st₁ (binary_row current (next_local st) op left place)) (λ st₂.
-    out (with_state ctx (if_true st₂ current (next_local st) then else)) then (OptBlock.Some else)))
+    out (with_state ctx (if_true st₂ current (next_local st) then else)) then (Some else)))
 
 -- `pattern_match_const`: `then` is made before an else
 unfoldable pub pattern_match_const : List ℕ → ℕ → Constant → Ctx → BasicBlockId → OptBlock → Place → Walk Out
@@ -76,7 +77,7 @@ constant_path image p ty operand mode ctx current else place =
     step p (try_statement st₃ (binary_row current (next_local st₂) BinOp.Eq (Left.Local (next_local ctx.state)) place)) (λ st₄.
     step p (try_block st₄) (λ st₅.
     step p (else_state st₅ else) (λ st₆.
-    out (with_state ctx (if_true st₆ current (next_local st₂) (next_block st₄) (else_block st₅ else))) (next_block st₄) (OptBlock.Some (else_block st₅ else)))))))))
+    out (with_state ctx (if_true st₆ current (next_local st₂) (next_block st₄) (else_block st₅ else))) (next_block st₄) (Some (else_block st₅ else)))))))))
     (out ctx current else)
 
 -- one end of a range: an else is made before the block that goes on

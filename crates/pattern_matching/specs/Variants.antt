@@ -1,4 +1,5 @@
 -- Structs, enums and tuples: the type of the place is looked at, an enum is tested, and the fields are walked. Assumes nothing: these are definitions.
+use Rattle.std.specs.Prelude.{Some}
 use Rattle.std.specs.Prelude.{ℕ, ◌%◌, ◌/◌, Bool, cond, List, [], ◌∷◌, map, reverse, ltb, leb, length, take, drop, get_or}
 use Rattle.std.proofs.Math.Option.{Option, none, some}
 use Rattle.image.specs.declared.kinds.AdtKind.{AdtKind}
@@ -19,7 +20,7 @@ use Rattle.mir.specs.Locals.{local_ty}
 use Rattle.mir.specs.Rvalues.{place_rvalue_row}
 use Rattle.state.specs.State.{State}
 use Rattle.state.specs.Steps.{next_block, next_local, try_block, try_statement, set_terminator}
-use Rattle.lower_spec.specs.declared.merging.OptBlock.{OptBlock}
+use Rattle.lower_spec.specs.Results.{OptBlock}
 use Rattle.lower_spec.specs.Temps.{discr_temp_place}
 use Rattle.pattern_matching.specs.Walking.{Ctx, Out, Walk, refused, Lowering, next, step, out, with_state, project, else_state, else_block, in_check}
 
@@ -127,7 +128,7 @@ discriminant_test image p v ctx current else place =
     step p (try_statement st₁ (place_rvalue_row current (next_local ctx.state) PlaceRvalue.Discr place)) (λ st₂.
     step p (try_block st₂) (λ st₃.
     step p (else_state st₃ else) (λ st₄.
-    out (with_state ctx (set_terminator st₄ current (discriminant_switch image v (next_local ctx.state) (next_block st₂) (else_block st₃ else)))) (next_block st₂) (OptBlock.Some (else_block st₃ else))))))
+    out (with_state ctx (set_terminator st₄ current (discriminant_switch image v (next_local ctx.state) (next_block st₂) (else_block st₃ else)))) (next_block st₂) (Some (else_block st₃ else))))))
 
 -- a variant of a struct, an enum or a union
 unfoldable pub variant_on : AdtKind → List ℕ → ℕ → ℕ → AdtPatternShape → Lowering

@@ -1,4 +1,5 @@
 -- The walk over a pattern: what it carries along, what it gives, and its steps. Assumes nothing: these are definitions.
+use Rattle.std.specs.Prelude.{Some, None}
 use Rattle.std.specs.Prelude.{ℕ, zero, suc, ◌+◌, cond, List, [], ◌∷◌, ltb, get_or, set}
 use Rattle.refusals.specs.declared.MirLowerError.{MirLowerError}
 use Rattle.refusals.specs.Refusals.{Result}
@@ -10,7 +11,7 @@ use Rattle.place.specs.Places.{onward}
 use Rattle.mir.specs.declared.BasicBlockId.{BasicBlockId}
 use Rattle.state.specs.State.{State}
 use Rattle.state.specs.Steps.{next_block, try_block}
-use Rattle.lower_spec.specs.declared.merging.OptBlock.{OptBlock}
+use Rattle.lower_spec.specs.Results.{OptBlock}
 use Rattle.pattern_matching.specs.declared.MatchingMode.{MatchingMode}
 
 -- what the walk carries along: the body and its scopes, and how often each pattern was visited, by its number
@@ -64,13 +65,13 @@ local_place l = record { local = l; len = 0; elems = 0 ∷ 0 ∷ 0 ∷ 0 ∷ 0 �
 
 -- the else that there is, or a new block
 unfoldable pub else_state : State → OptBlock → Result State
-else_state st (OptBlock.Some b) = done st
-else_state st OptBlock.None = try_block st
+else_state st (Some b) = done st
+else_state st None = try_block st
 
 -- its number
 unfoldable pub else_block : State → OptBlock → BasicBlockId
-else_block st (OptBlock.Some b) = b
-else_block st OptBlock.None = next_block st
+else_block st (Some b) = b
+else_block st None = next_block st
 
 -- a pattern is entered: it is visited once more, and its derefs are appended to the place before its kind is looked at
 unfoldable pub derefed : ℕ → Place → (Place → Walk Out) → ℕ → Walk Out

@@ -14,12 +14,9 @@ pub enum MatchingMode {
 }
 
 // A walk in Check, the one that tests.
+#[tactic(auto, unfolding(crate::specs::Modes::is_check))]
 pub fn is_check(mode: MatchingMode) -> bool
     ensures { result ≡ is_check mode }
 {
-    match mode {
-        MatchingMode::Check => true,
-        MatchingMode::Bind => false,
-        MatchingMode::Assign => false,
-    }
+    matches!(mode, MatchingMode::Check)
 }

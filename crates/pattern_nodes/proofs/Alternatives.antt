@@ -1,4 +1,5 @@
 -- Alternatives one after the other, by the rows of the image. Assumes nothing.
+use Rattle.std.specs.Prelude.{Some, None}
 use Prim.Native.Nat.{ℕ, suc, ◌+◌, ◌-◌, ◌≤◌, ◌<◌}
 use mathlib.Core.Path.{◌≡◌, refl, ap, ap₂, ◌∙◌}
 use mathlib.Core.List.{List}
@@ -9,7 +10,7 @@ use Rattle.image.specs.Tree.{tree, trees}
 use Rattle.place.specs.declared.Place.{Place}
 use Rattle.mir.specs.declared.BasicBlockId.{BasicBlockId}
 use Rattle.state.specs.Steps.{next_block, try_block}
-use Rattle.lower_spec.specs.declared.merging.OptBlock.{OptBlock}
+use Rattle.lower_spec.specs.Results.{OptBlock}
 use Rattle.lower_spec.specs.Merging.{set_goto}
 use Rattle.pattern_matching.specs.declared.MatchingMode.{MatchingMode}
 use Rattle.pattern_matching.specs.Walking.{Ctx, Out, Walk, ok, refused, next, step, out, with_state}
@@ -19,8 +20,8 @@ use Rattle.pattern_nodes.specs.Nodes.{alternatives_from}
 
 -- behind an alternative: one that cannot fail is the last, and goes on at `join`; otherwise the next one starts where it does not match
 abbrev pub after_alternative : OptBlock → Ctx → BasicBlockId → OptBlock → (BasicBlockId → Walk Out) → Walk Out
-after_alternative OptBlock.None ctx join els rest = out ctx join els
-after_alternative (OptBlock.Some b) ctx join els rest = rest b
+after_alternative None ctx join els rest = out ctx join els
+after_alternative (Some b) ctx join els rest = rest b
 
 -- a walk, then a second and a third
 next_next : {A B C : Type 0} (w : Walk A) (k : A → Walk B) (l : B → Walk C) → next (next w k) l ≡ next w (λ a. next (k a) l)
@@ -31,13 +32,13 @@ next_next (refused e p) k l = refl
 end_behind : (p : ℕ) (mode : MatchingMode) (ctx : Ctx) (join : BasicBlockId) (els left : OptBlock) (rest : BasicBlockId → Walk Alternatives) →
     next (behind left ctx rest) (λ r. alternatives_end p mode r join els) ≡ after_alternative left ctx join els (λ b. next (rest b) (λ r. alternatives_end p mode r join els))
 unfolding alternatives_end
-end_behind p mode ctx join els OptBlock.None rest = refl
-end_behind p mode ctx join els (OptBlock.Some b) rest = refl
+end_behind p mode ctx join els None rest = refl
+end_behind p mode ctx join els (Some b) rest = refl
 
 module _ (image bindings : List ℕ) (p : ℕ) (mode : MatchingMode) (join current : BasicBlockId) (els : OptBlock) (place : Place) where
   -- no alternative
   pub no_alternative : (from : ℕ) (ctx : Ctx) →
-      alternatives_from image bindings p from 0 mode ctx join current els place ≡ alternatives_end p mode (record { ctx = ctx; left = OptBlock.Some current }) join els
+      alternatives_from image bindings p from 0 mode ctx join current els place ≡ alternatives_end p mode (record { ctx = ctx; left = Some current }) join els
   unfolding alternatives_from alternatives lowered lowerings trees listed
   no_alternative from ctx = refl
 
@@ -64,7 +65,7 @@ module _ (image bindings : List ℕ) (p : ℕ) (mode : MatchingMode) (join curre
 
   -- none
   pub alternatives_none : (from count i : ℕ) → count ≤ i → (ctx : Ctx) →
-      alternatives_from image bindings p (from + i) (count - i) mode ctx join current els place ≡ alternatives_end p mode (record { ctx = ctx; left = OptBlock.Some current }) join els
+      alternatives_from image bindings p (from + i) (count - i) mode ctx join current els place ≡ alternatives_end p mode (record { ctx = ctx; left = Some current }) join els
   alternatives_none from count i h ctx = let e : count - i ≡ 0 = omega arith in rw e (no_alternative (from + i) ctx)
 
   -- or one more

@@ -14,7 +14,7 @@ use Rattle.image.specs.Tree.{tree, target, node_by, node}
 use Rattle.image.proofs.Trees.{tree_node}
 use Rattle.place.specs.declared.Place.{Place}
 use Rattle.mir.specs.declared.BasicBlockId.{BasicBlockId}
-use Rattle.lower_spec.specs.declared.merging.OptBlock.{OptBlock}
+use Rattle.lower_spec.specs.Results.{OptBlock}
 use Rattle.pattern_matching.specs.declared.MatchingMode.{MatchingMode}
 use Rattle.pattern_matching.specs.Walking.{Ctx, Lowering, entered}
 use Rattle.pattern_matching.specs.Patterns.{path_pattern, pattern_match_inner}

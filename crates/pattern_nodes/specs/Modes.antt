@@ -1,10 +1,11 @@
 -- What a pattern with subpatterns does itself, besides walking them. Assumes nothing: these are definitions.
+use Rattle.std.specs.Prelude.{Some}
 use Rattle.std.specs.Prelude.{ℕ, List}
 use Rattle.image.specs.declared.kinds.BindingMode.{BindingMode}
 use Rattle.image.specs.Types.{Shape, integer, bool, char, str, tuple, adt, reference, array, slice, unknown}
 use Rattle.refusals.specs.declared.MirLowerError.{MirLowerError}
 use Rattle.mir.specs.declared.BasicBlockId.{BasicBlockId}
-use Rattle.lower_spec.specs.declared.merging.OptBlock.{OptBlock}
+use Rattle.lower_spec.specs.Results.{OptBlock}
 use Rattle.pattern_matching.specs.declared.MatchingMode.{MatchingMode}
 use Rattle.pattern_matching.specs.Walking.{Ctx, Out, Walk, refused, Lowering, out, in_check}
 use Rattle.pattern_matching.specs.Tests.{pattern_match_binding}
@@ -35,4 +36,4 @@ bound bindings p b how mode ctx current els place = in_check mode (out ctx curre
 
 -- the end of alternatives that all can fail
 abbrev pub alternatives_left : ℕ → MatchingMode → Ctx → BasicBlockId → BasicBlockId → OptBlock → Walk Out
-alternatives_left p mode ctx left join els = alternatives_end p mode (record { ctx = ctx; left = OptBlock.Some left }) join els
+alternatives_left p mode ctx left join els = alternatives_end p mode (record { ctx = ctx; left = Some left }) join els

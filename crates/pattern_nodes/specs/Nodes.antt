@@ -7,7 +7,7 @@ use Rattle.image.specs.Types.{ty_of}
 use Rattle.image.specs.Tree.{tree, tree?, word?, target}
 use Rattle.place.specs.declared.Place.{Place}
 use Rattle.mir.specs.declared.BasicBlockId.{BasicBlockId}
-use Rattle.lower_spec.specs.declared.merging.OptBlock.{OptBlock}
+use Rattle.lower_spec.specs.Results.{OptBlock}
 use Rattle.pattern_matching.specs.declared.MatchingMode.{MatchingMode}
 use Rattle.pattern_matching.specs.Walking.{Ctx, Out, Walk, Lowering, next}
 use Rattle.pattern_matching.specs.Variants.{pattern_match_adt, tuple_pattern, ref_pattern, variant_pattern}

@@ -11,13 +11,6 @@ use parsing_steps::{ParseState, ParseStep};
 use spelled_names::NAME_BYTES;
 use token_parsing::read_token;
 
-// How many nodes a text has, or the byte at which it fails.
-#[derive(Clone, Copy)]
-pub enum Parsed {
-    Nodes(usize),
-    FailsAt(u16),
-}
-
 // Before the first token.
 fn fresh() -> ParseState
     ensures { result ≡ fresh_state }
@@ -42,7 +35,7 @@ fn parse_tokens(
     nodes: &mut [u16; NODE_WORDS],
     stack: &mut [u16; NODE_WORDS],
     names: &mut [u8; NAME_BYTES],
-) -> Parsed
+) -> Result<usize, u16>
     requires { length text.now ≤ 16384 }
     ensures { ParsesTo text.now result names.new nodes.new }
 {
@@ -56,8 +49,8 @@ fn parse_tokens(
         let step = read.step;
         match step {
             ParseStep::Going(q) => p = q,
-            ParseStep::Ended(n) => return Parsed::Nodes(n),
-            ParseStep::Halted(place) => return Parsed::FailsAt(place),
+            ParseStep::Ended(n) => return Ok(n),
+            ParseStep::Halted(place) => return Err(place),
         }
     }
 }
@@ -68,11 +61,11 @@ pub fn parse_pattern(
     nodes: &mut [u16; NODE_WORDS],
     stack: &mut [u16; NODE_WORDS],
     names: &mut [u8; NAME_BYTES],
-) -> Parsed
+) -> Result<usize, u16>
     ensures { ParsesTo text.now result names.new nodes.new }
 {
     if 16384 < text.len() {
-        return Parsed::FailsAt(16384);
+        return Err(16384);
     }
     parse_tokens(text, nodes, stack, names)
 }

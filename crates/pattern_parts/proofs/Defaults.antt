@@ -1,7 +1,7 @@
 -- What a default arm answers, for each kind that it stands for. Assumes nothing.
+use Rattle.std.specs.Prelude.{None, Ok}
 use Prim.Native.Nat.{ℕ}
 use mathlib.Core.Path.{◌≡◌, refl}
-use mathlib.Core.Bool.{false}
 use mathlib.Core.Option.{some}
 use mathlib.Core.List.{List, [], ◌∷◌}
 use types.Run.{OneOf, miss}
@@ -10,23 +10,20 @@ use Rattle.refusals.specs.declared.MirLowerError.{MirLowerError}
 use Rattle.refusals.specs.Refusals.{stopped}
 use Rattle.image.specs.declared.kinds.AdtKind.{AdtKind}
 use Rattle.image.specs.declared.kinds.BindingMode.{BindingMode}
-use Rattle.image.specs.declared.kinds.PatKind.{PatKind}
 use Rattle.image.specs.declared.kinds.TypeKind.{TypeKind}
 use Rattle.image.specs.declared.rows.TypeRow.{TypeRow}
 use Rattle.image.specs.Types.{shape_by}
 use Rattle.image.specs.contracts.kinds.AdtKind as adt_kind_lem
 use Rattle.image.specs.contracts.kinds.BindingMode as binding-mode
-use Rattle.image.specs.contracts.kinds.PatKind as pat-kind
 use Rattle.image.specs.contracts.kinds.TypeKind as type-kind
 use Rattle.place.specs.declared.place_ty.PlaceTy.{PlaceTy}
 use Rattle.place.specs.contracts.place_ty.PlaceTy as place-ty
 use Rattle.mir.specs.declared.rvalues.PlaceRvalue.{PlaceRvalue}
 use Rattle.pattern_matching.specs.Tests.{binding_rvalue}
-use Rattle.pattern_parts.specs.declared.adts.NeededTy.{NeededTy}
-use Rattle.pattern_parts.specs.Parts.{needed_ty, tuple_at, reference_at, adt_taken, adt_at, is_bind}
+use Rattle.pattern_parts.specs.Parts.{needed_ty, tuple_at, reference_at, adt_taken, adt_at}
 
 -- `needed_ty`
-pub not_needed : (kind : PlaceTy) → OneOf (2 ∷ 3 ∷ 4 ∷ 5 ∷ []) (Declared.tag_of place-ty.the_type kind) → NeededTy.Other ≡ needed_ty kind
+pub not_needed : (kind : PlaceTy) → OneOf (2 ∷ 3 ∷ 4 ∷ 5 ∷ []) (Declared.tag_of place-ty.the_type kind) → Ok None ≡ needed_ty kind
 unfolding needed_ty
 not_needed (PlaceTy.Ty t) h = absurd (miss (2 ∷ 3 ∷ 4 ∷ 5 ∷ []) 0 tt h)
 not_needed (PlaceTy.Variant e v) h = absurd (miss (2 ∷ 3 ∷ 4 ∷ 5 ∷ []) 1 tt h)
@@ -84,28 +81,6 @@ not_taken AdtKind.Struct h = absurd (miss (2 ∷ 3 ∷ []) 0 tt h)
 not_taken AdtKind.Enum h = absurd (miss (2 ∷ 3 ∷ []) 1 tt h)
 not_taken AdtKind.Union h = refl
 not_taken AdtKind.Unknown h = refl
-
--- `is_bind`
-pub no_bind : (kind : PatKind) → OneOf (0 ∷ 1 ∷ 2 ∷ 3 ∷ 4 ∷ 5 ∷ 6 ∷ 7 ∷ 8 ∷ 9 ∷ 10 ∷ 12 ∷ 13 ∷ 14 ∷ 15 ∷ 16 ∷ 17 ∷ []) (Declared.tag_of pat-kind.the_type kind) → false ≡ is_bind kind
-unfolding is_bind
-no_bind PatKind.Missing h = refl
-no_bind PatKind.Rest h = refl
-no_bind PatKind.NotNull h = refl
-no_bind PatKind.Wild h = refl
-no_bind PatKind.Tuple h = refl
-no_bind PatKind.Or h = refl
-no_bind PatKind.Record h = refl
-no_bind PatKind.Range h = refl
-no_bind PatKind.Slice h = refl
-no_bind PatKind.Path h = refl
-no_bind PatKind.Lit h = refl
-no_bind PatKind.Bind h = absurd (miss (0 ∷ 1 ∷ 2 ∷ 3 ∷ 4 ∷ 5 ∷ 6 ∷ 7 ∷ 8 ∷ 9 ∷ 10 ∷ 12 ∷ 13 ∷ 14 ∷ 15 ∷ 16 ∷ 17 ∷ []) 11 tt h)
-no_bind PatKind.TupleStruct h = refl
-no_bind PatKind.Ref h = refl
-no_bind PatKind.Expr h = refl
-no_bind PatKind.Box h = refl
-no_bind PatKind.Deref h = refl
-no_bind PatKind.Unknown h = refl
 
 -- `binding_rvalue`
 pub by_value_lem : (kind : BindingMode) → OneOf (0 ∷ 3 ∷ []) (Declared.tag_of binding-mode.the_type kind) → PlaceRvalue.Copy ≡ binding_rvalue kind

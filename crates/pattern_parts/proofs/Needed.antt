@@ -20,7 +20,7 @@ use Rattle.place.specs.declared.Place.{Place}
 use Rattle.place.specs.declared.elems.ProjectionElem.{ProjectionElem}
 use Rattle.place.proofs.Fields.{length_listed}
 use Rattle.mir.specs.declared.BasicBlockId.{BasicBlockId}
-use Rattle.lower_spec.specs.declared.merging.OptBlock.{OptBlock}
+use Rattle.lower_spec.specs.Results.{OptBlock}
 use Rattle.pattern_matching.specs.declared.MatchingMode.{MatchingMode}
 use Rattle.pattern_matching.specs.Walking.{Ctx, refused, Lowering, step, project}
 use Rattle.pattern_matching.specs.Variants.{needed, pattern_match_tuple_like, ellipsis_at, tuple_on, ref_on, AdtPatternShape, resolved, variant_on, adt_on}

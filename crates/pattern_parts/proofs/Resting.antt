@@ -1,4 +1,5 @@
 -- A Slice's rest, by the ways through the code. Assumes nothing.
+use Rattle.std.specs.Prelude.{Ok}
 use mathlib.Core.Path.{◌≡◌, refl, sym, ap, ◌∙◌}
 use mathlib.Core.Bool.{true, false, cond, ◌&&◌, ◌||◌, false≢true}
 use mathlib.Core.List.{List}
@@ -23,13 +24,13 @@ use Rattle.place.specs.declared.Place.{Place}
 use Rattle.mir.specs.declared.BasicBlockId.{BasicBlockId}
 use Rattle.mir.specs.declared.Counts.{Counts}
 use Rattle.state.specs.State.{Body}
-use Rattle.lower_spec.specs.declared.merging.OptBlock.{OptBlock}
+use Rattle.lower_spec.specs.Results.{OptBlock}
 use Rattle.pattern_matching.specs.declared.MatchingMode.{MatchingMode}
 use Rattle.pattern_matching.specs.Modes.{is_check}
 use Rattle.pattern_matching.specs.Walking.{Ctx, Out, Walk, out}
 use Rattle.pattern_matching.specs.Slices.{RestOf, rest_bound}
 use Rattle.pattern_matching.specs.Patterns.{rest_by, rest_of}
-use Rattle.pattern_walk_spec.specs.declared.Lowered.{Lowered}
+use Rattle.pattern_walk_spec.specs.Results.{Lowered}
 use Rattle.pattern_walk_spec.specs.Answers.{Begins, Lowers}
 use Rattle.pattern_walk_spec.proofs.Sequences.{lowers_skips, lowers_by}
 use Rattle.pattern_parts.specs.Parts.{is_bind, rest_filled}
@@ -107,12 +108,12 @@ module _ (image bindings : List ℕ) (b₀ : Body) (c : Counts) (mode : Matching
   Bound = Lowers (by (rest_of (tree? (tree image) rest))) c current els b₀
 
   -- there is no rest
-  pub rest_none : Begins c current els → rest ≡ 65535 → Bound (Lowered.Done c current els) b₀
+  pub rest_none : Begins c current els → rest ≡ 65535 → Bound (Ok (c, current, els)) b₀
   unfolding rest_of tree? rest_bound
   rest_none start e = lowers_skips (λ ctx. rw (eq-eqb rest 65535 e) refl) start
 
   -- in Check
-  pub rest_in_check : Begins c current els → is_check mode ≡ true → Bound (Lowered.Done c current els) b₀
+  pub rest_in_check : Begins c current els → is_check mode ≡ true → Bound (Ok (c, current, els)) b₀
   rest_in_check start e = lowers_skips (λ ctx. same mode e (rest_of (tree? (tree image) rest)) ctx) start
     where
       same : (mode : MatchingMode) → is_check mode ≡ true → (x : RestOf) (ctx : Ctx) → out ctx current els ≡ rest_bound x bindings p.0 front end mode ctx current els place
@@ -124,7 +125,7 @@ module _ (image bindings : List ℕ) (b₀ : Body) (c : Counts) (mode : Matching
 
   module _ (v : valid image ≡ true) (there : rest < pattern_count image) (present : rest ≡ 65535 → ⊥) {row : PatRow} (at : row ≡ pat_at image rest) where
     -- a rest that does not bind
-    pub rest_ignored : Begins c current els → is_bind (pat_kind row.kind) ≡ false → Bound (Lowered.Done c current els) b₀
+    pub rest_ignored : Begins c current els → is_bind (pat_kind row.kind) ≡ false → Bound (Ok (c, current, els)) b₀
     unfolding rest_bound
     rest_ignored start e = lowers_skips (λ ctx. rw (rest_is_lem image rest v there at present, e) refl) start
 

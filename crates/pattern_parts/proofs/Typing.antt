@@ -1,4 +1,5 @@
 -- The type at a place, by the ways through the code. Assumes nothing.
+use Rattle.std.specs.Prelude.{Some, None, Ok, Err}
 use Prim.Native.Nat.{ℕ, suc, ◌+◌, ◌*◌, ◌-◌, ◌≤◌, ◌<◌}
 use mathlib.Core.Path.{◌≡◌, refl, ap, ◌∙◌}
 use mathlib.Core.Bool.{Bool, true, false, ◌&&◌}
@@ -25,7 +26,6 @@ use Rattle.place.specs.Places.{projection_of}
 use Rattle.place.specs.PlaceTypes.{projection_ty, multi_projection_ty, Named}
 use Rattle.place.proofs.Named.{named_projection}
 use Rattle.pattern_matching.specs.Variants.{shape_of}
-use Rattle.pattern_parts.specs.declared.adts.NeededTy.{NeededTy}
 use Rattle.pattern_parts.specs.Parts.{needed_ty, tuple_at, reference_at, adt_at, fields_there}
 
 -- the numbers of a place's type name entries, however far the projection goes
@@ -41,7 +41,7 @@ place_typed image place {root = root} {ty = ty} same is v h =
     let typed = is ∙ ap (λ (t : PlaceTy). multi_projection_ty image t (projection_of place)) same in (typed, rw typed (named_multi image root (projection_of place) v h))
 
 -- a type of the table is there
-pub needed_named : (image : List ℕ) (ty : PlaceTy) {t : ℕ} → NeededTy.Ty t ≡ needed_ty ty → Named image ty → t < type_count image
+pub needed_named : (image : List ℕ) (ty : PlaceTy) {t : ℕ} → Ok (Some t) ≡ needed_ty ty → Named image ty → t < type_count image
 unfolding needed_ty
 needed_named image (PlaceTy.Ty u) {t = t} e h = let same : t ≡ u = cc in rw same h
 needed_named image (PlaceTy.Variant u v) {t = t} e h = let same : t ≡ u = cc in rw same h.0
@@ -52,7 +52,7 @@ needed_named image PlaceTy.I128 e h = let z : ◌≡◌ {A = ℕ} 0 1 = cc in ab
 needed_named image PlaceTy.Inapplicable e h = let z : ◌≡◌ {A = ℕ} 0 1 = cc in absurd (omega arith)
 
 -- what the type at a place is, where it is one of the table
-shape_there : (image : List ℕ) (ty : PlaceTy) {t : ℕ} → NeededTy.Ty t ≡ needed_ty ty → shape_of image ty ≡ some (ty_of image t).shape
+shape_there : (image : List ℕ) (ty : PlaceTy) {t : ℕ} → Ok (Some t) ≡ needed_ty ty → shape_of image ty ≡ some (ty_of image t).shape
 unfolding needed_ty shape_of
 shape_there image (PlaceTy.Ty u) {t = t} e = let same : t ≡ u = cc in rw same refl
 shape_there image (PlaceTy.Variant u v) {t = t} e = let same : t ≡ u = cc in rw same refl
@@ -63,13 +63,24 @@ shape_there image PlaceTy.I128 e = let z : ◌≡◌ {A = ℕ} 0 1 = cc in absur
 shape_there image PlaceTy.Inapplicable e = let z : ◌≡◌ {A = ℕ} 0 1 = cc in absurd (omega arith)
 
 -- the same by its row
-pub shape_known : (image : List ℕ) (ty : PlaceTy) {t : ℕ} {row : TypeRow} {kind : TypeKind} → NeededTy.Ty t ≡ needed_ty ty → row ≡ type_at image t → kind ≡ type_kind row.kind →
+pub shape_known : (image : List ℕ) (ty : PlaceTy) {t : ℕ} {row : TypeRow} {kind : TypeKind} → Ok (Some t) ≡ needed_ty ty → row ≡ type_at image t → kind ≡ type_kind row.kind →
     shape_of image ty ≡ some (shape_by kind image row)
 unfolding ty_of
 shape_known image ty is at of = rw (of, at) (shape_there image ty is)
 
--- a projection does not apply
-pub shape_none : (image : List ℕ) (ty : PlaceTy) → NeededTy.Inapplicable ≡ needed_ty ty → shape_of image ty ≡ none
+-- a projection does not apply, and that is what is refused
+pub needed_refused : (ty : PlaceTy) {e : MirLowerError} → Err e ≡ needed_ty ty → e ≡ MirLowerError.PlaceType
+unfolding needed_ty
+needed_refused (PlaceTy.Ty u) h = let z : ◌≡◌ {A = ℕ} 0 1 = cc in absurd (omega arith)
+needed_refused (PlaceTy.Variant u v) h = let z : ◌≡◌ {A = ℕ} 0 1 = cc in absurd (omega arith)
+needed_refused (PlaceTy.Part u) h = let z : ◌≡◌ {A = ℕ} 0 1 = cc in absurd (omega arith)
+needed_refused PlaceTy.Bool h = let z : ◌≡◌ {A = ℕ} 0 1 = cc in absurd (omega arith)
+needed_refused PlaceTy.Usize h = let z : ◌≡◌ {A = ℕ} 0 1 = cc in absurd (omega arith)
+needed_refused PlaceTy.I128 h = let z : ◌≡◌ {A = ℕ} 0 1 = cc in absurd (omega arith)
+needed_refused PlaceTy.Inapplicable h = cc
+
+-- no type of the table is there
+pub shape_none : (image : List ℕ) (ty : PlaceTy) {e : MirLowerError} → Err e ≡ needed_ty ty → shape_of image ty ≡ none
 unfolding needed_ty shape_of
 shape_none image (PlaceTy.Ty u) e = let z : ◌≡◌ {A = ℕ} 0 1 = cc in absurd (omega arith)
 shape_none image (PlaceTy.Variant u v) e = let z : ◌≡◌ {A = ℕ} 0 1 = cc in absurd (omega arith)
@@ -85,7 +96,7 @@ pub record Other (s : Option Shape) : Type 0 where
   pub no_reference : reference_at s ≡ stopped (MirLowerError.TypeError 3)
   pub no_adt : (v : ℕ) → adt_at s v ≡ stopped (MirLowerError.TypeError 4)
 
-pub shape_other : (image : List ℕ) (ty : PlaceTy) → NeededTy.Other ≡ needed_ty ty → Other (shape_of image ty)
+pub shape_other : (image : List ℕ) (ty : PlaceTy) → Ok None ≡ needed_ty ty → Other (shape_of image ty)
 unfolding needed_ty shape_of tuple_at reference_at adt_at
 shape_other image (PlaceTy.Ty u) e = let z : ◌≡◌ {A = ℕ} 0 1 = cc in absurd (omega arith)
 shape_other image (PlaceTy.Variant u v) e = let z : ◌≡◌ {A = ℕ} 0 1 = cc in absurd (omega arith)

@@ -1,4 +1,5 @@
 -- What a walk does besides testing, cut where the code is cut. Assumes nothing: these are definitions.
+use Rattle.std.specs.Prelude.{Some, None, Ok, Err}
 use Rattle.std.specs.Prelude.{ℕ, Bool, true, false, cond, List, ltb, length}
 use Rattle.std.proofs.Math.Option.{Option, none, some}
 use Rattle.image.specs.declared.kinds.AdtKind.{AdtKind}
@@ -14,23 +15,21 @@ use Rattle.place.specs.declared.Place.{Place}
 use Rattle.place.specs.declared.elems.ProjectionElem.{ProjectionElem}
 use Rattle.place.specs.declared.place_ty.PlaceTy.{PlaceTy}
 use Rattle.mir.specs.declared.BasicBlockId.{BasicBlockId}
-use Rattle.lower_spec.specs.declared.merging.OptBlock.{OptBlock}
+use Rattle.lower_spec.specs.Results.{OptBlock}
 use Rattle.pattern_matching.specs.Walking.{Ctx, Out, Walk, step, project}
 use Rattle.pattern_matching.specs.Tests.{pattern_match_binding}
-use Rattle.pattern_parts.specs.declared.adts.NeededTy.{NeededTy}
-use Rattle.pattern_parts.specs.declared.adts.TupleAt.{TupleAt}
-use Rattle.pattern_parts.specs.declared.adts.ReferenceAt.{ReferenceAt}
-use Rattle.pattern_parts.specs.declared.adts.AdtAt.{AdtAt}
+use Rattle.pattern_parts.specs.Results.{NeededTy, TupleAt, ReferenceAt, AdtAt}
+use Rattle.pattern_parts.specs.declared.adts.VariantOf.{VariantOf}
 
 -- the type of the table at a place
 unfoldable pub needed_ty : PlaceTy → NeededTy
-needed_ty (PlaceTy.Ty t) = NeededTy.Ty t
-needed_ty (PlaceTy.Variant e v) = NeededTy.Ty e
-needed_ty (PlaceTy.Part t) = NeededTy.Other
-needed_ty PlaceTy.Bool = NeededTy.Other
-needed_ty PlaceTy.Usize = NeededTy.Other
-needed_ty PlaceTy.I128 = NeededTy.Other
-needed_ty PlaceTy.Inapplicable = NeededTy.Inapplicable
+needed_ty (PlaceTy.Ty t) = Ok (Some t)
+needed_ty (PlaceTy.Variant e v) = Ok (Some e)
+needed_ty (PlaceTy.Part t) = Ok None
+needed_ty PlaceTy.Bool = Ok None
+needed_ty PlaceTy.Usize = Ok None
+needed_ty PlaceTy.I128 = Ok None
+needed_ty PlaceTy.Inapplicable = Err MirLowerError.PlaceType
 
 -- how many fields the tuple at a place has
 unfoldable pub tuple_at : Option Shape → Result ℕ
@@ -38,8 +37,8 @@ tuple_at none = stopped MirLowerError.PlaceType
 tuple_at (some shape) = if_tuple shape (λ fields. done (length fields)) (stopped (MirLowerError.TypeError 1))
 
 abbrev pub tuple_result : TupleAt → Result ℕ
-tuple_result (TupleAt.Fields n) = done n
-tuple_result (TupleAt.Refused e) = stopped e
+tuple_result (Ok n) = done n
+tuple_result (Err e) = stopped e
 
 -- whether a reference is at a place
 unfoldable pub reference_at : Option Shape → Result Bool
@@ -47,8 +46,8 @@ reference_at none = stopped MirLowerError.PlaceType
 reference_at (some shape) = if_reference shape (λ t. done true) (stopped (MirLowerError.TypeError 3))
 
 abbrev pub reference_result : ReferenceAt → Result Bool
-reference_result ReferenceAt.Reference = done true
-reference_result (ReferenceAt.Refused e) = stopped e
+reference_result (Ok there) = done true
+reference_result (Err e) = stopped e
 
 -- a struct or an enum; a union is refused
 unfoldable pub adt_taken : AdtKind → Result AdtKind
@@ -67,9 +66,9 @@ adt_at none v = stopped MirLowerError.PlaceType
 adt_at (some shape) v = if_adt shape (λ kind variants. adt_has kind variants v) (stopped (MirLowerError.TypeError 4))
 
 abbrev pub adt_result : AdtAt → Result AdtKind
-adt_result AdtAt.Struct = done AdtKind.Struct
-adt_result AdtAt.Enum = done AdtKind.Enum
-adt_result (AdtAt.Refused e) = stopped e
+adt_result (Ok VariantOf.Struct) = done AdtKind.Struct
+adt_result (Ok VariantOf.Enum) = done AdtKind.Enum
+adt_result (Err e) = stopped e
 
 -- each field of a Record is below the count of fields
 unfoldable pub fields_there : List ℕ → ℕ → ℕ → ℕ → Bool

@@ -13,7 +13,7 @@ ghost use Rattle.pattern_parts.specs.Parts.{needed_ty, tuple_at, tuple_result, r
 use body_tables::BODY_WORDS;
 use body_tables::locals::local_word;
 use image::Tables;
-use image::kinds::{AdtKind, TypeKind, adt_kind, type_kind};
+use image::kinds::{AdtKind, TypeKind};
 use image::rows::{list_at, type_at};
 use mir::locals::word_ty;
 use place::Place;
@@ -21,33 +21,11 @@ use place::place_ty::PlaceTy;
 use place_types::multi_projection_ty;
 use refusals::MirLowerError;
 
-// The type at a place: one of the table, none that a pattern could need, or a projection does not apply.
+// Of which sort an ADT that has a variant is.
 #[derive(Clone, Copy)]
-pub enum NeededTy {
-    Ty(u16),
-    Other,
-    Inapplicable,
-}
-
-// The count of a tuple's fields.
-#[derive(Clone, Copy)]
-pub enum TupleAt {
-    Fields(u16),
-    Refused(MirLowerError),
-}
-
-#[derive(Clone, Copy)]
-pub enum ReferenceAt {
-    Reference,
-    Refused(MirLowerError),
-}
-
-// An ADT that has the variant.
-#[derive(Clone, Copy)]
-pub enum AdtAt {
+pub enum VariantOf {
     Struct,
     Enum,
-    Refused(MirLowerError),
 }
 
 // The type at the end of a place.
@@ -59,82 +37,70 @@ pub fn place_ty(image: &[u8], tables: Tables, body: &[u16; BODY_WORDS], place: P
     multi_projection_ty(image, tables, word_ty(local_word(body, place.local)), place)
 }
 
-fn needed_ty(ty: PlaceTy) -> NeededTy
+// The type of the table at a place, or none that a pattern could need; or a projection does not apply.
+fn needed_ty(ty: PlaceTy) -> Result<Option<u16>, MirLowerError>
     ensures { result ≡ needed_ty ty }
 {
     match ty {
-        PlaceTy::Ty(t) => NeededTy::Ty(t),
-        PlaceTy::Variant(e, _) => NeededTy::Ty(e),
-        PlaceTy::Inapplicable => NeededTy::Inapplicable,
-        _ => NeededTy::Other,
+        PlaceTy::Ty(t) => Ok(Some(t)),
+        PlaceTy::Variant(e, _) => Ok(Some(e)),
+        PlaceTy::Inapplicable => Err(MirLowerError::PlaceType),
+        _ => Ok(None),
     }
 }
 
 // A tuple is needed.
-pub fn tuple_at(image: &[u8], tables: Tables, ty: PlaceTy) -> TupleAt
+pub fn tuple_at(image: &[u8], tables: Tables, ty: PlaceTy) -> Result<u16, MirLowerError>
     requires { (valid image.now ≡ true) × Whole image.now tables × Named image.now ty }
     ensures { tuple_result result ≡ tuple_at (shape_of image.now ty) }
 {
-    match needed_ty(ty) {
-        NeededTy::Inapplicable => TupleAt::Refused(MirLowerError::PlaceType),
-        NeededTy::Other => TupleAt::Refused(MirLowerError::TypeError(1)),
-        NeededTy::Ty(t) => {
-            let row = type_at(image, tables, t);
-            match type_kind(row.kind) {
-                TypeKind::Tuple => TupleAt::Fields(row.b),
-                _ => TupleAt::Refused(MirLowerError::TypeError(1)),
-            }
-        }
+    let t = needed_ty(ty)?.ok_or(MirLowerError::TypeError(1))?;
+    let row = type_at(image, tables, t);
+    match TypeKind::from(row.kind) {
+        TypeKind::Tuple => Ok(row.b),
+        _ => Err(MirLowerError::TypeError(1)),
     }
 }
 
 // A reference is needed.
-pub fn reference_at(image: &[u8], tables: Tables, ty: PlaceTy) -> ReferenceAt
+pub fn reference_at(image: &[u8], tables: Tables, ty: PlaceTy) -> Result<(), MirLowerError>
     requires { (valid image.now ≡ true) × Whole image.now tables × Named image.now ty }
     ensures { reference_result result ≡ reference_at (shape_of image.now ty) }
 {
-    match needed_ty(ty) {
-        NeededTy::Inapplicable => ReferenceAt::Refused(MirLowerError::PlaceType),
-        NeededTy::Other => ReferenceAt::Refused(MirLowerError::TypeError(3)),
-        NeededTy::Ty(t) => match type_kind(type_at(image, tables, t).kind) {
-            TypeKind::Reference => ReferenceAt::Reference,
-            _ => ReferenceAt::Refused(MirLowerError::TypeError(3)),
-        },
+    let t = needed_ty(ty)?.ok_or(MirLowerError::TypeError(3))?;
+    match TypeKind::from(type_at(image, tables, t).kind) {
+        TypeKind::Reference => Ok(()),
+        _ => Err(MirLowerError::TypeError(3)),
     }
 }
 
 // An ADT with the `count` variants from `from` on has the variant v.
-fn variant_of(kind: AdtKind, from: u16, count: u16, v: u16) -> AdtAt
+fn variant_of(kind: AdtKind, from: u16, count: u16, v: u16) -> Result<VariantOf, MirLowerError>
     ensures { adt_result result ≡ adt_has kind (up_from from count) v }
 {
     if v < from {
-        return AdtAt::Refused(MirLowerError::TypeError(5));
+        return Err(MirLowerError::TypeError(5));
     }
     if count <= v - from {
-        return AdtAt::Refused(MirLowerError::TypeError(5));
+        return Err(MirLowerError::TypeError(5));
     }
     match kind {
-        AdtKind::Struct => AdtAt::Struct,
-        AdtKind::Enum => AdtAt::Enum,
-        _ => AdtAt::Refused(MirLowerError::TypeError(6)),
+        AdtKind::Struct => Ok(VariantOf::Struct),
+        AdtKind::Enum => Ok(VariantOf::Enum),
+        _ => Err(MirLowerError::TypeError(6)),
     }
 }
 
 // A struct or an enum that has the variant v is needed.
-pub fn adt_at(image: &[u8], tables: Tables, ty: PlaceTy, v: u16) -> AdtAt
+pub fn adt_at(image: &[u8], tables: Tables, ty: PlaceTy, v: u16) -> Result<VariantOf, MirLowerError>
     requires { (valid image.now ≡ true) × Whole image.now tables × Named image.now ty }
     ensures { adt_result result ≡ adt_at (shape_of image.now ty) v }
 {
-    match needed_ty(ty) {
-        NeededTy::Inapplicable => AdtAt::Refused(MirLowerError::PlaceType),
-        NeededTy::Other => AdtAt::Refused(MirLowerError::TypeError(4)),
-        NeededTy::Ty(t) => {
-            let row = type_at(image, tables, t);
-            match type_kind(row.kind) {
-                TypeKind::Adt => variant_of(adt_kind(row.c), row.a, row.b, v),
-                _ => AdtAt::Refused(MirLowerError::TypeError(4)),
-            }
-        }
+    let t = needed_ty(ty)?.ok_or(MirLowerError::TypeError(4))?;
+    let row = type_at(image, tables, t);
+    match TypeKind::from(row.kind) {
+        TypeKind::Adt => variant_of(AdtKind::from(row.c), row.a, row.b, v),
+        _ => Err(MirLowerError::TypeError(4)),
     }
 }
 
@@ -143,12 +109,10 @@ pub fn fields_there(image: &[u8], tables: Tables, from: u16, count: u16, fields:
     requires { (valid image.now ≡ true) × Whole image.now tables × (from + 2 * count ≤ list_count image.now) }
     ensures { result ≡ fields_there image.now from count fields }
 {
-    let mut i = 0u16;
-    while i < count {
+    for i in 0..count {
         if fields <= list_at(image, tables, from + 2 * i) {
             return false;
         }
-        i += 1;
     }
     true
 }

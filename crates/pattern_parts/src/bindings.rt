@@ -15,20 +15,16 @@ use body_assignments::push_assignment;
 use body_live_marks::push_storage_live_for_local;
 use body_locals::binding_local;
 use body_tables::BODY_WORDS;
-use image::kinds::{BindingMode, PatKind, binding_mode, pat_kind};
+use image::kinds::{BindingMode, PatKind};
 use image::rows::pat_at;
 use image::{BindingId, PatId, Tables};
-use lower_spec::merging::OptBlock;
-use lower_spec::temps::BoundLocal;
 use mir::rvalues::PlaceRvalue;
-use mir::scopes::Counted;
 use mir::{BasicBlockId, Counts};
 use pattern_matching::{MatchingMode, is_check};
 use pattern_walk_spec::Lowered;
 use place::elems::ProjectionElem;
 use place::{Place, project};
 use refusals::MirLowerError;
-use state::Stepped;
 
 fn binding_rvalue(how: BindingMode) -> PlaceRvalue
     ensures { result ≡ binding_rvalue how }
@@ -50,28 +46,22 @@ pub fn pattern_match_binding(
     b: BindingId,
     how: BindingMode,
     current: BasicBlockId,
-    els: OptBlock,
+    els: Option<BasicBlockId>,
     place: Place,
 ) -> Lowered
     requires { (b.0 < length bindings.now) × Ready (body_of body.old) counts × Begins counts current els }
     ensures { Lowers (λ ctx. pattern_match_binding bindings.now p.0 q.0 b.0 how ctx current els place) counts current els (body_of body.old) result (body_of body.new) }
 {
     match binding_local(bindings, b) {
-        BoundLocal::Refused(e) => Lowered::Refused(e, q),
-        BoundLocal::Local(l) => match push_storage_live_for_local(body, counts, l, current) {
-            Stepped::Refused(e) => Lowered::Refused(e, p),
-            Stepped::Now(c1) => {
-                let Counted::Now(c2) = push_assignment(
-                    body,
-                    c1,
-                    current,
-                    l,
-                    binding_rvalue(how),
-                    place,
-                ) else {
-                    return Lowered::Refused(MirLowerError::Limit, p);
-                };
-                Lowered::Done(c2, current, els)
+        Err(e) => Err((e, q)),
+        Ok(l) => match push_storage_live_for_local(body, counts, l, current) {
+            Err(e) => Err((e, p)),
+            Ok(c1) => {
+                let c2 = push_assignment(body, c1, current, l, binding_rvalue(how), place).ok_or((
+                    MirLowerError::Limit,
+                    p,
+                ))?;
+                Ok((c2, current, els))
             }
         },
     }
@@ -86,41 +76,33 @@ pub fn local_path(
     p: PatId,
     b: BindingId,
     current: BasicBlockId,
-    els: OptBlock,
+    els: Option<BasicBlockId>,
     place: Place,
 ) -> Lowered
     requires { (b.0 < length bindings.now) × Begins counts current els }
     ensures { Lowers (λ ctx. local_path bindings.now p.0 b.0 mode ctx current els place) counts current els (body_of body.old) result (body_of body.new) }
 {
     match mode {
-        MatchingMode::Check => Lowered::Refused(MirLowerError::NotSupported, p),
-        MatchingMode::Bind => Lowered::Done(counts, current, els),
+        MatchingMode::Check => Err((MirLowerError::NotSupported, p)),
+        MatchingMode::Bind => Ok((counts, current, els)),
         MatchingMode::Assign => match binding_local(bindings, b) {
-            BoundLocal::Refused(e) => Lowered::Refused(e, p),
-            BoundLocal::Local(l) => {
-                let Counted::Now(c1) = push_assignment(
-                    body,
-                    counts,
-                    current,
-                    l,
-                    PlaceRvalue::Copy,
-                    place,
-                ) else {
-                    return Lowered::Refused(MirLowerError::Limit, p);
-                };
-                Lowered::Done(c1, current, els)
+            Err(e) => Err((e, p)),
+            Ok(l) => {
+                let c1 = push_assignment(body, counts, current, l, PlaceRvalue::Copy, place).ok_or((
+                    MirLowerError::Limit,
+                    p,
+                ))?;
+                Ok((c1, current, els))
             }
         },
     }
 }
 
+#[tactic(auto, unfolding(crate::specs::Parts::is_bind))]
 pub fn is_bind(kind: PatKind) -> bool
     ensures { result ≡ is_bind kind }
 {
-    match kind {
-        PatKind::Bind => true,
-        _ => false,
-    }
+    matches!(kind, PatKind::Bind)
 }
 
 // A rest is filled: the pattern `rest`, which binds b, with what lies between so many items in front and so many at the end.
@@ -135,7 +117,7 @@ fn fill_rest(
     front: u16,
     end: u16,
     current: BasicBlockId,
-    els: OptBlock,
+    els: Option<BasicBlockId>,
     place: Place,
 ) -> Lowered
     requires { (b.0 < length bindings.now) × (end < 8192) × Ready (body_of body.old) counts × Begins counts current els }
@@ -143,7 +125,7 @@ fn fill_rest(
 {
     let part = project(place, ProjectionElem::Subslice(front, end));
     if !part.ok {
-        return Lowered::Refused(MirLowerError::Limit, p);
+        return Err((MirLowerError::Limit, p));
     }
     pattern_match_binding(
         bindings, body, counts, p, rest, b, how, current, els, part.place,
@@ -163,7 +145,7 @@ pub fn rest_bound(
     front: u16,
     end: u16,
     current: BasicBlockId,
-    els: OptBlock,
+    els: Option<BasicBlockId>,
     place: Place,
 ) -> Lowered
     requires image_value { (valid image.now ≡ true) × Whole image.now tables × (eqb rest 65535 || ltb rest (pattern_count image.now) ≡ true) × (length bindings.now ≡ binding_count image.now) × (end < 8192) }
@@ -171,14 +153,14 @@ pub fn rest_bound(
     ensures { Lowers (λ ctx. rest_bound (rest_of (tree? (tree image.now) rest)) bindings.now p.0 front end mode ctx current els place) counts current els (body_of body.old) result (body_of body.new) }
 {
     if rest == 65535 {
-        return Lowered::Done(counts, current, els);
+        return Ok((counts, current, els));
     }
     if is_check(mode) {
-        return Lowered::Done(counts, current, els);
+        return Ok((counts, current, els));
     }
     let row = pat_at(image, tables, PatId(rest));
-    if !is_bind(pat_kind(row.kind)) {
-        return Lowered::Done(counts, current, els);
+    if !is_bind(PatKind::from(row.kind)) {
+        return Ok((counts, current, els));
     }
     fill_rest(
         bindings,
@@ -187,7 +169,7 @@ pub fn rest_bound(
         p,
         PatId(rest),
         BindingId(row.a),
-        binding_mode(row.c),
+        BindingMode::from(row.c),
         front,
         end,
         current,

@@ -1,4 +1,5 @@
 -- `pattern_match` walks the pattern in Check, and then in Bind. Assumes nothing.
+use Rattle.std.specs.Prelude.{Ok, Err}
 use mathlib.Core.List.{List}
 use Prim.Native.Nat.{ℕ}
 use Rattle.refusals.specs.declared.MirLowerError.{MirLowerError}
@@ -7,11 +8,11 @@ use Rattle.image.specs.Tree.{Pat}
 use Rattle.place.specs.declared.Place.{Place}
 use Rattle.mir.specs.declared.BasicBlockId.{BasicBlockId}
 use Rattle.mir.specs.declared.Counts.{Counts}
-use Rattle.lower_spec.specs.declared.merging.OptBlock.{OptBlock}
+use Rattle.lower_spec.specs.Results.{OptBlock}
 use Rattle.pattern_matching.specs.declared.MatchingMode.{MatchingMode}
 use Rattle.pattern_matching.specs.Walking.{Ctx, Out, Walk}
 use Rattle.pattern_matching.specs.Patterns.{pattern_match_inner, pattern_match}
-use Rattle.pattern_walk_spec.specs.declared.Lowered.{Lowered}
+use Rattle.pattern_walk_spec.specs.Results.{Lowered}
 use Rattle.pattern_walk_spec.specs.Answers.{Walks}
 use Rattle.pattern_walk_spec.proofs.Sequences.{walks_stops, walks_then}
 use Rattle.state.specs.State.{Body}
@@ -28,14 +29,14 @@ module _ (image bindings : List ℕ) (pat : Pat) (place : Place) where
 
   module _ {c : Counts} {current : BasicBlockId} {els : OptBlock} {t₀ : Body} {v₀ : List ℕ} where
     -- the walk in Check refuses
-    pub check_refuses : {e : MirLowerError} {q : PatId} {t : Body} {v : List ℕ} → Walks (in_mode MatchingMode.Check current els) c current els t₀ v₀ (Lowered.Refused e q) t v →
-        Walks (λ ctx. pattern_match image bindings pat ctx current els place) c current els t₀ v₀ (Lowered.Refused e q) t v
+    pub check_refuses : {e : MirLowerError} {q : PatId} {t : Body} {v : List ℕ} → Walks (in_mode MatchingMode.Check current els) c current els t₀ v₀ (Err (e, q)) t v →
+        Walks (λ ctx. pattern_match image bindings pat ctx current els place) c current els t₀ v₀ (Err (e, q)) t v
     unfolding pattern_match
     check_refuses W = walks_stops binds W
 
     -- the walk in Bind follows it
     pub bind_follows : {c₁ : Counts} {then : BasicBlockId} {els₁ : OptBlock} {t : Body} {v : List ℕ} {r : Lowered} {t₂ : Body} {v₂ : List ℕ} → Ready t₀ c →
-        Walks (in_mode MatchingMode.Check current els) c current els t₀ v₀ (Lowered.Done c₁ then els₁) t v → Walks (in_mode MatchingMode.Bind then els₁) c₁ then els₁ t v r t₂ v₂ →
+        Walks (in_mode MatchingMode.Check current els) c current els t₀ v₀ (Ok (c₁, then, els₁)) t v → Walks (in_mode MatchingMode.Bind then els₁) c₁ then els₁ t v r t₂ v₂ →
         Walks (λ ctx. pattern_match image bindings pat ctx current els place) c current els t₀ v₀ r t₂ v₂
     unfolding pattern_match
     bind_follows P W S = walks_then W P binds S

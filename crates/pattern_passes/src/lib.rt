@@ -11,7 +11,6 @@ ghost use Rattle.body_tables.specs.Layout.{body_of};
 
 use body_tables::BODY_WORDS;
 use image::{PatId, Tables};
-use lower_spec::merging::OptBlock;
 use mir::{BasicBlockId, Counts};
 use pattern_entering::VISIT_WORDS;
 use pattern_matching::MatchingMode;
@@ -29,13 +28,13 @@ pub fn check_and_bind(
     counts: Counts,
     p: PatId,
     current: BasicBlockId,
-    els: OptBlock,
+    els: Option<BasicBlockId>,
     place: Place,
 ) -> Lowered
     requires { Walkable image.now tables bindings.now (body_of body.old) counts current els place × (p.0 < pattern_count image.now) }
     ensures { Walks (λ ctx. pattern_match image.now bindings.now (tree image.now p.0) ctx current els place) counts current els (body_of body.old) visits.old result (body_of body.new) visits.new }
 {
-    match pattern_match_inner(
+    let (c1, then, other) = pattern_match_inner(
         image,
         tables,
         bindings,
@@ -47,20 +46,18 @@ pub fn check_and_bind(
         current,
         els,
         place,
-    ) {
-        Lowered::Refused(e, q) => Lowered::Refused(e, q),
-        Lowered::Done(c1, then, other) => pattern_match_inner(
-            image,
-            tables,
-            bindings,
-            body,
-            visits,
-            c1,
-            MatchingMode::Bind,
-            p,
-            then,
-            other,
-            place,
-        ),
-    }
+    )?;
+    pattern_match_inner(
+        image,
+        tables,
+        bindings,
+        body,
+        visits,
+        c1,
+        MatchingMode::Bind,
+        p,
+        then,
+        other,
+        place,
+    )
 }

@@ -1,4 +1,5 @@
 -- The ends of a range, by the ways through the code. Assumes nothing.
+use Rattle.std.specs.Prelude.{Some, None, Ok, Err}
 use mathlib.Core.Path.{◌≡◌, refl, ap}
 use mathlib.Core.Bool.{Bool, true, false}
 use mathlib.Core.List.{List}
@@ -15,21 +16,20 @@ use Rattle.image.specs.Tree.{operand?}
 use Rattle.place.specs.declared.Place.{Place}
 use Rattle.mir.specs.declared.BasicBlockId.{BasicBlockId}
 use Rattle.mir.specs.declared.Counts.{Counts}
-use Rattle.mir.specs.declared.blocks.NewBlock.{NewBlock}
 use Rattle.mir.specs.declared.rvalues.Constant.{Constant}
 use Rattle.mir.specs.declared.rvalues.BinOp.{BinOp}
 use Rattle.mir.specs.declared.rvalues.Left.{Left}
 use Rattle.mir.specs.Blocks.{new_block}
 use Rattle.state.specs.State.{Body, State}
-use Rattle.state.specs.declared.Stepped.{Stepped}
+use Rattle.state.specs.Results.{Stepped}
 use Rattle.literals.specs.Literals.{lower_literal_or_const_to_operand}
-use Rattle.lower_spec.specs.declared.merging.OptBlock.{OptBlock}
+use Rattle.lower_spec.specs.Results.{OptBlock}
 use Rattle.pattern_matching.specs.declared.MatchingMode.{MatchingMode}
 use Rattle.pattern_matching.specs.Modes.{is_check}
 use Rattle.pattern_matching.specs.Walking.{Ctx, Out, Walk, next, step, out, else_state, else_block}
 use Rattle.pattern_matching.specs.Tests.{range_end, range_end?}
 use Rattle.pattern_matching.specs.Patterns.{end_op, range_pattern}
-use Rattle.pattern_walk_spec.specs.declared.Lowered.{Lowered}
+use Rattle.pattern_walk_spec.specs.Results.{Lowered}
 use Rattle.pattern_walk_spec.specs.Answers.{Begins, Lowers}
 use Rattle.pattern_walk_spec.proofs.Sequences.{lowers_skips, lowers_refuses, lowers_by, lowers_stops, lowers_then}
 use Rattle.pattern_switching.specs.Switching.{else_made, compare_step, Steps}
@@ -54,16 +54,16 @@ module _ (image : List ℕ) (t : Body) (c : Counts) (p : PatId) (op : BinOp) (co
   ends st on other = compare_step image op (Left.Constant constant) place st current on other
 
   -- there is no room for an else
-  pub range_full : NewBlock.Full ≡ else_made c els → Tests (Lowered.Refused MirLowerError.Limit p) t
+  pub range_full : None ≡ else_made c els → Tests (Err (MirLowerError.Limit, p)) t
   range_full full = lowers_by (λ ctx. range_cut image p constant place current els ctx op) (else_full p ends els t c current full)
 
-  module _ {c₁ : Counts} {other : BasicBlockId} (made : NewBlock.Block c₁ other ≡ else_made c els) where
+  module _ {c₁ : Counts} {other : BasicBlockId} (made : Some (c₁, other) ≡ else_made c els) where
     -- nor for the block that goes on
-    pub range_then_full : NewBlock.Full ≡ new_block c₁ → Tests (Lowered.Refused MirLowerError.Limit p) t
+    pub range_then_full : None ≡ new_block c₁ → Tests (Err (MirLowerError.Limit, p)) t
     range_then_full full = lowers_by (λ ctx. range_cut image p constant place current els ctx op) (else_then_full p ends els t c current made full)
 
     -- both are made, and the place is compared
-    pub range_ends : {c₂ : Counts} {on : BasicBlockId} {t' : Body} (r : Stepped) → NewBlock.Block c₂ on ≡ new_block c₁ → Ready t c → Begins c current els → Steps (λ st. ends st on other) c₂ current t r t' →
+    pub range_ends : {c₂ : Counts} {on : BasicBlockId} {t' : Body} (r : Stepped) → Some (c₂, on) ≡ new_block c₁ → Ready t c → Begins c current els → Steps (λ st. ends st on other) c₂ current t r t' →
         Tests (lowered_by p on other r) t'
     range_ends {on = on} r is P h E =
         lowers_by (λ ctx. range_cut image p constant place current els ctx op)
@@ -79,7 +79,7 @@ module _ (image : List ℕ) (t : Body) (c : Counts) (p : PatId) (ty : ℕ) (op :
   Ended = Lowers (λ ctx. range_end? image p.0 ty op (operand? image o) ctx current els place) c current els t
 
   -- it is absent
-  pub end_absent : o ≡ 65535 → Begins c current els → Ended (Lowered.Done c current els) t
+  pub end_absent : o ≡ 65535 → Begins c current els → Ended (Ok (c, current, els)) t
   unfolding operand? range_end?
   end_absent absent h = lowers_skips (λ ctx. rw (eq-eqb o 65535 absent) refl) h
 
@@ -91,7 +91,7 @@ module _ (image : List ℕ) (t : Body) (c : Counts) (p : PatId) (ty : ℕ) (op :
     tests is ctx = rw (ne_eqb o 65535 there) (ap (λ (r : Result Constant). step p.0 r (λ constant. range_test image p.0 op constant ctx current els place)) is)
 
     -- the operand is refused
-    pub end_refused : {err : MirLowerError} → stopped err ≡ lower_literal_or_const_to_operand image ty (operand_of image o) → Ended (Lowered.Refused err p) t
+    pub end_refused : {err : MirLowerError} → stopped err ≡ lower_literal_or_const_to_operand image ty (operand_of image o) → Ended (Err (err, p)) t
     end_refused is = lowers_refuses (tests is)
 
     -- the operand's constant is compared
@@ -111,7 +111,7 @@ module _ (image : List ℕ) (t : Body) (c : Counts) (mode : MatchingMode) (p : P
   second r = range_end? image p.0 ty (end_op halfOpen) (operand? image end) r.ctx r.then r.else place
 
   -- nothing is tested beyond Check
-  pub range_skips : is_check mode ≡ false → Begins c current els → Range (Lowered.Done c current els) t
+  pub range_skips : is_check mode ≡ false → Begins c current els → Range (Ok (c, current, els)) t
   unfolding range_pattern
   range_skips beyond h = lowers_skips (λ ctx. not_in_check mode (next (first ctx) second) (out ctx current els) beyond) h
 
@@ -121,10 +121,10 @@ module _ (image : List ℕ) (t : Body) (c : Counts) (mode : MatchingMode) (p : P
     both ctx = in_check_lem mode (next (first ctx) second) (out ctx current els) check
 
     -- the start is refused
-    pub range_stops : {err : MirLowerError} {q : PatId} {t' : Body} → Lowers first c current els t (Lowered.Refused err q) t' → Range (Lowered.Refused err q) t'
+    pub range_stops : {err : MirLowerError} {q : PatId} {t' : Body} → Lowers first c current els t (Err (err, q)) t' → Range (Err (err, q)) t'
     range_stops L = lowers_by both (lowers_stops second L)
 
     -- the start, and then the end
-    pub range_both : {c₁ : Counts} {on : BasicBlockId} {els₁ : OptBlock} {t₁ t₂ : Body} {r : Lowered} → Ready t c → Lowers first c current els t (Lowered.Done c₁ on els₁) t₁ →
+    pub range_both : {c₁ : Counts} {on : BasicBlockId} {els₁ : OptBlock} {t₁ t₂ : Body} {r : Lowered} → Ready t c → Lowers first c current els t (Ok (c₁, on, els₁)) t₁ →
         {op : BinOp} → op ≡ end_op halfOpen → Lowers (λ ctx. range_end? image p.0 ty op (operand? image end) ctx on els₁ place) c₁ on els₁ t₁ r t₂ → Range r t₂
     range_both P L is S = lowers_by both (lowers_then second P L (rw is at S))

@@ -6,7 +6,7 @@ use Rattle.mir.specs.declared.rvalues.BinOp.{BinOp}
 use Rattle.mir.specs.declared.rvalues.Constant.{Constant}
 use Rattle.mir.specs.declared.rvalues.Left.{Left}
 use Rattle.state.specs.Steps.{next_block, try_block}
-use Rattle.lower_spec.specs.declared.merging.OptBlock.{OptBlock}
+use Rattle.lower_spec.specs.Results.{OptBlock}
 use Rattle.pattern_matching.specs.Walking.{Ctx, Out, Walk, step, else_state, else_block}
 use Rattle.pattern_matching.specs.Tests.{compare}
 

@@ -16,9 +16,8 @@ ghost use Rattle.state.specs.Promises.{Ready};
 
 use body_tables::BODY_WORDS;
 use image::{PatId, Tables};
-use literals::{LoweredOperand, lower_literal_or_const_to_operand};
-use lower_spec::merging::OptBlock;
-use mir::blocks::{NewBlock, new_basic_block};
+use literals::lower_literal_or_const_to_operand;
+use mir::blocks::new_basic_block;
 use mir::rvalues::{BinOp, Constant, Left};
 use mir::{BasicBlockId, Counts};
 use pattern_matching::{MatchingMode, is_check};
@@ -27,7 +26,6 @@ use pattern_switching::{compare, else_block};
 use pattern_walk_spec::Lowered;
 use place::Place;
 use refusals::MirLowerError;
-use state::Stepped;
 
 // A place is compared with one end; an else is made before the block that goes on.
 fn range_test(
@@ -39,18 +37,14 @@ fn range_test(
     op: BinOp,
     constant: Constant,
     current: BasicBlockId,
-    els: OptBlock,
+    els: Option<BasicBlockId>,
     place: Place,
 ) -> Lowered
     requires { Whole image.now tables × Ready (body_of body.old) counts × Begins counts current els }
     ensures { Lowers (λ ctx. range_test image.now p.0 op constant ctx current els place) counts current els (body_of body.old) result (body_of body.new) }
 {
-    let NewBlock::Block(c1, other) = else_block(counts, els) else {
-        return Lowered::Refused(MirLowerError::Limit, p);
-    };
-    let NewBlock::Block(c2, then) = new_basic_block(c1) else {
-        return Lowered::Refused(MirLowerError::Limit, p);
-    };
+    let (c1, other) = else_block(counts, els).ok_or((MirLowerError::Limit, p))?;
+    let (c2, then) = new_basic_block(c1).ok_or((MirLowerError::Limit, p))?;
     match compare(
         image,
         tables,
@@ -63,8 +57,8 @@ fn range_test(
         then,
         other,
     ) {
-        Stepped::Refused(e) => Lowered::Refused(e, p),
-        Stepped::Now(c3) => Lowered::Done(c3, then, OptBlock::Some(other)),
+        Err(e) => Err((e, p)),
+        Ok(c3) => Ok((c3, then, Some(other))),
     }
 }
 
@@ -79,7 +73,7 @@ fn range_end(
     op: BinOp,
     o: u16,
     current: BasicBlockId,
-    els: OptBlock,
+    els: Option<BasicBlockId>,
     place: Place,
 ) -> Lowered
     requires image_value { (valid image.now ≡ true) × Whole image.now tables × (ty < type_count image.now) × (operand_or_absent image.now o ≡ true) }
@@ -87,11 +81,11 @@ fn range_end(
     ensures { Lowers (λ ctx. range_end? image.now p.0 ty op (operand? image.now o) ctx current els place) counts current els (body_of body.old) result (body_of body.new) }
 {
     if o == 65535 {
-        return Lowered::Done(counts, current, els);
+        return Ok((counts, current, els));
     }
     match lower_literal_or_const_to_operand(image, tables, ty, o) {
-        LoweredOperand::Refused(e) => Lowered::Refused(e, p),
-        LoweredOperand::Constant(constant) => range_test(
+        Err(e) => Err((e, p)),
+        Ok(constant) => range_test(
             image, tables, body, counts, p, op, constant, current, els, place,
         ),
     }
@@ -110,7 +104,7 @@ pub fn pattern_match_range(
     end: u16,
     half_open: u16,
     current: BasicBlockId,
-    els: OptBlock,
+    els: Option<BasicBlockId>,
     place: Place,
 ) -> Lowered
     requires image_value { (valid image.now ≡ true) × Whole image.now tables × (ty < type_count image.now) × (operand_or_absent image.now start ≡ true) × (operand_or_absent image.now end ≡ true) }
@@ -118,9 +112,9 @@ pub fn pattern_match_range(
     ensures { Lowers (λ ctx. range_pattern image.now p.0 ty (operand? image.now start) (operand? image.now end) (is_set half_open) mode ctx current els place) counts current els (body_of body.old) result (body_of body.new) }
 {
     if !is_check(mode) {
-        return Lowered::Done(counts, current, els);
+        return Ok((counts, current, els));
     }
-    match range_end(
+    let (c1, then, other) = range_end(
         image,
         tables,
         body,
@@ -132,20 +126,18 @@ pub fn pattern_match_range(
         current,
         els,
         place,
-    ) {
-        Lowered::Refused(e, q) => Lowered::Refused(e, q),
-        Lowered::Done(c1, then, other) => range_end(
-            image,
-            tables,
-            body,
-            c1,
-            p,
-            ty,
-            end_op(half_open),
-            end,
-            then,
-            other,
-            place,
-        ),
-    }
+    )?;
+    range_end(
+        image,
+        tables,
+        body,
+        c1,
+        p,
+        ty,
+        end_op(half_open),
+        end,
+        then,
+        other,
+        place,
+    )
 }

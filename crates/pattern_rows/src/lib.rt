@@ -6,7 +6,7 @@ ghost use Rattle.image.specs.Tables.{Whole};
 ghost use Rattle.image.specs.Valid.{valid};
 ghost use Rattle.pattern_rows.specs.Rows.{compound_kind, argument_pat, ArgumentLies, variant_word, variant_shape, before_ellipsis, smaller};
 
-use image::kinds::{PatKind, pat_kind};
+use image::kinds::PatKind;
 use image::rows::{PatRow, list_at};
 use image::{PatId, Tables};
 

@@ -6,7 +6,7 @@ ghost use Rattle.image.specs.Operands.{operand_value_holds, operand_holds};
 ghost use Rattle.image.specs.Patterns.{variant_or_absent, operand_or_absent};
 
 use image::Tables;
-use image::kinds::{OperandKind, operand_kind};
+use image::kinds::OperandKind;
 use image::rows::{operand_at, operand_bytes};
 use scalar_values::is_scalar_value;
 
@@ -72,7 +72,10 @@ pub fn operand_holds(image: &[u8], tables: Tables, o: u16) -> bool
     if (tables.bytes.count as usize) < (row.offset as usize) + (row.count as usize) {
         return false;
     }
-    operand_value_holds(operand_kind(row.kind), operand_bytes(image, tables, row))
+    operand_value_holds(
+        OperandKind::from(row.kind),
+        operand_bytes(image, tables, row),
+    )
 }
 
 pub fn operand_or_absent(image: &[u8], tables: Tables, o: u16) -> bool

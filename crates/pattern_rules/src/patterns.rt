@@ -4,7 +4,7 @@ ghost use Rattle.image.specs.Tables.{Whole};
 ghost use Rattle.image.specs.Patterns.{path_holds, pattern_shape_holds, pattern_holds};
 
 use super::operands::{operand_holds, operand_or_absent, variant_or_absent};
-use image::kinds::{PatKind, PathKind, pat_kind, path_kind};
+use image::kinds::{PatKind, PathKind};
 use image::rows::{PatRow, operand_at, pat_at};
 use image::{PatId, Tables};
 use type_rules::{in_table, is_flag};
@@ -94,7 +94,7 @@ fn pattern_shape_holds(image: &[u8], tables: Tables, row: PatRow, kind: PatKind)
             (row.b as usize) + (row.c as usize),
             tables.list.count,
         ),
-        PatKind::Path => path_holds(image, tables, path_kind(row.a), row.b),
+        PatKind::Path => path_holds(image, tables, PathKind::from(row.a), row.b),
         PatKind::Lit => operand_holds(image, tables, row.a),
         PatKind::Bind => bind_holds(image, tables, row),
         PatKind::TupleStruct => tuple_struct_holds(image, tables, row),
@@ -115,5 +115,5 @@ pub fn pattern_holds(image: &[u8], tables: Tables, p: PatId) -> bool
     if 16 < row.derefs {
         return false;
     }
-    pattern_shape_holds(image, tables, row, pat_kind(row.kind))
+    pattern_shape_holds(image, tables, row, PatKind::from(row.kind))
 }

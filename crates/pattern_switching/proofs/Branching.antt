@@ -1,4 +1,5 @@
 -- The blocks of a test: one that goes on and an else, in either order, and then the test's end. Assumes nothing.
+use Rattle.std.specs.Prelude.{Some, None, Ok, Err}
 use mathlib.Core.Path.{◌≡◌, refl, ap, ◌∙◌}
 use mathlib.Core.Logic.{inl, inr}
 use mathlib.Core.List.{List}
@@ -9,18 +10,18 @@ use Rattle.refusals.specs.Refusals.{Result}
 use Rattle.image.specs.declared.PatId.{PatId}
 use Rattle.mir.specs.declared.BasicBlockId.{BasicBlockId}
 use Rattle.mir.specs.declared.Counts.{Counts}
-use Rattle.mir.specs.declared.blocks.NewBlock.{NewBlock}
+use Rattle.mir.specs.Results.{NewBlock}
 use Rattle.mir.specs.Blocks.{new_block}
 use Rattle.state.specs.State.{Body, State, decode}
 use Rattle.state.specs.Steps.{next_block, try_block}
 use Rattle.state.specs.Promises.{Ready, Grown, Answers, stepped_result, stepped_counts}
-use Rattle.state.specs.declared.Stepped.{Stepped}
+use Rattle.state.specs.Results.{Stepped}
 use Rattle.state.proofs.Answering.{grown_refl, grown_trans, next_block_lem}
 use Rattle.state.proofs.Calls.{block_counts, block_result, block_number}
 use Rattle.body_tables.proofs.Building as building
-use Rattle.lower_spec.specs.declared.merging.OptBlock.{OptBlock}
+use Rattle.lower_spec.specs.Results.{OptBlock}
 use Rattle.pattern_matching.specs.Walking.{Ctx, Out, Walk, step, out, with_state, else_state, else_block}
-use Rattle.pattern_walk_spec.specs.declared.Lowered.{Lowered}
+use Rattle.pattern_walk_spec.specs.Results.{Lowered}
 use Rattle.pattern_walk_spec.specs.Answers.{Begins, ctx_of, walk_of, lowered_counts, Onward, OnwardBy, Lowers}
 use Rattle.pattern_walk_spec.proofs.Following.{step_then, step_stops, stays, answers_by, onward_trans, onward_refl, onward_grown, block_made, block_onward}
 use Rattle.pattern_switching.specs.Switching.{else_made, Steps}
@@ -29,34 +30,37 @@ use Rattle.pattern_switching.specs.Switching.{else_made, Steps}
 pub else_answers : (t : Body) (c : Counts) (current : ℕ) (els : OptBlock) {r : NewBlock} → r ≡ else_made c els → Ready t c →
     Answers t c current t (block_counts r) (block_result r t) (else_state (decode t c) els)
 unfolding else_made else_state
-else_answers t c current (OptBlock.Some b) is R = rw is (stays _ R)
-else_answers t c current OptBlock.None is R = building.block_made t c current is R
+else_answers t c current (Some b) is R = rw is (stays _ R)
+else_answers t c current None is R = building.block_made t c current is R
 
-pub else_number : (c : Counts) (els : OptBlock) {c₁ : Counts} {m : BasicBlockId} → NewBlock.Block c₁ m ≡ else_made c els → (b : Body) → m ≡ else_block (decode b c) els
+pub else_number : (c : Counts) (els : OptBlock) {c₁ : Counts} {m : BasicBlockId} → Some (c₁, m) ≡ else_made c els → (b : Body) → m ≡ else_block (decode b c) els
 unfolding else_made else_block
-else_number c (OptBlock.Some x) is b = cc
-else_number c OptBlock.None is b = block_number c is ∙ next_block_lem b c
+else_number c (Some x) {c₁ = c₁} {m = m} is b =
+    let same : ◌≡◌ {A = Counts × BasicBlockId} (c₁, m) (c, x) = cc in
+    ap (λ (made : Counts × BasicBlockId). made.1) same
+else_number c None is b = block_number c is ∙ next_block_lem b c
 
-pub else_onward : (c : Counts) (els : OptBlock) {c₁ : Counts} {m current : BasicBlockId} → NewBlock.Block c₁ m ≡ else_made c els → Begins c current els →
-    Grown c c₁ × Onward c current els c₁ current (OptBlock.Some m)
+pub else_onward : (c : Counts) (els : OptBlock) {c₁ : Counts} {m current : BasicBlockId} → Some (c₁, m) ≡ else_made c els → Begins c current els →
+    Grown c c₁ × Onward c current els c₁ current (Some m)
 unfolding else_made
-else_onward c (OptBlock.Some x) {c₁ = c₁} {m = m} is h =
-    let counts : c₁ ≡ c = cc in
-    let number : m ≡ x = cc in
+else_onward c (Some x) {c₁ = c₁} {m = m} is h =
+    let same : ◌≡◌ {A = Counts × BasicBlockId} (c₁, m) (c, x) = cc in
+    let counts : c₁ ≡ c = ap (λ (made : Counts × BasicBlockId). made.0) same in
+    let number : m ≡ x = ap (λ (made : Counts × BasicBlockId). made.1) same in
     rw (counts, number) (grown_refl c, onward_refl h)
-else_onward c OptBlock.None is h =
+else_onward c None is h =
     let new = block_onward c is h in
     (new.0, record { own = inl refl; own_else = inr (rw (block_made c is).1 (le_refl c.blocks)); begins = record { start = (onward_grown new.0 h).begins.start; else = new.1.begins.start } })
 
 -- both blocks are made, the one that goes on before the else, or the else before it
-pub then_else_made : {t : Body} {c c₁ c₂ : Counts} {current on other : BasicBlockId} {els : OptBlock} → NewBlock.Block c₁ on ≡ new_block c → NewBlock.Block c₂ other ≡ else_made c₁ els → Ready t c → Begins c current els →
+pub then_else_made : {t : Body} {c c₁ c₂ : Counts} {current on other : BasicBlockId} {els : OptBlock} → Some (c₁, on) ≡ new_block c → Some (c₂, other) ≡ else_made c₁ els → Ready t c → Begins c current els →
     Ready t c₂ × (current.0 < c₂.blocks)
 then_else_made {t = t} {c = c} {c₁ = c₁} {current = current} {els = els} is made P h =
     let F = building.block_made t c current.0 is P in
     let S = else_answers t c₁ current.0 els made F.goes.0 in
     (S.goes.0, le_trans h.start (le_trans F.goes.1.blocks S.goes.1.blocks))
 
-pub else_then_made : {t : Body} {c c₁ c₂ : Counts} {current on other : BasicBlockId} {els : OptBlock} → NewBlock.Block c₁ other ≡ else_made c els → NewBlock.Block c₂ on ≡ new_block c₁ → Ready t c → Begins c current els →
+pub else_then_made : {t : Body} {c c₁ c₂ : Counts} {current on other : BasicBlockId} {els : OptBlock} → Some (c₁, other) ≡ else_made c els → Some (c₂, on) ≡ new_block c₁ → Ready t c → Begins c current els →
     Ready t c₂ × (current.0 < c₂.blocks)
 else_then_made {t = t} {c = c} {c₁ = c₁} {current = current} {els = els} made is P h =
     let F = else_answers t c current.0 els made P in
@@ -65,21 +69,21 @@ else_then_made {t = t} {c = c} {c₁ = c₁} {current = current} {els = els} mad
 
 -- an answer by how a step ended
 abbrev pub lowered_by : PatId → BasicBlockId → BasicBlockId → Stepped → Lowered
-lowered_by p then other (Stepped.Now c) = Lowered.Done c then (OptBlock.Some other)
-lowered_by p then other (Stepped.Refused e) = Lowered.Refused e p
+lowered_by p then other (Ok c) = Ok (c, then, Some other)
+lowered_by p then other (Err e) = Err (e, p)
 
 abbrev pub GrownTo : Counts → Stepped → Type 0
-GrownTo c (Stepped.Now c') = Grown c c'
-GrownTo c (Stepped.Refused e) = Unit
+GrownTo c (Ok c') = Grown c c'
+GrownTo c (Err e) = Unit
 
 pub grown_to : {t t' : Body} {c : Counts} {current : BasicBlockId} (defined : State → Result State) (r : Stepped) → Ready t c → Steps defined c current t r t' → GrownTo c r
-grown_to defined (Stepped.Now c') P E = (E P).goes.1
-grown_to defined (Stepped.Refused e) P E = tt
+grown_to defined (Ok c') P E = (E P).goes.1
+grown_to defined (Err e) P E = tt
 
 -- the test's end is a step from the state, the block that goes on and the else
 module _ (p : PatId) (end : State → BasicBlockId → BasicBlockId → Result State) (els : OptBlock) where
   abbrev last : Ctx → BasicBlockId → BasicBlockId → State → Walk Out
-  last ctx then other st = out (with_state ctx st) then (OptBlock.Some other)
+  last ctx then other st = out (with_state ctx st) then (Some other)
 
   abbrev ended : Ctx → BasicBlockId → BasicBlockId → State → Walk Out
   ended ctx then other st = step p.0 (end st then other) (last ctx then other)
@@ -102,19 +106,19 @@ module _ (p : PatId) (end : State → BasicBlockId → BasicBlockId → Result S
   end_answers : {b : Body} {c : Counts} {current : ℕ} {defined : Result State} (b' : Body) (ctx : Ctx) (then other : BasicBlockId) (r : Stepped) →
       Answers b c current b' (stepped_counts r) (stepped_result r b') defined →
       Answers b c current b' (lowered_counts (lowered_by p then other r)) (walk_of (lowered_by p then other r) b' ctx.visits) (step p.0 defined (last ctx then other))
-  end_answers b' ctx then other (Stepped.Now c') T = step_then p.0 (last ctx then other) T (inl refl) (stays _ T.goes.0)
-  end_answers b' ctx then other (Stepped.Refused e) T = step_stops p.0 (last ctx then other) T
+  end_answers b' ctx then other (Ok c') T = step_then p.0 (last ctx then other) T (inl refl) (stays _ T.goes.0)
+  end_answers b' ctx then other (Err e) T = step_stops p.0 (last ctx then other) T
 
   -- where it goes on
-  end_onward : (c c₂ : Counts) (current then other : BasicBlockId) (r : Stepped) → Grown c c₂ → Onward c current els c₂ then (OptBlock.Some other) → GrownTo c₂ r →
+  end_onward : (c c₂ : Counts) (current then other : BasicBlockId) (r : Stepped) → Grown c c₂ → Onward c current els c₂ then (Some other) → GrownTo c₂ r →
       OnwardBy c current els (lowered_by p then other r)
-  end_onward c c₂ current then other (Stepped.Now c₃) G O grown = onward_trans G O (onward_grown grown O.begins)
-  end_onward c c₂ current then other (Stepped.Refused e) G O grown = tt
+  end_onward c c₂ current then other (Ok c₃) G O grown = onward_trans G O (onward_grown grown O.begins)
+  end_onward c c₂ current then other (Err e) G O grown = tt
 
   -- t is the body at entry
   module _ (t : Body) (c : Counts) (current : BasicBlockId) where
     -- there is no room for the block that goes on, or for the else
-    pub then_full : NewBlock.Full ≡ new_block c → Lowers then_else c current els t (Lowered.Refused MirLowerError.Limit p) t
+    pub then_full : None ≡ new_block c → Lowers then_else c current els t (Err (MirLowerError.Limit, p)) t
     then_full full =
         record {
           answers = λ visits R.
@@ -123,7 +127,7 @@ module _ (p : PatId) (end : State → BasicBlockId → BasicBlockId → Result S
           onward = tt;
         }
 
-    pub else_full : NewBlock.Full ≡ else_made c els → Lowers else_then c current els t (Lowered.Refused MirLowerError.Limit p) t
+    pub else_full : None ≡ else_made c els → Lowers else_then c current els t (Err (MirLowerError.Limit, p)) t
     else_full full =
         record {
           answers = λ visits R.
@@ -133,7 +137,7 @@ module _ (p : PatId) (end : State → BasicBlockId → BasicBlockId → Result S
         }
 
     -- the block that goes on is there
-    module _ {c₁ : Counts} {then : BasicBlockId} (is : NewBlock.Block c₁ then ≡ new_block c) where
+    module _ {c₁ : Counts} {then : BasicBlockId} (is : Some (c₁, then) ≡ new_block c) where
       -- what follows it
       then_answers : (r : Lowered) (t' : Body) (visits : List ℕ) → Ready t c →
           (Ready t c₁ → Answers t c₁ current.0 t' (lowered_counts r) (walk_of r t' visits) (behind_then (ctx_of t c visits) then (decode t c₁))) →
@@ -146,16 +150,16 @@ module _ (p : PatId) (end : State → BasicBlockId → BasicBlockId → Result S
           (step_then p.0 (behind_then ctx then) F (inl refl) (follows F.goes.0))
 
       -- there is no room for an else
-      pub then_else_full : NewBlock.Full ≡ else_made c₁ els → Lowers then_else c current els t (Lowered.Refused MirLowerError.Limit p) t
+      pub then_else_full : None ≡ else_made c₁ els → Lowers then_else c current els t (Err (MirLowerError.Limit, p)) t
       then_else_full full =
           record {
             answers = λ visits R.
                 let b = t in
-                then_answers (Lowered.Refused MirLowerError.Limit p) t visits R (λ Q. step_stops p.0 (ended (ctx_of b c visits) then (else_block (decode b c₁) els)) (else_answers t c₁ current.0 els full Q));
+                then_answers (Err (MirLowerError.Limit, p)) t visits R (λ Q. step_stops p.0 (ended (ctx_of b c visits) then (else_block (decode b c₁) els)) (else_answers t c₁ current.0 els full Q));
             onward = tt;
           }
 
-      module _ {c₂ : Counts} {other : BasicBlockId} (made : NewBlock.Block c₂ other ≡ else_made c₁ els) where
+      module _ {c₂ : Counts} {other : BasicBlockId} (made : Some (c₂, other) ≡ else_made c₁ els) where
         -- and the test ends
         pub then_else_ends : {t' : Body} (r : Stepped) → Begins c current els → GrownTo c₂ r → Steps (λ st. end st then other) c₂ current t r t' →
             Lowers then_else c current els t (lowered_by p then other r) t'
@@ -174,7 +178,7 @@ module _ (p : PatId) (end : State → BasicBlockId → BasicBlockId → Result S
             }
 
     -- the else is there
-    module _ {c₁ : Counts} {other : BasicBlockId} (made : NewBlock.Block c₁ other ≡ else_made c els) where
+    module _ {c₁ : Counts} {other : BasicBlockId} (made : Some (c₁, other) ≡ else_made c els) where
       -- what follows it
       elsewhere_answers : (r : Lowered) (t' : Body) (visits : List ℕ) → Ready t c →
           (Ready t c₁ → Answers t c₁ current.0 t' (lowered_counts r) (walk_of r t' visits) (behind_else (ctx_of t c visits) other (decode t c₁))) →
@@ -187,16 +191,16 @@ module _ (p : PatId) (end : State → BasicBlockId → BasicBlockId → Result S
           (step_then p.0 (behind_else ctx other) F (inl refl) (follows F.goes.0))
 
       -- there is no room for the block that goes on
-      pub else_then_full : NewBlock.Full ≡ new_block c₁ → Lowers else_then c current els t (Lowered.Refused MirLowerError.Limit p) t
+      pub else_then_full : None ≡ new_block c₁ → Lowers else_then c current els t (Err (MirLowerError.Limit, p)) t
       else_then_full full =
           record {
             answers = λ visits R.
                 let b = t in
-                elsewhere_answers (Lowered.Refused MirLowerError.Limit p) t visits R (λ Q. step_stops p.0 (ended (ctx_of b c visits) (next_block (decode b c₁)) other) (building.block_made t c₁ current.0 full Q));
+                elsewhere_answers (Err (MirLowerError.Limit, p)) t visits R (λ Q. step_stops p.0 (ended (ctx_of b c visits) (next_block (decode b c₁)) other) (building.block_made t c₁ current.0 full Q));
             onward = tt;
           }
 
-      module _ {c₂ : Counts} {then : BasicBlockId} (is : NewBlock.Block c₂ then ≡ new_block c₁) where
+      module _ {c₂ : Counts} {then : BasicBlockId} (is : Some (c₂, then) ≡ new_block c₁) where
         -- and the test ends
         pub else_then_ends : {t' : Body} (r : Stepped) → Begins c current els → GrownTo c₂ r → Steps (λ st. end st then other) c₂ current t r t' →
             Lowers else_then c current els t (lowered_by p then other r) t'

@@ -1,4 +1,5 @@
 -- The end of a comparison, by the ways through the code: a new local of type bool, what is assigned to it, and where the block goes on. Assumes nothing.
+use Rattle.std.specs.Prelude.{Some, None, Ok, Err}
 use mathlib.Core.Path.{◌≡◌, refl, ap, ◌∙◌}
 use mathlib.Core.Logic.{inl}
 use mathlib.Core.List.{List}
@@ -12,7 +13,7 @@ use Rattle.place.specs.declared.LocalId.{LocalId}
 use Rattle.place.specs.declared.Place.{Place}
 use Rattle.mir.specs.declared.BasicBlockId.{BasicBlockId}
 use Rattle.mir.specs.declared.Counts.{Counts}
-use Rattle.mir.specs.declared.scopes.Counted.{Counted}
+use Rattle.mir.specs.Results.{Counted}
 use Rattle.mir.specs.declared.blocks.Terminator.{Terminator}
 use Rattle.mir.specs.declared.rvalues.BinOp.{BinOp}
 use Rattle.mir.specs.declared.rvalues.Left.{Left}
@@ -22,11 +23,10 @@ use Rattle.mir.specs.Statements.{new_statement, statements_after}
 use Rattle.state.specs.State.{Body, State, decode}
 use Rattle.state.specs.Steps.{next_local, try_statement}
 use Rattle.state.specs.Promises.{Ready, Answers}
-use Rattle.state.specs.declared.Stepped.{Stepped}
+use Rattle.state.specs.Results.{Stepped}
 use Rattle.state.proofs.RowLengths.{binary_length}
 use Rattle.state.proofs.Answering.{next_local_lem, then, stops}
 use Rattle.state.proofs.Calls.{counted_counts, counted_result}
-use Rattle.lower_spec.specs.declared.temps.NewTemp.{NewTemp}
 use Rattle.lower_spec.specs.Temps.{temp}
 use Rattle.body_tables.specs.Layout.{with_blocks, with_statements}
 use Rattle.body_tables.proofs.Building.{statement_made, terminator_set}
@@ -47,12 +47,12 @@ module _ (image : List ℕ) (b₀ : Body) (c : Counts) (op : BinOp) (left : Left
   assigns n st = and_then (try_statement st (binary_row current n op left place)) (ends n)
 
   -- there is no local
-  pub compare_no_temp : {err : MirLowerError} {b : Body} → Makes (λ st. temp image st 256 current) c b₀ (NewTemp.Refused err) b → Compares (Stepped.Refused err) b
+  pub compare_no_temp : {err : MirLowerError} {b : Body} → Makes (λ st. temp image st 256 current) c b₀ (Err err) b → Compares (Err err) b
   unfolding compare_step
   compare_no_temp M R = stops (assigns (next_local (decode b₀ c))) (M.answers current.0 R)
 
   -- there is one: b₁ is the body then
-  module _ {c₁ : Counts} {n : LocalId} {b₁ b₂ : Body} (long : length place.elems ≡ 16) (M : Makes (λ st. temp image st 256 current) c b₀ (NewTemp.Local c₁ n) b₁)
+  module _ {c₁ : Counts} {n : LocalId} {b₁ b₂ : Body} (long : length place.elems ≡ 16) (M : Makes (λ st. temp image st 256 current) c b₀ (Ok (c₁, n)) b₁)
       (after : b₂ ≡ with_statements b₁ (statements_after c₁ b₁.statements (binary_row current n op left place))) where
     module _ (R : Ready b₀ c) where
       -- the statement
@@ -65,12 +65,12 @@ module _ (image : List ℕ) (b₀ : Body) (c : Counts) (op : BinOp) (left : Left
       numbered = ap (λ (m : LocalId). and_then (temp image (decode b₀ c) 256 current) (assigns m)) (M.number ∙ next_local_lem b₀ c R)
 
     -- there is no room for the statement
-    pub compare_full : Counted.Full ≡ new_statement c₁ → Compares (Stepped.Refused MirLowerError.Limit) b₂
+    pub compare_full : None ≡ new_statement c₁ → Compares (Err MirLowerError.Limit) b₂
     compare_full full R = answers_by (numbered R) (then (assigns n) (M.answers current.0 R) (inl refl) (stops (ends n) (statement R full)))
 
     -- the block goes on by the local
-    pub compare_ends : {c₂ : Counts} {b₃ : Body} → Counted.Now c₂ ≡ new_statement c₁ → b₃ ≡ with_blocks b₂ (stored b₂.blocks (block_width * current.0) (term_row (Terminator.Switch n 1 0 on other))) → current.0 < c.blocks →
-        Compares (Stepped.Now c₂) b₃
+    pub compare_ends : {c₂ : Counts} {b₃ : Body} → Some c₂ ≡ new_statement c₁ → b₃ ≡ with_blocks b₂ (stored b₂.blocks (block_width * current.0) (term_row (Terminator.Switch n 1 0 on other))) → current.0 < c.blocks →
+        Compares (Ok c₂) b₃
     compare_ends {c₂ = c₂} is set h R =
         let F = M.answers current.0 R in
         let S = statement R is in

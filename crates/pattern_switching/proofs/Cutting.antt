@@ -1,4 +1,5 @@
 -- A walk in Check tests, and `compare` is cut where the code is cut. Assumes nothing.
+use Rattle.std.specs.Prelude.{Some}
 use mathlib.Core.Path.{◌≡◌, refl, ◌∙◌}
 use mathlib.Core.Bool.{true, false, true≢false, false≢true}
 use mathlib.Core.List.{List}
@@ -11,7 +12,6 @@ use Rattle.mir.specs.declared.rvalues.Left.{Left}
 use Rattle.mir.specs.Rvalues.{binary_row}
 use Rattle.state.specs.State.{State}
 use Rattle.state.specs.Steps.{next_local, try_statement}
-use Rattle.lower_spec.specs.declared.merging.OptBlock.{OptBlock}
 use Rattle.lower_spec.specs.Temps.{temp}
 use Rattle.pattern_matching.specs.declared.MatchingMode.{MatchingMode}
 use Rattle.pattern_matching.specs.Modes.{is_check}
@@ -35,8 +35,8 @@ not_in_check MatchingMode.Assign test skip e = refl
 
 -- `compare` is a step on the state, and then the end
 pub compare_cut : (image : List ℕ) (p : ℕ) (op : BinOp) (left : Left) (place : Place) (ctx : Ctx) (st : State) (current on other : BasicBlockId) →
-    step p (compare_step image op left place st current on other) (λ st'. out (with_state ctx st') on (OptBlock.Some other)) ≡ compare image p op left place ctx st current on other
+    step p (compare_step image op left place st current on other) (λ st'. out (with_state ctx st') on (Some other)) ≡ compare image p op left place ctx st current on other
 unfolding compare compare_step
 compare_cut image p op left place ctx st current on other =
-    step_two p (temp image st bool_word current) (λ st₁. and_then (try_statement st₁ (binary_row current (next_local st) op left place)) (λ st₂. done (if_true st₂ current (next_local st) on other))) (λ st'. out (with_state ctx st') on (OptBlock.Some other))
-    ∙ (λ i. step p (temp image st bool_word current) (λ st₁. step_two p (try_statement st₁ (binary_row current (next_local st) op left place)) (λ st₂. done (if_true st₂ current (next_local st) on other)) (λ st'. out (with_state ctx st') on (OptBlock.Some other)) i))
+    step_two p (temp image st bool_word current) (λ st₁. and_then (try_statement st₁ (binary_row current (next_local st) op left place)) (λ st₂. done (if_true st₂ current (next_local st) on other))) (λ st'. out (with_state ctx st') on (Some other))
+    ∙ (λ i. step p (temp image st bool_word current) (λ st₁. step_two p (try_statement st₁ (binary_row current (next_local st) op left place)) (λ st₂. done (if_true st₂ current (next_local st) on other)) (λ st'. out (with_state ctx st') on (Some other)) i))

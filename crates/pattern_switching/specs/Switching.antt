@@ -1,11 +1,12 @@
 -- The blocks of a test and its end, cut where the code is cut, and what the functions promise. Assumes nothing: these are definitions.
+use Rattle.std.specs.Prelude.{Some, None}
 use Rattle.std.specs.Prelude.{ℕ, List}
 use Rattle.refusals.specs.Refusals.{Result, done, and_then}
 use Rattle.place.specs.declared.LocalId.{LocalId}
 use Rattle.place.specs.declared.Place.{Place}
 use Rattle.mir.specs.declared.BasicBlockId.{BasicBlockId}
 use Rattle.mir.specs.declared.Counts.{Counts}
-use Rattle.mir.specs.declared.blocks.NewBlock.{NewBlock}
+use Rattle.mir.specs.Results.{NewBlock}
 use Rattle.mir.specs.declared.blocks.Terminator.{Terminator}
 use Rattle.mir.specs.declared.rvalues.BinOp.{BinOp}
 use Rattle.mir.specs.declared.rvalues.Left.{Left}
@@ -14,16 +15,16 @@ use Rattle.mir.specs.Rvalues.{binary_row}
 use Rattle.state.specs.State.{Body, State, decode}
 use Rattle.state.specs.Steps.{next_block, next_local, try_block, try_statement, set_terminator}
 use Rattle.state.specs.Promises.{Ready, Answers, stepped_result, stepped_counts}
-use Rattle.state.specs.declared.Stepped.{Stepped}
-use Rattle.lower_spec.specs.declared.merging.OptBlock.{OptBlock}
+use Rattle.state.specs.Results.{Stepped}
+use Rattle.lower_spec.specs.Results.{OptBlock}
 use Rattle.lower_spec.specs.Temps.{temp}
 use Rattle.pattern_matching.specs.Walking.{Ctx, Out, Walk, step, out, with_state, else_state, else_block}
 use Rattle.pattern_matching.specs.Tests.{bool_word, if_true}
 
 -- the else that there is, or a new block, with the counts
 unfoldable pub else_made : Counts → OptBlock → NewBlock
-else_made c (OptBlock.Some b) = NewBlock.Block c b
-else_made c OptBlock.None = new_block c
+else_made c (Some b) = Some (c, b)
+else_made c None = new_block c
 
 -- `compare`, its state alone
 unfoldable pub compare_step : List ℕ → BinOp → Left → Place → State → BasicBlockId → BasicBlockId → BasicBlockId → Result State
@@ -37,7 +38,7 @@ unfoldable pub then_switch : ℕ → LocalId → ℕ → ℕ → Ctx → BasicBl
 then_switch p l low high ctx current els =
     step p (try_block ctx.state) (λ st₁.
     step p (else_state st₁ els) (λ st₂.
-    out (with_state ctx (set_terminator st₂ current (Terminator.Switch l low high (next_block ctx.state) (else_block st₁ els)))) (next_block ctx.state) (OptBlock.Some (else_block st₁ els))))
+    out (with_state ctx (set_terminator st₂ current (Terminator.Switch l low high (next_block ctx.state) (else_block st₁ els)))) (next_block ctx.state) (Some (else_block st₁ els))))
 
 -- what a step on a body promises: b₀ before, and b after
 abbrev pub Steps : (State → Result State) → Counts → BasicBlockId → Body → Stepped → Body → Type 0

@@ -13,25 +13,21 @@ use body_tables::BODY_WORDS;
 use body_tables::blocks::set_terminator;
 use body_temps::temp;
 use image::{PatId, Tables};
-use lower_spec::merging::OptBlock;
-use lower_spec::temps::NewTemp;
-use mir::blocks::{NewBlock, Terminator, new_basic_block};
+use mir::blocks::{Terminator, new_basic_block};
 use mir::locals::BOOL;
 use mir::rvalues::{BinOp, Left};
-use mir::scopes::Counted;
 use mir::{BasicBlockId, Counts};
 use pattern_walk_spec::Lowered;
 use place::{LocalId, Place};
 use refusals::MirLowerError;
-use state::Stepped;
 
 // The else that there is, or a new block.
-pub fn else_block(counts: Counts, els: OptBlock) -> NewBlock
+pub fn else_block(counts: Counts, els: Option<BasicBlockId>) -> Option<(Counts, BasicBlockId)>
     ensures { result ≡ else_made counts els }
 {
     match els {
-        OptBlock::Some(b) => NewBlock::Block(counts, b),
-        OptBlock::None => new_basic_block(counts),
+        Some(b) => Some((counts, b)),
+        None => new_basic_block(counts),
     }
 }
 
@@ -47,21 +43,16 @@ pub fn compare(
     current: BasicBlockId,
     then: BasicBlockId,
     other: BasicBlockId,
-) -> Stepped
+) -> Result<Counts, MirLowerError>
     requires { Whole image.now tables × Ready (body_of body.old) counts × (current.0 < counts.blocks) }
     ensures { Steps (λ st. compare_step image.now op left place st current then other) counts current (body_of body.old) result (body_of body.new) }
 {
-    match temp(image, tables, body, counts, BOOL, current) {
-        NewTemp::Refused(e) => Stepped::Refused(e),
-        NewTemp::Local(c1, l) => {
-            let Counted::Now(c2) = push_binary_assignment(body, c1, current, l, op, left, place)
-            else {
-                return Stepped::Refused(MirLowerError::Limit);
-            };
-            set_terminator(body, current, Terminator::Switch(l, 1, 0, then, other));
-            Stepped::Now(c2)
-        }
-    }
+    let (c1, l) = temp(image, tables, body, counts, BOOL, current)?;
+    let c2 = push_binary_assignment(body, c1, current, l, op, left, place).ok_or(
+        MirLowerError::Limit,
+    )?;
+    set_terminator(body, current, Terminator::Switch(l, 1, 0, then, other));
+    Ok(c2)
 }
 
 // By the value of the local l the block goes on: the block for the value that is tested is made before an else.
@@ -73,18 +64,14 @@ pub fn then_switch(
     low: u64,
     high: u64,
     current: BasicBlockId,
-    els: OptBlock,
+    els: Option<BasicBlockId>,
 ) -> Lowered
     requires { (counts.blocks ≤ 512) × Begins counts current els }
     ensures { Lowers (λ ctx. then_switch p.0 l low high ctx current els) counts current els (body_of body.old) result (body_of body.new) }
 {
-    let NewBlock::Block(c1, then) = new_basic_block(counts) else {
-        return Lowered::Refused(MirLowerError::Limit, p);
-    };
-    let NewBlock::Block(c2, other) = else_block(c1, els) else {
-        return Lowered::Refused(MirLowerError::Limit, p);
-    };
+    let (c1, then) = new_basic_block(counts).ok_or((MirLowerError::Limit, p))?;
+    let (c2, other) = else_block(c1, els).ok_or((MirLowerError::Limit, p))?;
     let switch = Terminator::Switch(l, low, high, then, other);
     set_terminator(body, current, switch);
-    Lowered::Done(c2, then, OptBlock::Some(other))
+    Ok((c2, then, Some(other)))
 }

@@ -1,4 +1,5 @@
 -- A local is made, something is assigned to it, and the walk goes on: by the ways through the code. Assumes nothing.
+use Rattle.std.specs.Prelude.{Some, None, Ok, Err}
 use mathlib.Core.Path.{◌≡◌, refl, ap, ◌∙◌}
 use mathlib.Core.Logic.{inl}
 use mathlib.Core.Option.{some}
@@ -11,26 +12,25 @@ use Rattle.image.specs.declared.PatId.{PatId}
 use Rattle.place.specs.declared.LocalId.{LocalId}
 use Rattle.mir.specs.declared.BasicBlockId.{BasicBlockId}
 use Rattle.mir.specs.declared.Counts.{Counts}
-use Rattle.mir.specs.declared.scopes.Counted.{Counted}
+use Rattle.mir.specs.Results.{Counted}
 use Rattle.mir.specs.Statements.{new_statement, statements_after, statement_width}
 use Rattle.state.specs.State.{Body, State, decode}
 use Rattle.state.specs.Steps.{next_local, try_statement}
 use Rattle.state.specs.Promises.{Ready, Goes, Answers}
 use Rattle.state.proofs.Answering.{next_local_lem, grown_trans}
 use Rattle.state.proofs.Calls.{counted_counts, counted_result}
-use Rattle.lower_spec.specs.declared.temps.NewTemp.{NewTemp}
-use Rattle.lower_spec.specs.declared.merging.OptBlock.{OptBlock}
+use Rattle.lower_spec.specs.Results.{OptBlock}
 use Rattle.body_tables.specs.Layout.{with_statements}
 use Rattle.body_tables.proofs.Building.{statement_made}
 use Rattle.body_temps.specs.Promises.{Makes}
 use Rattle.pattern_matching.specs.Walking.{Ctx, Out, Walk, step, with_state}
-use Rattle.pattern_walk_spec.specs.declared.Lowered.{Lowered}
+use Rattle.pattern_walk_spec.specs.Results.{Lowered}
 use Rattle.pattern_walk_spec.specs.Answers.{Begins, ctx_of, Lowers}
 use Rattle.pattern_walk_spec.proofs.Following.{step_then, step_stops, answers_by, begins_grown, onward_grown, onward_by}
 
 -- b₀ is the body at entry, b₁ the one with the local, b₂ the one with the assignment
-module _ {make : State → Result State} {c c₁ c₂ : Counts} {b₀ b₁ b₂ : Body} {n : LocalId} (row : List ℕ) (M : Makes make c b₀ (NewTemp.Local c₁ n) b₁) (long : length row ≡ statement_width)
-    (after : b₂ ≡ with_statements b₁ (statements_after c₁ b₁.statements row)) (is : Counted.Now c₂ ≡ new_statement c₁) (P : Ready b₀ c) where
+module _ {make : State → Result State} {c c₁ c₂ : Counts} {b₀ b₁ b₂ : Body} {n : LocalId} (row : List ℕ) (M : Makes make c b₀ (Ok (c₁, n)) b₁) (long : length row ≡ statement_width)
+    (after : b₂ ≡ with_statements b₁ (statements_after c₁ b₁.statements row)) (is : Some c₂ ≡ new_statement c₁) (P : Ready b₀ c) where
   -- the assignment is there
   assigned : Goes c (some c₂) b₂
   assigned =
@@ -56,7 +56,7 @@ module _ (b₀ : Body) (p : PatId) (els : OptBlock) (row : LocalId → List ℕ)
 
   -- there is no local
   pub assign_no_local : {make : State → Result State} {c : Counts} {current : BasicBlockId} {b : Body} {err : MirLowerError} →
-      Makes make c b₀ (NewTemp.Refused err) b → Assigns make c current (Lowered.Refused err p) b
+      Makes make c b₀ (Err err) b → Assigns make c current (Err (err, p)) b
   assign_no_local {c = c} {current = current} M =
       record {
         answers = λ visits R. let ctx = ctx_of b₀ c visits in step_stops p.0 (behind ctx (next_local ctx.state)) (M.answers current.0 R);
@@ -64,7 +64,7 @@ module _ (b₀ : Body) (p : PatId) (els : OptBlock) (row : LocalId → List ℕ)
       }
 
   -- there is one: b₁ is the body then
-  module _ {make : State → Result State} {c c₁ : Counts} {b₁ : Body} {n : LocalId} (M : Makes make c b₀ (NewTemp.Local c₁ n) b₁) where
+  module _ {make : State → Result State} {c c₁ : Counts} {b₁ : Body} {n : LocalId} (M : Makes make c b₀ (Ok (c₁, n)) b₁) where
     -- its number is the one that the definition has
     numbered : (visits : List ℕ) → Ready b₀ c → (ctx : Ctx) → ctx ≡ ctx_of b₀ c visits →
         step p.0 (make ctx.state) (behind ctx n) ≡ step p.0 (make ctx.state) (behind ctx (next_local ctx.state))
@@ -76,7 +76,7 @@ module _ (b₀ : Body) (p : PatId) (els : OptBlock) (row : LocalId → List ℕ)
       statement is R = statement_made b₁ c₁ current.0 (row n) long is after (M.answers current.0 R).goes.0
 
       -- there is no room for the statement
-      pub assign_full : Counted.Full ≡ new_statement c₁ → Assigns make c current (Lowered.Refused MirLowerError.Limit p) b₂
+      pub assign_full : None ≡ new_statement c₁ → Assigns make c current (Err (MirLowerError.Limit, p)) b₂
       assign_full full =
           record {
             answers = λ visits R.
@@ -87,7 +87,7 @@ module _ (b₀ : Body) (p : PatId) (els : OptBlock) (row : LocalId → List ℕ)
           }
 
       -- the walk goes on
-      pub assign_then : {c₂ : Counts} {r : Lowered} {b : Body} → Counted.Now c₂ ≡ new_statement c₁ → Ready b₀ c → Begins c current els → Lowers (follows n) c₂ current els b₂ r b → Assigns make c current r b
+      pub assign_then : {c₂ : Counts} {r : Lowered} {b : Body} → Some c₂ ≡ new_statement c₁ → Ready b₀ c → Begins c current els → Lowers (follows n) c₂ current els b₂ r b → Assigns make c current r b
       assign_then {r = r} is P h L =
           let G = assigned (row n) M long after is P in
           record {

@@ -1,4 +1,5 @@
 -- Literals and constants, by the ways through the code. Assumes nothing.
+use Rattle.std.specs.Prelude.{Some, None, Ok, Err}
 use mathlib.Core.Path.{◌≡◌, refl, ap, ◌∙◌}
 use mathlib.Core.Bool.{Bool, true, false, true≢false, false≢true}
 use mathlib.Core.List.{List, [], ◌∷◌}
@@ -17,8 +18,6 @@ use Rattle.place.specs.declared.LocalId.{LocalId}
 use Rattle.place.specs.declared.Place.{Place}
 use Rattle.mir.specs.declared.BasicBlockId.{BasicBlockId}
 use Rattle.mir.specs.declared.Counts.{Counts}
-use Rattle.mir.specs.declared.scopes.Counted.{Counted}
-use Rattle.mir.specs.declared.blocks.NewBlock.{NewBlock}
 use Rattle.mir.specs.declared.rvalues.Constant.{Constant}
 use Rattle.mir.specs.declared.rvalues.BinOp.{BinOp}
 use Rattle.mir.specs.declared.rvalues.Left.{Left}
@@ -27,11 +26,10 @@ use Rattle.mir.specs.Rvalues.{constant_row, binary_row}
 use Rattle.mir.specs.Statements.{new_statement, statements_after}
 use Rattle.state.specs.State.{Body, State}
 use Rattle.state.specs.Steps.{next_local, try_statement}
-use Rattle.state.specs.declared.Stepped.{Stepped}
+use Rattle.state.specs.Results.{Stepped}
 use Rattle.state.proofs.RowLengths.{constant_length, binary_length}
 use Rattle.literals.specs.Literals.{lower_literal_to_operand, lower_const_to_operand}
-use Rattle.lower_spec.specs.declared.temps.NewTemp.{NewTemp}
-use Rattle.lower_spec.specs.declared.merging.OptBlock.{OptBlock}
+use Rattle.lower_spec.specs.Results.{OptBlock}
 use Rattle.lower_spec.specs.Temps.{temp}
 use Rattle.body_tables.specs.Layout.{with_statements}
 use Rattle.body_temps.specs.Promises.{Makes}
@@ -39,7 +37,7 @@ use Rattle.pattern_matching.specs.declared.MatchingMode.{MatchingMode}
 use Rattle.pattern_matching.specs.Modes.{is_check}
 use Rattle.pattern_matching.specs.Walking.{Ctx, Out, Walk, refused, step, out, with_state}
 use Rattle.pattern_matching.specs.Tests.{pattern_match_const, literal, lit_by, constant_path}
-use Rattle.pattern_walk_spec.specs.declared.Lowered.{Lowered}
+use Rattle.pattern_walk_spec.specs.Results.{Lowered}
 use Rattle.pattern_walk_spec.specs.Answers.{Begins, Lowers}
 use Rattle.pattern_walk_spec.proofs.Sequences.{lowers_skips, lowers_refuses, lowers_by}
 use Rattle.pattern_switching.specs.Switching.{else_made, compare_step, then_switch, Steps}
@@ -59,16 +57,16 @@ module _ (image : List ℕ) (t : Body) (c : Counts) (p : PatId) (constant : Cons
   ends st on other = compare_step image BinOp.Eq (Left.Constant constant) place st current on other
 
   -- there is no room for the block that goes on
-  pub const_full : NewBlock.Full ≡ new_block c → Tests (Lowered.Refused MirLowerError.Limit p) t
+  pub const_full : None ≡ new_block c → Tests (Err (MirLowerError.Limit, p)) t
   const_full full = lowers_by (const_cut image p constant place current els) (then_full p ends els t c current full)
 
-  module _ {c₁ : Counts} {on : BasicBlockId} (is : NewBlock.Block c₁ on ≡ new_block c) where
+  module _ {c₁ : Counts} {on : BasicBlockId} (is : Some (c₁, on) ≡ new_block c) where
     -- nor for an else
-    pub const_else_full : NewBlock.Full ≡ else_made c₁ els → Tests (Lowered.Refused MirLowerError.Limit p) t
+    pub const_else_full : None ≡ else_made c₁ els → Tests (Err (MirLowerError.Limit, p)) t
     const_else_full full = lowers_by (const_cut image p constant place current els) (then_else_full p ends els t c current is full)
 
     -- both are made, and the place is compared
-    pub const_ends : {c₂ : Counts} {other : BasicBlockId} {t' : Body} (r : Stepped) → NewBlock.Block c₂ other ≡ else_made c₁ els → Ready t c → Begins c current els → Steps (λ st. ends st on other) c₂ current t r t' →
+    pub const_ends : {c₂ : Counts} {other : BasicBlockId} {t' : Body} (r : Stepped) → Some (c₂, other) ≡ else_made c₁ els → Ready t c → Begins c current els → Steps (λ st. ends st on other) c₂ current t r t' →
         Tests (lowered_by p on other r) t'
     const_ends {other = other} r made P h E =
         lowers_by (const_cut image p constant place current els)
@@ -142,12 +140,12 @@ module _ (image : List ℕ) (t : Body) (c : Counts) (mode : MatchingMode) (p : P
   Literal = Lowers (λ ctx. lit_by operand.kind image p.0 ty operand mode ctx current els place) c current els t
 
   -- it is no literal
-  pub lit_not : is_literal kind ≡ false → Literal (Lowered.Refused MirLowerError.NotSupported p) t
+  pub lit_not : is_literal kind ≡ false → Literal (Err (MirLowerError.NotSupported, p)) t
   lit_not e = lowers_refuses (λ ctx. not_literal operand.kind image p.0 ty operand mode ctx current els place (ap is_literal read ∙ e))
 
   module _ (e : is_literal kind ≡ true) where
     -- nothing is tested beyond Check
-    pub lit_skips : is_check mode ≡ false → Begins c current els → Literal (Lowered.Done c current els) t
+    pub lit_skips : is_check mode ≡ false → Begins c current els → Literal (Ok (c, current, els)) t
     unfolding literal
     lit_skips beyond h =
         lowers_skips (λ ctx. not_in_check mode (step p.0 (lower_literal_to_operand image ty operand) (λ constant. pattern_match_const image p.0 constant ctx current els place)) (out ctx current els) beyond
@@ -164,7 +162,7 @@ module _ (image : List ℕ) (t : Body) (c : Counts) (mode : MatchingMode) (p : P
           ∙ is_literal_lem operand.kind image p.0 ty operand mode ctx current els place (ap is_literal read ∙ e)
 
       -- the operand is refused
-      pub lit_refused : {err : MirLowerError} → stopped err ≡ lower_literal_to_operand image ty operand → Literal (Lowered.Refused err p) t
+      pub lit_refused : {err : MirLowerError} → stopped err ≡ lower_literal_to_operand image ty operand → Literal (Err (err, p)) t
       lit_refused is = lowers_refuses (tests is)
 
       -- the operand's constant is compared
@@ -184,19 +182,19 @@ module _ (image : List ℕ) (b₀ : Body) (c : Counts) (p : PatId) (held : Local
   switches n ctx = then_switch p.0 n 1 0 ctx current els
 
   -- there is no local
-  pub compared_no_temp : {err : MirLowerError} {b : Body} → Makes (λ st. temp image st 256 current) c b₀ (NewTemp.Refused err) b → Compared (Lowered.Refused err p) b
+  pub compared_no_temp : {err : MirLowerError} {b : Body} → Makes (λ st. temp image st 256 current) c b₀ (Err err) b → Compared (Err (err, p)) b
   unfolding constant_compared
   compared_no_temp M = assign_no_local b₀ p els row switches M
 
-  module _ {c₁ : Counts} {n : LocalId} {b₁ b₂ : Body} (long : length place.elems ≡ 16) (M : Makes (λ st. temp image st 256 current) c b₀ (NewTemp.Local c₁ n) b₁)
+  module _ {c₁ : Counts} {n : LocalId} {b₁ b₂ : Body} (long : length place.elems ≡ 16) (M : Makes (λ st. temp image st 256 current) c b₀ (Ok (c₁, n)) b₁)
       (after : b₂ ≡ with_statements b₁ (statements_after c₁ b₁.statements (row n))) where
     -- there is no room for the statement
-    pub compared_full : Counted.Full ≡ new_statement c₁ → Compared (Lowered.Refused MirLowerError.Limit p) b₂
+    pub compared_full : None ≡ new_statement c₁ → Compared (Err (MirLowerError.Limit, p)) b₂
     unfolding constant_compared
     compared_full full = assign_full b₀ p els row switches M (binary_length current n BinOp.Eq (Left.Local held) place long) after full
 
     -- the block goes on by the local
-    pub compared_switches : {c₂ : Counts} {r : Lowered} {b : Body} → Counted.Now c₂ ≡ new_statement c₁ → Ready b₀ c → Begins c current els → Lowers (switches n) c₂ current els b₂ r b →
+    pub compared_switches : {c₂ : Counts} {r : Lowered} {b : Body} → Some c₂ ≡ new_statement c₁ → Ready b₀ c → Begins c current els → Lowers (switches n) c₂ current els b₂ r b →
         Compared r b
     unfolding constant_compared
     compared_switches is P h S = assign_then b₀ p els row switches M (binary_length current n BinOp.Eq (Left.Local held) place long) after is P h S
@@ -210,7 +208,7 @@ module _ (image : List ℕ) (b₀ : Body) (c : Counts) (mode : MatchingMode) (p 
   tested n ctx = constant_compared image p.0 n ctx current els place
 
   -- nothing is tested beyond Check
-  pub path_skips : is_check mode ≡ false → Begins c current els → Path (Lowered.Done c current els) b₀
+  pub path_skips : is_check mode ≡ false → Begins c current els → Path (Ok (c, current, els)) b₀
   unfolding constant_path
   path_skips beyond h = lowers_skips (λ ctx. not_in_check mode _ (out ctx current els) beyond) h
 
@@ -226,14 +224,14 @@ module _ (image : List ℕ) (b₀ : Body) (c : Counts) (mode : MatchingMode) (p 
     path_cut ctx = rw read (in_check_lem mode _ (out ctx current els) check)
 
     -- there is no local
-    pub path_no_temp : {err : MirLowerError} {b : Body} → Makes (λ st. temp image st ty current) c b₀ (NewTemp.Refused err) b → Path (Lowered.Refused err p) b
+    pub path_no_temp : {err : MirLowerError} {b : Body} → Makes (λ st. temp image st ty current) c b₀ (Err err) b → Path (Err (err, p)) b
     path_no_temp M = lowers_by path_cut (assign_no_local b₀ p els copied tested M)
 
-    module _ {c₁ : Counts} {n : LocalId} {b₁ b₂ : Body} (M : Makes (λ st. temp image st ty current) c b₀ (NewTemp.Local c₁ n) b₁) (after : b₂ ≡ with_statements b₁ (statements_after c₁ b₁.statements (copied n))) where
+    module _ {c₁ : Counts} {n : LocalId} {b₁ b₂ : Body} (M : Makes (λ st. temp image st ty current) c b₀ (Ok (c₁, n)) b₁) (after : b₂ ≡ with_statements b₁ (statements_after c₁ b₁.statements (copied n))) where
       -- there is no room for the statement
-      pub path_full : Counted.Full ≡ new_statement c₁ → Path (Lowered.Refused MirLowerError.Limit p) b₂
+      pub path_full : None ≡ new_statement c₁ → Path (Err (MirLowerError.Limit, p)) b₂
       path_full full = lowers_by path_cut (assign_full b₀ p els copied tested M (constant_length current n constant) after full)
 
       -- the local is compared
-      pub path_tests_lem : {c₂ : Counts} {r : Lowered} {b : Body} → Counted.Now c₂ ≡ new_statement c₁ → Ready b₀ c → Begins c current els → Lowers (tested n) c₂ current els b₂ r b → Path r b
+      pub path_tests_lem : {c₂ : Counts} {r : Lowered} {b : Body} → Some c₂ ≡ new_statement c₁ → Ready b₀ c → Begins c current els → Lowers (tested n) c₂ current els b₂ r b → Path r b
       path_tests_lem is P h L = lowers_by path_cut (assign_then b₀ p els copied tested M (constant_length current n constant) after is P h L)

@@ -12,7 +12,7 @@ use Rattle.mir.specs.declared.rvalues.Left.{Left}
 use Rattle.mir.specs.declared.rvalues.PlaceRvalue.{PlaceRvalue}
 use Rattle.mir.specs.Rvalues.{place_rvalue_row}
 use Rattle.state.specs.Steps.{next_block, next_local, try_block, try_statement}
-use Rattle.lower_spec.specs.declared.merging.OptBlock.{OptBlock}
+use Rattle.lower_spec.specs.Results.{OptBlock}
 use Rattle.lower_spec.specs.Temps.{temp}
 use Rattle.pattern_matching.specs.Walking.{Ctx, step, local_place, else_state, else_block}
 use Rattle.pattern_matching.specs.Tests.{usize_word, pattern_match_const}

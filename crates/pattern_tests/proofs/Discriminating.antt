@@ -1,4 +1,5 @@
 -- The variant of an enum, by the ways through the code. Assumes nothing.
+use Rattle.std.specs.Prelude.{Some, None, Ok, Err}
 use mathlib.Core.Path.{◌≡◌, refl, ap, ◌∙◌}
 use mathlib.Core.Bool.{true}
 use mathlib.Core.List.{List, [], ◌∷◌}
@@ -24,19 +25,17 @@ use Rattle.place.specs.declared.LocalId.{LocalId}
 use Rattle.place.specs.declared.Place.{Place}
 use Rattle.mir.specs.declared.BasicBlockId.{BasicBlockId}
 use Rattle.mir.specs.declared.Counts.{Counts}
-use Rattle.mir.specs.declared.scopes.Counted.{Counted}
 use Rattle.mir.specs.declared.rvalues.PlaceRvalue.{PlaceRvalue}
 use Rattle.mir.specs.Rvalues.{place_rvalue_row}
 use Rattle.mir.specs.Statements.{new_statement, statements_after}
 use Rattle.state.proofs.RowLengths.{place_rvalue_length}
-use Rattle.lower_spec.specs.declared.temps.NewTemp.{NewTemp}
-use Rattle.lower_spec.specs.declared.merging.OptBlock.{OptBlock}
+use Rattle.lower_spec.specs.Results.{OptBlock}
 use Rattle.lower_spec.specs.Temps.{discr_temp_place}
 use Rattle.body_tables.specs.Layout.{with_statements}
 use Rattle.body_temps.specs.Promises.{Makes}
 use Rattle.pattern_matching.specs.Walking.{Ctx, Out, Walk}
 use Rattle.pattern_matching.specs.Variants.{discriminant_test}
-use Rattle.pattern_walk_spec.specs.declared.Lowered.{Lowered}
+use Rattle.pattern_walk_spec.specs.Results.{Lowered}
 use Rattle.pattern_walk_spec.specs.Answers.{Begins, Lowers}
 use Rattle.pattern_walk_spec.proofs.Sequences.{lowers_by}
 use Rattle.pattern_switching.specs.Switching.{then_switch}
@@ -110,21 +109,21 @@ module _ (image : List ℕ) (b₀ : Body) (c : Counts) (p : PatId) (v : ℕ) (cu
   both = switches ((variant_of image v).discriminant % 18446744073709551616) ((variant_of image v).discriminant / 18446744073709551616)
 
   -- there is no local
-  pub discriminant_no_temp : {err : MirLowerError} {b : Body} → Makes (λ st. discr_temp_place image st current) c b₀ (NewTemp.Refused err) b → Tested (Lowered.Refused err p) b
+  pub discriminant_no_temp : {err : MirLowerError} {b : Body} → Makes (λ st. discr_temp_place image st current) c b₀ (Err err) b → Tested (Err (err, p)) b
   unfolding discriminant_test then_switch
   discriminant_no_temp M = assign_no_local b₀ p els row both M
 
-  module _ {c₁ : Counts} {m : LocalId} {b₁ b₂ : Body} (long : length place.elems ≡ 16) (M : Makes (λ st. discr_temp_place image st current) c b₀ (NewTemp.Local c₁ m) b₁)
+  module _ {c₁ : Counts} {m : LocalId} {b₁ b₂ : Body} (long : length place.elems ≡ 16) (M : Makes (λ st. discr_temp_place image st current) c b₀ (Ok (c₁, m)) b₁)
       (after : b₂ ≡ with_statements b₁ (statements_after c₁ b₁.statements (row m))) where
     -- there is no room for the statement
-    pub discriminant_full : Counted.Full ≡ new_statement c₁ → Tested (Lowered.Refused MirLowerError.Limit p) b₂
+    pub discriminant_full : None ≡ new_statement c₁ → Tested (Err (MirLowerError.Limit, p)) b₂
     unfolding discriminant_test then_switch
     discriminant_full full = assign_full b₀ p els row both M (place_rvalue_length current m PlaceRvalue.Discr place long) after full
 
     -- the block goes on by the local
     pub discriminant_switches : {c₂ : Counts} {r : Lowered} {b : Body} {low high : ℕ} →
         (low ≡ (variant_of image v).discriminant % 18446744073709551616) × (high ≡ (variant_of image v).discriminant / 18446744073709551616) →
-        Counted.Now c₂ ≡ new_statement c₁ → Ready b₀ c → Begins c current els →
+        Some c₂ ≡ new_statement c₁ → Ready b₀ c → Begins c current els →
         Lowers (switches low high m) c₂ current els b₂ r b → Tested r b
     unfolding discriminant_test then_switch
     discriminant_switches {low = low} {high = high} halves is P h W =

@@ -1,4 +1,5 @@
 -- The tests of the lowering, cut where the code is cut. Assumes nothing: these are definitions.
+use Rattle.std.specs.Prelude.{Some}
 use Rattle.std.specs.Prelude.{ℕ, Bool, true, false, List}
 use Rattle.image.specs.declared.kinds.OperandKind.{OperandKind}
 use Rattle.refusals.specs.Refusals.{Result, done}
@@ -13,7 +14,7 @@ use Rattle.mir.specs.declared.rvalues.PlaceRvalue.{PlaceRvalue}
 use Rattle.mir.specs.Rvalues.{binary_row, place_rvalue_row}
 use Rattle.state.specs.State.{State}
 use Rattle.state.specs.Steps.{next_block, next_local, try_block, try_statement, set_terminator}
-use Rattle.lower_spec.specs.declared.merging.OptBlock.{OptBlock}
+use Rattle.lower_spec.specs.Results.{OptBlock}
 use Rattle.lower_spec.specs.Temps.{temp}
 use Rattle.pattern_matching.specs.Walking.{Ctx, Out, Walk, step, out, with_state, local_place, else_state, else_block}
 use Rattle.pattern_matching.specs.Tests.{bool_word, usize_word}
@@ -52,7 +53,7 @@ length_switch image p l n rest ctx current els =
     step p (else_state ctx.state els) (λ st₁.
     step p (try_block st₁) (λ st₂.
     step p (length_end image l n rest st₂ current (next_block st₁) (else_block ctx.state els)) (λ st₃.
-    out (with_state ctx st₃) (next_block st₁) (OptBlock.Some (else_block ctx.state els)))))
+    out (with_state ctx st₃) (next_block st₁) (Some (else_block ctx.state els)))))
 
 -- the length's test, with a rest or without
 unfoldable pub length_test_by : Bool → List ℕ → ℕ → ℕ → Ctx → BasicBlockId → OptBlock → Place → Walk Out

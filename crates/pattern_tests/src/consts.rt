@@ -14,23 +14,19 @@ ghost use Rattle.state.specs.Promises.{Ready};
 use body_assignments::{push_binary_assignment, push_constant_assignment};
 use body_tables::BODY_WORDS;
 use body_temps::temp;
-use image::kinds::{OperandKind, operand_kind};
+use image::kinds::OperandKind;
 use image::rows::operand_at;
 use image::{PatId, Tables};
-use literals::{LoweredOperand, lower_const_to_operand, lower_literal_to_operand};
-use lower_spec::merging::OptBlock;
-use lower_spec::temps::NewTemp;
-use mir::blocks::{NewBlock, new_basic_block};
+use literals::{lower_const_to_operand, lower_literal_to_operand};
+use mir::blocks::new_basic_block;
 use mir::locals::BOOL;
 use mir::rvalues::{BinOp, Constant, Left};
-use mir::scopes::Counted;
 use mir::{BasicBlockId, Counts};
 use pattern_matching::{MatchingMode, is_check};
 use pattern_switching::{compare, else_block, then_switch};
 use pattern_walk_spec::Lowered;
 use place::{LocalId, Place};
 use refusals::MirLowerError;
-use state::Stepped;
 
 // A place is compared with a constant; the block that goes on is made before an else.
 pub fn pattern_match_const(
@@ -41,18 +37,14 @@ pub fn pattern_match_const(
     p: PatId,
     constant: Constant,
     current: BasicBlockId,
-    els: OptBlock,
+    els: Option<BasicBlockId>,
     place: Place,
 ) -> Lowered
     requires { Whole image.now tables × Ready (body_of body.old) counts × Begins counts current els }
     ensures { Lowers (λ ctx. pattern_match_const image.now p.0 constant ctx current els place) counts current els (body_of body.old) result (body_of body.new) }
 {
-    let NewBlock::Block(c1, then) = new_basic_block(counts) else {
-        return Lowered::Refused(MirLowerError::Limit, p);
-    };
-    let NewBlock::Block(c2, other) = else_block(c1, els) else {
-        return Lowered::Refused(MirLowerError::Limit, p);
-    };
+    let (c1, then) = new_basic_block(counts).ok_or((MirLowerError::Limit, p))?;
+    let (c2, other) = else_block(c1, els).ok_or((MirLowerError::Limit, p))?;
     match compare(
         image,
         tables,
@@ -65,19 +57,20 @@ pub fn pattern_match_const(
         then,
         other,
     ) {
-        Stepped::Refused(e) => Lowered::Refused(e, p),
-        Stepped::Now(c3) => Lowered::Done(c3, then, OptBlock::Some(other)),
+        Err(e) => Err((e, p)),
+        Ok(c3) => Ok((c3, then, Some(other))),
     }
 }
 
 // An operand of these kinds is a literal.
+#[tactic(auto, unfolding(crate::specs::Testing::is_literal))]
 pub fn is_literal(kind: OperandKind) -> bool
     ensures { result ≡ is_literal kind }
 {
-    match kind {
-        OperandKind::Constant | OperandKind::Other | OperandKind::Unknown => false,
-        _ => true,
-    }
+    !matches!(
+        kind,
+        OperandKind::Constant | OperandKind::Other | OperandKind::Unknown
+    )
 }
 
 // A literal pattern of the type ty, whose operand begins at the word o of the list: it tests in Check, and what is no literal is refused in every mode.
@@ -91,22 +84,22 @@ pub fn pattern_match_lit(
     ty: u16,
     o: u16,
     current: BasicBlockId,
-    els: OptBlock,
+    els: Option<BasicBlockId>,
     place: Place,
 ) -> Lowered
     requires image_value { (valid image.now ≡ true) × Whole image.now tables × (ty < type_count image.now) × (operand_holds image.now o ≡ true) }
     requires ready { Ready (body_of body.old) counts × Begins counts current els }
     ensures { Lowers (λ ctx. lit_by (operand_of image.now o).kind image.now p.0 ty (operand_of image.now o) mode ctx current els place) counts current els (body_of body.old) result (body_of body.new) }
 {
-    if !is_literal(operand_kind(operand_at(image, tables, o).kind)) {
-        return Lowered::Refused(MirLowerError::NotSupported, p);
+    if !is_literal(OperandKind::from(operand_at(image, tables, o).kind)) {
+        return Err((MirLowerError::NotSupported, p));
     }
     if !is_check(mode) {
-        return Lowered::Done(counts, current, els);
+        return Ok((counts, current, els));
     }
     match lower_literal_to_operand(image, tables, ty, o) {
-        LoweredOperand::Refused(e) => Lowered::Refused(e, p),
-        LoweredOperand::Constant(constant) => pattern_match_const(
+        Err(e) => Err((e, p)),
+        Ok(constant) => pattern_match_const(
             image, tables, body, counts, p, constant, current, els, place,
         ),
     }
@@ -121,16 +114,16 @@ fn constant_compared(
     p: PatId,
     l: LocalId,
     current: BasicBlockId,
-    els: OptBlock,
+    els: Option<BasicBlockId>,
     place: Place,
 ) -> Lowered
     requires { Whole image.now tables × Ready (body_of body.old) counts × Begins counts current els }
     ensures { Lowers (λ ctx. constant_compared image.now p.0 l ctx current els place) counts current els (body_of body.old) result (body_of body.new) }
 {
     match temp(image, tables, body, counts, BOOL, current) {
-        NewTemp::Refused(e) => Lowered::Refused(e, p),
-        NewTemp::Local(c1, test) => {
-            let Counted::Now(c2) = push_binary_assignment(
+        Err(e) => Err((e, p)),
+        Ok((c1, test)) => {
+            let c2 = push_binary_assignment(
                 body,
                 c1,
                 current,
@@ -138,9 +131,7 @@ fn constant_compared(
                 BinOp::Eq,
                 Left::Local(l),
                 place,
-            ) else {
-                return Lowered::Refused(MirLowerError::Limit, p);
-            };
+            ).ok_or((MirLowerError::Limit, p))?;
             then_switch(body, c2, p, test, 1, 0, current, els)
         }
     }
@@ -158,7 +149,7 @@ pub fn constant_path(
     ty: u16,
     o: u16,
     current: BasicBlockId,
-    els: OptBlock,
+    els: Option<BasicBlockId>,
     place: Place,
 ) -> Lowered
     requires whole { Whole image.now tables × (operand_holds image.now o ≡ true) × ((operand_of image.now o).kind ≡ OperandKind.Constant) }
@@ -166,15 +157,16 @@ pub fn constant_path(
     ensures { Lowers (λ ctx. constant_path image.now p.0 ty (operand_of image.now o) mode ctx current els place) counts current els (body_of body.old) result (body_of body.new) }
 {
     if !is_check(mode) {
-        return Lowered::Done(counts, current, els);
+        return Ok((counts, current, els));
     }
     let constant = lower_const_to_operand(image, tables, ty, o);
     match temp(image, tables, body, counts, ty, current) {
-        NewTemp::Refused(e) => Lowered::Refused(e, p),
-        NewTemp::Local(c1, l) => {
-            let Counted::Now(c2) = push_constant_assignment(body, c1, current, l, constant) else {
-                return Lowered::Refused(MirLowerError::Limit, p);
-            };
+        Err(e) => Err((e, p)),
+        Ok((c1, l)) => {
+            let c2 = push_constant_assignment(body, c1, current, l, constant).ok_or((
+                MirLowerError::Limit,
+                p,
+            ))?;
             constant_compared(image, tables, body, c2, p, l, current, els, place)
         }
     }

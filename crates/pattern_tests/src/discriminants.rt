@@ -13,10 +13,7 @@ use body_temps::discr_temp_place;
 use image::rows::{OperandRow, operand_bytes, variant_at};
 use image::{PatId, Tables};
 use literals::half;
-use lower_spec::merging::OptBlock;
-use lower_spec::temps::NewTemp;
 use mir::rvalues::PlaceRvalue;
-use mir::scopes::Counted;
 use mir::{BasicBlockId, Counts};
 use pattern_switching::then_switch;
 use pattern_walk_spec::Lowered;
@@ -32,7 +29,7 @@ pub fn discriminant_test(
     p: PatId,
     v: u16,
     current: BasicBlockId,
-    els: OptBlock,
+    els: Option<BasicBlockId>,
     place: Place,
 ) -> Lowered
     requires image_value { (valid image.now ≡ true) × Whole image.now tables × (v < variant_count image.now) }
@@ -52,12 +49,12 @@ pub fn discriminant_test(
     let low = half(bytes, 0, 8);
     let high = half(bytes, 8, 8);
     match discr_temp_place(image, tables, body, counts, current) {
-        NewTemp::Refused(e) => Lowered::Refused(e, p),
-        NewTemp::Local(c1, l) => {
-            let Counted::Now(c2) = push_assignment(body, c1, current, l, PlaceRvalue::Discr, place)
-            else {
-                return Lowered::Refused(MirLowerError::Limit, p);
-            };
+        Err(e) => Err((e, p)),
+        Ok((c1, l)) => {
+            let c2 = push_assignment(body, c1, current, l, PlaceRvalue::Discr, place).ok_or((
+                MirLowerError::Limit,
+                p,
+            ))?;
             then_switch(body, c2, p, l, low, high, current, els)
         }
     }

@@ -13,18 +13,14 @@ use body_tables::BODY_WORDS;
 use body_tables::blocks::set_terminator;
 use body_temps::temp;
 use image::{PatId, Tables};
-use lower_spec::merging::OptBlock;
-use lower_spec::temps::NewTemp;
-use mir::blocks::{NewBlock, Terminator, new_basic_block};
+use mir::blocks::{Terminator, new_basic_block};
 use mir::locals::USIZE;
 use mir::rvalues::{BinOp, Constant, Left, PlaceRvalue};
-use mir::scopes::Counted;
 use mir::{BasicBlockId, Counts};
 use pattern_switching::{compare, else_block};
 use pattern_walk_spec::Lowered;
 use place::{LocalId, Place};
 use refusals::MirLowerError;
-use state::Stepped;
 
 // How many items a slice must have, as an operand.
 fn length_constant(n: u16) -> Constant
@@ -51,14 +47,14 @@ fn length_end(
     current: BasicBlockId,
     then: BasicBlockId,
     other: BasicBlockId,
-) -> Stepped
+) -> Result<Counts, MirLowerError>
     requires { Whole image.now tables × Ready (body_of body.old) counts × (current.0 < counts.blocks) }
     ensures { Steps (λ st. length_end image.now l n rest st current then other) counts current (body_of body.old) result (body_of body.new) }
 {
     if !rest {
         let switch = Terminator::Switch(l, n as u64, 0, then, other);
         set_terminator(body, current, switch);
-        return Stepped::Now(counts);
+        return Ok(counts);
     }
     let length = Place {
         local: l,
@@ -90,20 +86,16 @@ fn length_switch(
     n: u16,
     rest: bool,
     current: BasicBlockId,
-    els: OptBlock,
+    els: Option<BasicBlockId>,
 ) -> Lowered
     requires { Whole image.now tables × Ready (body_of body.old) counts × Begins counts current els }
     ensures { Lowers (λ ctx. length_switch image.now p.0 l n rest ctx current els) counts current els (body_of body.old) result (body_of body.new) }
 {
-    let NewBlock::Block(c1, other) = else_block(counts, els) else {
-        return Lowered::Refused(MirLowerError::Limit, p);
-    };
-    let NewBlock::Block(c2, then) = new_basic_block(c1) else {
-        return Lowered::Refused(MirLowerError::Limit, p);
-    };
+    let (c1, other) = else_block(counts, els).ok_or((MirLowerError::Limit, p))?;
+    let (c2, then) = new_basic_block(c1).ok_or((MirLowerError::Limit, p))?;
     match length_end(image, tables, body, c2, l, n, rest, current, then, other) {
-        Stepped::Refused(e) => Lowered::Refused(e, p),
-        Stepped::Now(c3) => Lowered::Done(c3, then, OptBlock::Some(other)),
+        Err(e) => Err((e, p)),
+        Ok(c3) => Ok((c3, then, Some(other))),
     }
 }
 
@@ -117,19 +109,19 @@ pub fn length_test(
     n: u16,
     rest: bool,
     current: BasicBlockId,
-    els: OptBlock,
+    els: Option<BasicBlockId>,
     place: Place,
 ) -> Lowered
     requires { Whole image.now tables × Ready (body_of body.old) counts × Begins counts current els }
     ensures { Lowers (λ ctx. length_test_by rest image.now p.0 n ctx current els place) counts current els (body_of body.old) result (body_of body.new) }
 {
     match temp(image, tables, body, counts, USIZE, current) {
-        NewTemp::Refused(e) => Lowered::Refused(e, p),
-        NewTemp::Local(c1, l) => {
-            let Counted::Now(c2) = push_assignment(body, c1, current, l, PlaceRvalue::Len, place)
-            else {
-                return Lowered::Refused(MirLowerError::Limit, p);
-            };
+        Err(e) => Err((e, p)),
+        Ok((c1, l)) => {
+            let c2 = push_assignment(body, c1, current, l, PlaceRvalue::Len, place).ok_or((
+                MirLowerError::Limit,
+                p,
+            ))?;
             length_switch(image, tables, body, c2, p, l, n, rest, current, els)
         }
     }

@@ -1,4 +1,5 @@
 -- A token is no longer than the text that it begins. Assumes nothing.
+use Rattle.std.specs.Prelude.{Some, None, Ok, Err}
 use Prim.Native.Nat.{ℕ, suc, ◌+◌, ◌-◌, ◌<◌, ◌≤◌}
 use mathlib.Core.Path.{◌≡◌, refl, ap}
 use mathlib.Core.Bool.{Bool, true, false, cond, not, ◌&&◌}
@@ -8,14 +9,13 @@ use borrow.Author.Tests.{leb-true, eqb-true}
 use lib.Dec.{eqb, leb}
 use lib.ListN.{length, get_or, take, drop, length-drop}
 use Rattle.image.proofs.Bools.{and_left, and_right}
-use Rattle.text_chars.specs.declared.Scalar.{Scalar}
+use Rattle.text_chars.specs.Results.{Scalar}
 use Rattle.text_chars.specs.Bytes.{ascii, run}
 use Rattle.pattern_words.specs.declared.Kind.{Kind}
 use Rattle.pattern_words.specs.declared.Piece.{Piece}
 use Rattle.pattern_words.specs.Words.{begins_word, in_word, is_digit, same_word, is_one_of, keywords, never_raw, word_of, ends_prefix, is_raw, raw_piece, plain_piece, word_piece, failing}
 use Rattle.pattern_tokens.specs.Literals.{in_integer, integer_of, integer_piece, char_of, is_suffix, closed_char, char_piece, goes_on}
 use Rattle.pattern_tokens.specs.Tokens.{Mark, begins, punctuation, first_where, piece_of, placed, bare, token_from, token_behind, token_at}
-use Rattle.text_chars.specs.declared.Start.{Start}
 use Rattle.text_chars.specs.Gaps.{start_of}
 use Rattle.text_chars.proofs.Loops.{on, over, left}
 use Rattle.pattern_words.proofs.Spelling.{run_bound, there, raw_long}
@@ -68,8 +68,8 @@ unfolding char_piece
 chars_size bytes = by (char_of (drop 1 bytes))
   where
     by : (s : Scalar) → (Rattle.text_chars.specs.Scalars.on_scalar s failing (closed_char bytes)).size ≤ length bytes
-    by (Scalar.Of v more) = closed_size bytes v more
-    by Scalar.Nothing = omega arith
+    by (Some (v, more)) = closed_size bytes v more
+    by None = omega arith
 
 -- what the bytes begin with is no longer than they
 begins_size : (bytes : List ℕ) (k : ℕ) (cs : List ℕ) → Rattle.image.specs.Lists.all_in (leb 1) cs ≡ true → k ≤ length bytes → begins bytes k cs ≡ true → k + length cs ≤ length bytes
@@ -110,15 +110,15 @@ piece_size at bytes =
     (chosen (eqb (get_or bytes 0 0) 39) _ _ (length bytes) (λ _. chars_size bytes) (first_size bytes punctuation marks_spelled)))
 
 -- the token at a position, by where the next one begins
-pub token_end : (text : List ℕ) (at from : ℕ) → start_of text at ≡ Start.At from → length text ≤ from → token_at text at ≡ bare Kind.End from
+pub token_end : (text : List ℕ) (at from : ℕ) → start_of text at ≡ Ok from → length text ≤ from → token_at text at ≡ bare Kind.End from
 unfolding token_at token_behind token_from
 token_end text at from e h = rw (e, over text from h)
 
-pub token_broken : (text : List ℕ) (at from : ℕ) → start_of text at ≡ Start.BrokenAt from → token_at text at ≡ bare Kind.Fails from
+pub token_broken : (text : List ℕ) (at from : ℕ) → start_of text at ≡ Err from → token_at text at ≡ bare Kind.Fails from
 unfolding token_at token_behind
 token_broken text at from e = rw (e)
 
-pub token_there : (text : List ℕ) (at from : ℕ) (p : Piece) → start_of text at ≡ Start.At from → from < length text → p ≡ piece_of from (take (length text - from) (drop from text)) → token_at text at ≡ placed from p
+pub token_there : (text : List ℕ) (at from : ℕ) (p : Piece) → start_of text at ≡ Ok from → from < length text → p ≡ piece_of from (take (length text - from) (drop from text)) → token_at text at ≡ placed from p
 unfolding token_at token_behind token_from
 token_there text at from p e h m =
     let n = rw (left text from) at m in

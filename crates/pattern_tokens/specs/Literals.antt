@@ -1,9 +1,9 @@
 -- Decimal integers and chars. Assumes nothing: these are definitions.
+use Rattle.std.specs.Prelude.{Some, None}
 use Rattle.std.specs.Prelude.{ℕ, suc, ◌+◌, ◌*◌, ◌-◌, Bool, cond, not, ◌&&◌, ◌||◌, List, [], ◌∷◌, eqb, ltb, drop}
 use Prim.Native.Char.{code}
 use Rattle.image.specs.Lists.{member}
-use Rattle.text_chars.specs.declared.Scalar.{Scalar}
-use Rattle.text_chars.specs.declared.Scalar.TheVariants.{Of, Nothing}
+use Rattle.text_chars.specs.Results.{Scalar}
 use Rattle.text_chars.specs.Bytes.{byte_of, run}
 use Rattle.image.specs.Operands.{is_scalar_value}
 use Rattle.text_chars.specs.Scalars.{scalar_of, on_scalar}
@@ -39,31 +39,31 @@ hex_digit b =
 -- `\n \r \t \\ \0 \' \"`, by the byte behind `\` (lex.token.literal.char.syntax: QUOTE_ESCAPE, ASCII_ESCAPE)
 unfoldable pub simple_escape : ℕ → Scalar
 simple_escape b =
-    cond (eqb b (code "n")) (Of 0xA 1)
-    (cond (eqb b (code "r")) (Of 0xD 1)
-    (cond (eqb b (code "t")) (Of 0x9 1)
-    (cond (eqb b (code "0")) (Of 0 1)
-    (cond (eqb b (code "\\") || (eqb b (code "'") || eqb b (code "\""))) (Of b 1)
-    Nothing))))
+    cond (eqb b (code "n")) (Some (0xA, 1))
+    (cond (eqb b (code "r")) (Some (0xD, 1))
+    (cond (eqb b (code "t")) (Some (0x9, 1))
+    (cond (eqb b (code "0")) (Some (0, 1))
+    (cond (eqb b (code "\\") || (eqb b (code "'") || eqb b (code "\""))) (Some (b, 1))
+    None))))
 
 -- `\x`, an octal digit and a hexadecimal digit: ASCII_ESCAPE
 unfoldable pub byte_escape : ℕ → ℕ → Scalar
-byte_escape b c = cond (ltb (hex_digit b) 8 && ltb (hex_digit c) 16) (Of (hex_digit b * 16 + hex_digit c) 3) Nothing
+byte_escape b c = cond (ltb (hex_digit b) 8 && ltb (hex_digit c) 16) (Some (hex_digit b * 16 + hex_digit c, 3)) None
 
 -- the scalar value that an escape means
 unfoldable pub escaped : ℕ → ℕ → Scalar
-escaped v more = cond (is_scalar_value v) (Of v more) Nothing
+escaped v more = cond (is_scalar_value v) (Some (v, more)) None
 
 -- UNICODE_ESCAPE: `\u{`, (HEX_DIGIT _*) 1 to 6 times, and `}`. Of it so many bytes are read, with so many digits and this value. Behind
 -- its first byte an escape has as many as before its last
 unfoldable pub unicode_from : ℕ → ℕ → ℕ → List ℕ → Scalar
-unicode_from read digits v [] = Nothing
+unicode_from read digits v [] = None
 unicode_from read digits v (b ∷ bytes) =
-    cond (ltb (hex_digit b) 16) (cond (ltb digits 6) (unicode_from (suc read) (suc digits) (v * 16 + hex_digit b) bytes) Nothing)
-    (cond (eqb digits 0) Nothing
+    cond (ltb (hex_digit b) 16) (cond (ltb digits 6) (unicode_from (suc read) (suc digits) (v * 16 + hex_digit b) bytes) None)
+    (cond (eqb digits 0) None
     (cond (eqb b (code "_")) (unicode_from (suc read) digits v bytes)
     (cond (eqb b (code "}")) (escaped v read)
-    Nothing)))
+    None)))
 
 -- the bytes begin with an escape
 unfoldable pub escape_of : List ℕ → Scalar
@@ -74,8 +74,8 @@ escape_of bytes =
 
 -- what stands for itself between quotes: any but `'`, `\`, LF, CR, TAB (lex.token.literal.char.syntax)
 unfoldable pub plain_char : Scalar → Scalar
-plain_char Nothing = Nothing
-plain_char (Of v more) = cond (member v (code "'" ∷ 0xA ∷ 0xD ∷ 0x9 ∷ [])) Nothing (Of v more)
+plain_char None = None
+plain_char (Some (v, more)) = cond (member v (code "'" ∷ 0xA ∷ 0xD ∷ 0x9 ∷ [])) None (Some (v, more))
 
 -- what stands between the quotes of a char
 unfoldable pub char_of : List ℕ → Scalar

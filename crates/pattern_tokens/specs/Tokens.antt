@@ -1,10 +1,10 @@
 -- The token at a position of a text: the longest of the Reference's (lex.token.syntax), which fails where it is none of a pattern's.
 -- Assumes nothing: these are definitions.
+use Rattle.std.specs.Prelude.{Ok, Err}
 use Rattle.std.specs.Prelude.{ℕ, suc, ◌+◌, Bool, true, cond, ◌&&◌, List, [], ◌∷◌, eqb, drop}
 use Prim.Native.Char.{code}
 use Prim.Native.String.{String}
-use Rattle.text_chars.specs.declared.Start.{Start}
-use Rattle.text_chars.specs.declared.Start.TheVariants.{At, BrokenAt}
+use Rattle.text_chars.specs.Results.{Start}
 use Rattle.text_chars.specs.Bytes.{byte_of, ascii}
 use Rattle.text_chars.specs.Gaps.{start_of}
 use Rattle.pattern_words.specs.declared.Kind.{Kind}
@@ -80,8 +80,8 @@ token_from at (b ∷ bytes) = placed at (piece_of at (b ∷ bytes))
 
 -- behind whitespace and comments
 unfoldable pub token_behind : List ℕ → Start → Token
-token_behind text (At at) = token_from at (drop at text)
-token_behind text (BrokenAt at) = bare Fails at
+token_behind text (Ok at) = token_from at (drop at text)
+token_behind text (Err at) = bare Fails at
 
 -- the first token from a position of a text on
 unfoldable pub token_at : List ℕ → ℕ → Token

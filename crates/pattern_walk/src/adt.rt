@@ -14,14 +14,13 @@ use super::{pattern_match_inner, pattern_matching_variant_fields};
 use body_tables::BODY_WORDS;
 use image::rows::variant_at;
 use image::{PatId, Tables};
-use lower_spec::merging::OptBlock;
 use mir::{BasicBlockId, Counts};
 use pattern_entering::{VISIT_WORDS, visit};
 use pattern_idle::nothing_to_do;
 use pattern_items::argument_elem;
 use pattern_leaves::modes::enum_test;
 use pattern_matching::MatchingMode;
-use pattern_parts::adts::{AdtAt, adt_at, place_ty};
+use pattern_parts::adts::{VariantOf, adt_at, place_ty};
 use pattern_rows::{AdtPatternShape, ArgumentRow, argument_pat, ellipsis_at, least};
 use pattern_walk_spec::Lowered;
 use place::elems::ProjectionElem;
@@ -29,7 +28,7 @@ use place::{Place, project};
 use refusals::MirLowerError;
 
 // Arguments in a row, so many, each on the place one element on. One at which there is nothing to do is visited where it stands.
-#[cycle(pattern_match_adt_pattern_match_tuple_like_pattern_matching_variant_pattern_match_inner_pattern_matching_variant_fields_alt_alts_bound_slice)]
+#[cycle(walk)]
 pub fn pattern_match_adt(
     image: &[u8],
     tables: Tables,
@@ -44,7 +43,7 @@ pub fn pattern_match_adt(
     fields: u16,
     count: u16,
     current: BasicBlockId,
-    els: OptBlock,
+    els: Option<BasicBlockId>,
     place: Place,
 ) -> Lowered
     requires walkable { Walkable image.now tables bindings.now (body_of body.old) counts current els place }
@@ -54,19 +53,17 @@ pub fn pattern_match_adt(
     let mut c = counts;
     let mut here = current;
     let mut other = els;
-    let mut i = 0u16;
-    while i < count {
+    for i in 0..count {
         if 16 <= place.len {
-            return Lowered::Refused(MirLowerError::Limit, p);
+            return Err((MirLowerError::Limit, p));
         }
         let q = argument_pat(image, tables, row, from, i);
         if nothing_to_do(image, tables, mode, q) {
             visit(visits, q);
-            i += 1;
             continue;
         }
         let onward = project(place, argument_elem(image, tables, row, from, fields, i));
-        let walked = pattern_match_inner(
+        let (c1, b1, e1) = pattern_match_inner(
             image,
             tables,
             bindings,
@@ -78,21 +75,17 @@ pub fn pattern_match_adt(
             here,
             other,
             onward.place,
-        );
-        let Lowered::Done(c1, b1, e1) = walked else {
-            return walked;
-        };
+        )?;
         c = c1;
         here = b1;
         other = e1;
-        i += 1;
     }
-    Lowered::Done(c, here, other)
+    Ok((c, here, other))
 }
 
 // The `count` arguments from the word `from` of the list on: those before the ellipsis on the first of so many fields, then those behind it on the last ones,
 // from the last on. A surplus of arguments is dropped.
-#[cycle(pattern_match_adt_pattern_match_tuple_like_pattern_matching_variant_pattern_match_inner_pattern_matching_variant_fields_alt_alts_bound_slice)]
+#[cycle(walk)]
 pub fn pattern_match_tuple_like(
     image: &[u8],
     tables: Tables,
@@ -107,7 +100,7 @@ pub fn pattern_match_tuple_like(
     ellipsis: u16,
     fields: u16,
     current: BasicBlockId,
-    els: OptBlock,
+    els: Option<BasicBlockId>,
     place: Place,
 ) -> Lowered
     requires walkable { Walkable image.now tables bindings.now (body_of body.old) counts current els place }
@@ -116,9 +109,9 @@ pub fn pattern_match_tuple_like(
 {
     let before = ellipsis_at(ellipsis, count);
     if count < before {
-        return Lowered::Refused(MirLowerError::Ellipsis, p);
+        return Err((MirLowerError::Ellipsis, p));
     }
-    let in_front = pattern_match_adt(
+    let (c1, then, other) = pattern_match_adt(
         image,
         tables,
         bindings,
@@ -134,12 +127,9 @@ pub fn pattern_match_tuple_like(
         current,
         els,
         place,
-    );
-    let Lowered::Done(c1, then, other) = in_front else {
-        return in_front;
-    };
+    )?;
     if count == before {
-        return in_front;
+        return Ok((c1, then, other));
     }
     pattern_match_adt(
         image,
@@ -161,7 +151,7 @@ pub fn pattern_match_tuple_like(
 }
 
 // The variant v of the struct or enum at the place: an enum is tested in Check, and its fields lie behind the choice of the variant.
-#[cycle(pattern_match_adt_pattern_match_tuple_like_pattern_matching_variant_pattern_match_inner_pattern_matching_variant_fields_alt_alts_bound_slice)]
+#[cycle(walk)]
 pub fn pattern_matching_variant(
     image: &[u8],
     tables: Tables,
@@ -174,7 +164,7 @@ pub fn pattern_matching_variant(
     v: u16,
     shape: AdtPatternShape,
     current: BasicBlockId,
-    els: OptBlock,
+    els: Option<BasicBlockId>,
     place: Place,
 ) -> Lowered
     requires walkable { Walkable image.now tables bindings.now (body_of body.old) counts current els place }
@@ -183,19 +173,18 @@ pub fn pattern_matching_variant(
 {
     let fields = variant_at(image, tables, v).count;
     match adt_at(image, tables, place_ty(image, tables, body, place), v) {
-        AdtAt::Refused(e) => Lowered::Refused(e, p),
-        AdtAt::Struct => pattern_matching_variant_fields(
+        Err(e) => Err((e, p)),
+        Ok(VariantOf::Struct) => pattern_matching_variant_fields(
             image, tables, bindings, body, visits, counts, mode, p, shape, fields, current, els,
             place,
         ),
-        AdtAt::Enum => {
-            let tested = enum_test(image, tables, body, counts, mode, p, v, current, els, place);
-            let Lowered::Done(c1, then, other) = tested else {
-                return tested;
-            };
+        Ok(VariantOf::Enum) => {
+            let (c1, then, other) = enum_test(
+                image, tables, body, counts, mode, p, v, current, els, place,
+            )?;
             let chosen = project(place, ProjectionElem::Downcast(v));
             if !chosen.ok {
-                return Lowered::Refused(MirLowerError::Limit, p);
+                return Err((MirLowerError::Limit, p));
             }
             pattern_matching_variant_fields(
                 image,

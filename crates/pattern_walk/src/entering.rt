@@ -5,7 +5,7 @@ ghost use Rattle.image.specs.Tables.{Whole, pattern_count};
 ghost use Rattle.image.specs.Valid.{valid};
 ghost use Rattle.pattern_walk_laws.specs.Walk.{passes_on, Enters};
 
-use image::kinds::pat_kind;
+use image::kinds::PatKind;
 use image::rows::{PatRow, pat_at};
 use image::{PatId, Tables};
 use pattern_entering::{VISIT_WORDS, deref_place, visit};
@@ -31,7 +31,7 @@ fn passes_on(mode: MatchingMode, row: PatRow) -> bool
     if row.b == 65535 {
         return false;
     }
-    is_bind(pat_kind(row.kind))
+    is_bind(PatKind::from(row.kind))
 }
 
 // The pattern p is entered at a place, and in Check the subpatterns of Binds from there on.

@@ -19,15 +19,14 @@ ghost use Rattle.body_tables.specs.Layout.{body_of};
 use adt::{pattern_match_adt, pattern_match_tuple_like, pattern_matching_variant};
 use body_tables::BODY_WORDS;
 use entering::enter;
-use image::kinds::{pat_kind, path_kind};
+use image::kinds::{PatKind, PathKind};
 use image::rows::pat_at;
 use image::{PatId, Tables};
-use lower_spec::merging::OptBlock;
 use mir::{BasicBlockId, Counts};
 use pattern_entering::VISIT_WORDS;
 use pattern_leaves::kinds::{is_leaf, pattern_match_leaf};
 use pattern_matching::MatchingMode;
-use pattern_parts::adts::{ReferenceAt, TupleAt, fields_there, place_ty, reference_at, tuple_at};
+use pattern_parts::adts::{fields_there, place_ty, reference_at, tuple_at};
 use pattern_rows::{
     AdtPatternShape, ArgumentRow, CompoundKind, compound_kind, variant_shape, variant_word,
 };
@@ -38,7 +37,7 @@ use refusals::MirLowerError;
 use sub::{alts, bound, slice};
 
 // The pattern p: it is entered, and lowered by the kind of the pattern at which the walk then is.
-#[cycle(pattern_match_adt_pattern_match_tuple_like_pattern_matching_variant_pattern_match_inner_pattern_matching_variant_fields_alt_alts_bound_slice)]
+#[cycle(walk)]
 pub fn pattern_match_inner(
     image: &[u8],
     tables: Tables,
@@ -49,7 +48,7 @@ pub fn pattern_match_inner(
     mode: MatchingMode,
     p: PatId,
     current: BasicBlockId,
-    els: OptBlock,
+    els: Option<BasicBlockId>,
     place: Place,
 ) -> Lowered
     requires walkable { Walkable image.now tables bindings.now (body_of body.old) counts current els place }
@@ -60,18 +59,18 @@ pub fn pattern_match_inner(
     let q = entered.p;
     let here = entered.place;
     if !entered.ok {
-        return Lowered::Refused(MirLowerError::Limit, q);
+        return Err((MirLowerError::Limit, q));
     }
     let row = pat_at(image, tables, q);
-    if is_leaf(pat_kind(row.kind), path_kind(row.a)) {
+    if is_leaf(PatKind::from(row.kind), PathKind::from(row.a)) {
         return pattern_match_leaf(
             image, tables, bindings, body, counts, mode, q, row, current, els, here,
         );
     }
-    match compound_kind(pat_kind(row.kind)) {
+    match compound_kind(PatKind::from(row.kind)) {
         CompoundKind::Tuple => match tuple_at(image, tables, place_ty(image, tables, body, here)) {
-            TupleAt::Refused(e) => Lowered::Refused(e, q),
-            TupleAt::Fields(fields) => pattern_match_tuple_like(
+            Err(e) => Err((e, q)),
+            Ok(fields) => pattern_match_tuple_like(
                 image, tables, bindings, body, visits, counts, mode, q, row.a, row.b, row.c,
                 fields, current, els, here,
             ),
@@ -91,11 +90,11 @@ pub fn pattern_match_inner(
             tables,
             place_ty(image, tables, body, here),
         ) {
-            ReferenceAt::Refused(e) => Lowered::Refused(e, q),
-            ReferenceAt::Reference => {
+            Err(e) => Err((e, q)),
+            Ok(()) => {
                 let referent = project(here, ProjectionElem::Deref);
                 if !referent.ok {
-                    return Lowered::Refused(MirLowerError::Limit, q);
+                    return Err((MirLowerError::Limit, q));
                 }
                 pattern_match_inner(
                     image,
@@ -115,7 +114,7 @@ pub fn pattern_match_inner(
         CompoundKind::Variant => {
             let v = variant_word(row);
             if v == 65535 {
-                return Lowered::Refused(MirLowerError::NotSupported, q);
+                return Err((MirLowerError::NotSupported, q));
             }
             pattern_matching_variant(
                 image,
@@ -137,7 +136,7 @@ pub fn pattern_match_inner(
 }
 
 // The fields of a variant that has so many.
-#[cycle(pattern_match_adt_pattern_match_tuple_like_pattern_matching_variant_pattern_match_inner_pattern_matching_variant_fields_alt_alts_bound_slice)]
+#[cycle(walk)]
 pub fn pattern_matching_variant_fields(
     image: &[u8],
     tables: Tables,
@@ -150,7 +149,7 @@ pub fn pattern_matching_variant_fields(
     shape: AdtPatternShape,
     fields: u16,
     current: BasicBlockId,
-    els: OptBlock,
+    els: Option<BasicBlockId>,
     place: Place,
 ) -> Lowered
     requires walkable { Walkable image.now tables bindings.now (body_of body.old) counts current els place }
@@ -158,14 +157,14 @@ pub fn pattern_matching_variant_fields(
     ensures { Walks (λ ctx. variant_fields (shape_of image.now bindings.now shape) p.0 fields mode ctx current els place) counts current els (body_of body.old) visits.old result (body_of body.new) visits.new }
 {
     match shape {
-        AdtPatternShape::Unit => Lowered::Done(counts, current, els),
+        AdtPatternShape::Unit => Ok((counts, current, els)),
         AdtPatternShape::Tuple(from, count, ellipsis) => pattern_match_tuple_like(
             image, tables, bindings, body, visits, counts, mode, p, from, count, ellipsis, fields,
             current, els, place,
         ),
         AdtPatternShape::Record(from, count) => {
             if !fields_there(image, tables, from, count, fields) {
-                return Lowered::Refused(MirLowerError::UnresolvedField, p);
+                return Err((MirLowerError::UnresolvedField, p));
             }
             pattern_match_adt(
                 image,

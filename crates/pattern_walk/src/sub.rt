@@ -10,18 +10,16 @@ ghost use Rattle.pattern_walk_laws.specs.Walk.{Walkable};
 ghost use Rattle.image.specs.Types.{ty_of};
 ghost use Rattle.pattern_rows.specs.declared.ArgumentRow.{ArgumentRow};
 ghost use Rattle.pattern_matching.specs.Slices.{slice_on};
-ghost use Rattle.lower_spec.specs.declared.merging.OptBlock.{OptBlock};
 ghost use Rattle.body_tables.specs.Layout.{body_of};
 
 use super::adt::pattern_match_adt;
 use super::pattern_match_inner;
 use body_tables::BODY_WORDS;
 use body_tables::blocks::set_goto;
-use image::kinds::binding_mode;
+use image::kinds::BindingMode;
 use image::rows::{PatRow, list_at};
 use image::{BindingId, PatId, Tables};
-use lower_spec::merging::OptBlock;
-use mir::blocks::{NewBlock, new_basic_block};
+use mir::blocks::new_basic_block;
 use mir::{BasicBlockId, Counts};
 use pattern_alternatives::with_else;
 use pattern_entering::{VISIT_WORDS, visit};
@@ -35,7 +33,7 @@ use place::Place;
 use refusals::MirLowerError;
 
 // A Bind: its subpattern first, if there is one, and then, beyond Check, the binding.
-#[cycle(pattern_match_adt_pattern_match_tuple_like_pattern_matching_variant_pattern_match_inner_pattern_matching_variant_fields_alt_alts_bound_slice)]
+#[cycle(walk)]
 pub fn bound(
     image: &[u8],
     tables: Tables,
@@ -47,7 +45,7 @@ pub fn bound(
     p: PatId,
     row: PatRow,
     current: BasicBlockId,
-    els: OptBlock,
+    els: Option<BasicBlockId>,
     place: Place,
 ) -> Lowered
     requires walkable { Walkable image.now tables bindings.now (body_of body.old) counts current els place }
@@ -55,11 +53,11 @@ pub fn bound(
     ensures { Walks (λ ctx. bind_pattern bindings.now p.0 row.a (binding_mode row.c) (lowering? image.now bindings.now (tree? (tree image.now) row.b)) mode ctx current els place) counts current els (body_of body.old) visits.old result (body_of body.new) visits.new }
 {
     let b = BindingId(row.a);
-    let how = binding_mode(row.c);
+    let how = BindingMode::from(row.c);
     if row.b == 65535 {
         return bind(bindings, body, counts, mode, p, b, how, current, els, place);
     }
-    let below = pattern_match_inner(
+    let (c1, then, other) = pattern_match_inner(
         image,
         tables,
         bindings,
@@ -71,15 +69,12 @@ pub fn bound(
         current,
         els,
         place,
-    );
-    let Lowered::Done(c1, then, other) = below else {
-        return below;
-    };
+    )?;
     bind(bindings, body, c1, mode, p, b, how, then, other, place)
 }
 
 // An alternative q: it is tested, and beyond Check walked again in the mode that is asked for, or only visited where there is nothing to do.
-#[cycle(pattern_match_adt_pattern_match_tuple_like_pattern_matching_variant_pattern_match_inner_pattern_matching_variant_fields_alt_alts_bound_slice)]
+#[cycle(walk)]
 pub fn alt(
     image: &[u8],
     tables: Tables,
@@ -92,11 +87,11 @@ pub fn alt(
     current: BasicBlockId,
     place: Place,
 ) -> Lowered
-    requires walkable { Walkable image.now tables bindings.now (body_of body.old) counts current OptBlock.None place }
+    requires walkable { Walkable image.now tables bindings.now (body_of body.old) counts current None place }
     requires q_bound { q.0 < pattern_count image.now }
-    ensures { Walks (λ ctx. alternative (pattern_match_inner image.now bindings.now (tree image.now q.0)) mode ctx current place) counts current OptBlock.None (body_of body.old) visits.old result (body_of body.new) visits.new }
+    ensures { Walks (λ ctx. alternative (pattern_match_inner image.now bindings.now (tree image.now q.0)) mode ctx current place) counts current None (body_of body.old) visits.old result (body_of body.new) visits.new }
 {
-    let tested = pattern_match_inner(
+    let (c1, then, other) = pattern_match_inner(
         image,
         tables,
         bindings,
@@ -106,38 +101,25 @@ pub fn alt(
         MatchingMode::Check,
         q,
         current,
-        OptBlock::None,
+        None,
         place,
-    );
-    let Lowered::Done(c1, then, other) = tested else {
-        return tested;
-    };
+    )?;
     if is_check(mode) {
-        return tested;
+        return Ok((c1, then, other));
     }
     if nothing_to_do(image, tables, mode, q) {
         visit(visits, q);
-        return tested;
+        return Ok((c1, then, other));
     }
     let again = pattern_match_inner(
-        image,
-        tables,
-        bindings,
-        body,
-        visits,
-        c1,
-        mode,
-        q,
-        then,
-        OptBlock::None,
-        place,
+        image, tables, bindings, body, visits, c1, mode, q, then, None, place,
     );
     with_else(again, other)
 }
 
 // An Or of the `count` alternatives from the word `from` of the list on, from left to right: one that matched goes on at a new block, the next one starts where it
 // does not match, and behind one that cannot fail none is lowered.
-#[cycle(pattern_match_adt_pattern_match_tuple_like_pattern_matching_variant_pattern_match_inner_pattern_matching_variant_fields_alt_alts_bound_slice)]
+#[cycle(walk)]
 pub fn alts(
     image: &[u8],
     tables: Tables,
@@ -150,40 +132,33 @@ pub fn alts(
     from: u16,
     count: u16,
     current: BasicBlockId,
-    els: OptBlock,
+    els: Option<BasicBlockId>,
     place: Place,
 ) -> Lowered
     requires walkable { Walkable image.now tables bindings.now (body_of body.old) counts current els place }
     requires p_bound { (p.0 < pattern_count image.now) × ArgumentsThere ArgumentRow.Items image.now p.0 from 0 count }
     ensures { Walks (λ ctx. or_pattern p.0 (lowered image.now bindings.now from count) mode ctx current els place) counts current els (body_of body.old) visits.old result (body_of body.new) visits.new }
 {
-    let NewBlock::Block(made, join) = new_basic_block(counts) else {
-        return Lowered::Refused(MirLowerError::Limit, p);
-    };
+    let (made, join) = new_basic_block(counts).ok_or((MirLowerError::Limit, p))?;
     let mut c = made;
     let mut here = current;
-    let mut i = 0u16;
-    while i < count {
+    for i in 0..count {
         let q = PatId(list_at(image, tables, from + i));
-        let tried = alt(
+        let (c1, then, other) = alt(
             image, tables, bindings, body, visits, c, mode, q, here, place,
-        );
-        let Lowered::Done(c1, then, other) = tried else {
-            return tried;
-        };
+        )?;
         set_goto(body, then, join);
-        let OptBlock::Some(next) = other else {
-            return Lowered::Done(c1, join, els);
+        let Some(next) = other else {
+            return Ok((c1, join, els));
         };
         c = c1;
         here = next;
-        i += 1;
     }
     alternatives_end(body, c, mode, p, here, join, els)
 }
 
 // A Slice pattern: the test of a slice's length, the items in front, the rest, and the items at the end.
-#[cycle(pattern_match_adt_pattern_match_tuple_like_pattern_matching_variant_pattern_match_inner_pattern_matching_variant_fields_alt_alts_bound_slice)]
+#[cycle(walk)]
 pub fn slice(
     image: &[u8],
     tables: Tables,
@@ -195,14 +170,14 @@ pub fn slice(
     p: PatId,
     row: PatRow,
     current: BasicBlockId,
-    els: OptBlock,
+    els: Option<BasicBlockId>,
     place: Place,
 ) -> Lowered
     requires walkable { Walkable image.now tables bindings.now (body_of body.old) counts current els place }
     requires p_bound { (p.0 < pattern_count image.now) × (row.ty < type_count image.now) × SliceThere image.now p.0 row.d row.a row.b row.c }
     ensures { Walks (λ ctx. slice_on (ty_of image.now row.ty).shape image.now bindings.now p.0 (lowered image.now bindings.now row.a row.b) (rest_of (tree? (tree image.now) row.d)) (lowered image.now bindings.now (row.a + row.b) row.c) mode ctx current els place) counts current els (body_of body.old) visits.old result (body_of body.new) visits.new }
 {
-    let tested = slice_test(
+    let (c1, b1, e1) = slice_test(
         image,
         tables,
         body,
@@ -215,11 +190,8 @@ pub fn slice(
         current,
         els,
         place,
-    );
-    let Lowered::Done(c1, b1, e1) = tested else {
-        return tested;
-    };
-    let in_front = pattern_match_adt(
+    )?;
+    let (c2, b2, e2) = pattern_match_adt(
         image,
         tables,
         bindings,
@@ -235,18 +207,12 @@ pub fn slice(
         b1,
         e1,
         place,
-    );
-    let Lowered::Done(c2, b2, e2) = in_front else {
-        return in_front;
-    };
-    let rest = rest_bound(
+    )?;
+    let (c3, b3, e3) = rest_bound(
         image, tables, bindings, body, c2, mode, p, row.d, row.b, row.c, b2, e2, place,
-    );
-    let Lowered::Done(c3, b3, e3) = rest else {
-        return rest;
-    };
+    )?;
     if row.c == 0 {
-        return rest;
+        return Ok((c3, b3, e3));
     }
     pattern_match_adt(
         image,

@@ -1,4 +1,5 @@
 -- `alts`: a law for each way through it, and the invariant of its loop. Assumes nothing.
+use Rattle.std.specs.Prelude.{Some, None, Ok, Err}
 use mathlib.Core.Path.{◌≡◌, refl, sym, ap, ◌∙◌}
 use mathlib.Core.Logic.{inl, inr}
 use mathlib.Core.Option.{some}
@@ -17,7 +18,6 @@ use Rattle.row_tables.specs.Rows.{stored}
 use Rattle.place.specs.declared.Place.{Place}
 use Rattle.mir.specs.declared.BasicBlockId.{BasicBlockId}
 use Rattle.mir.specs.declared.Counts.{Counts}
-use Rattle.mir.specs.declared.blocks.NewBlock.{NewBlock}
 use Rattle.mir.specs.declared.blocks.Terminator.{Terminator}
 use Rattle.mir.specs.Blocks.{term_row, new_block, block_width}
 use Rattle.state.specs.State.{Body, State, decode}
@@ -27,12 +27,12 @@ use Rattle.state.proofs.Answering.{kept_trans, next_block_lem}
 use Rattle.body_tables.specs.Layout.{with_blocks}
 use Rattle.body_tables.proofs.Building as building
 use Rattle.body_tables.proofs.Building.{terminator_set}
-use Rattle.lower_spec.specs.declared.merging.OptBlock.{OptBlock}
+use Rattle.lower_spec.specs.Results.{OptBlock}
 use Rattle.lower_spec.specs.Merging.{set_goto}
 use Rattle.pattern_matching.specs.declared.MatchingMode.{MatchingMode}
 use Rattle.pattern_matching.specs.Walking.{Ctx, Out, Walk, refused, next, step, out, with_state}
 use Rattle.pattern_matching.specs.Patterns.{alternative, or_pattern, pattern_match_inner}
-use Rattle.pattern_walk_spec.specs.declared.Lowered.{Lowered}
+use Rattle.pattern_walk_spec.specs.Results.{Lowered}
 use Rattle.pattern_walk_spec.specs.Answers.{Begins, ctx_of, lowered_counts, OwnElse, OnwardBy, Walks, JoinedBy, Ends}
 use Rattle.pattern_walk_spec.proofs.Following.{goes_on_lem, step_then, step_stops, answers_by, next_stops, own_else_trans, onward_refl, begins_grown, block_made, block_onward}
 use Rattle.pattern_walk_spec.proofs.Sequences.{grown_after, placed_after}
@@ -53,8 +53,8 @@ joins_by same S = record {
 
 -- where they go on, after more blocks
 joined_by : (c c₁ : Counts) (join : BasicBlockId) (els : OptBlock) (r : Lowered) → Grown c c₁ → OwnElse c els els → JoinedBy c₁ join els r → JoinedBy c join els r
-joined_by c c₁ join els (Lowered.Done c₂ then els₂) G own S = record { at = S.at; own_else = own_else_trans c c₁ els els els₂ G own S.own_else; begins = S.begins }
-joined_by c c₁ join els (Lowered.Refused e p) G own S = tt
+joined_by c c₁ join els (Ok (c₂, then, els₂)) G own S = record { at = S.at; own_else = own_else_trans c c₁ els els els₂ G own S.own_else; begins = S.begins }
+joined_by c c₁ join els (Err (e, p)) G own S = tt
 
 module _ (image bindings : List ℕ) (p : PatId) (from count : ℕ) (mode : MatchingMode) (join : BasicBlockId) (els : OptBlock) (place : Place) where
   -- what is to be done from the alternative i on
@@ -91,7 +91,7 @@ module _ (image bindings : List ℕ) (p : PatId) (from count : ℕ) (mode : Matc
 
       -- it is refused
       pub alternatives_stop : {x : MirLowerError} {at : PatId} {t₁ : Body} {v₁ : List ℕ} →
-          Walks (λ ctx. alternative (pattern_match_inner image bindings (tree image q.0)) mode ctx here place) c here OptBlock.None t v (Lowered.Refused x at) t₁ v₁ → Rest (Lowered.Refused x at) t₁ v₁
+          Walks (λ ctx. alternative (pattern_match_inner image bindings (tree image q.0)) mode ctx here place) c here None t v (Err (x, at)) t₁ v₁ → Rest (Err (x, at)) t₁ v₁
       alternatives_stop W = joins_by alternative_as (record {
         answers = λ visits R H. let F = W.answers visits R H in record { visits' = F.visits'; holds = F.holds; answers = next_stops (behind_alternative i) F.answers };
         leaves = W.leaves;
@@ -100,7 +100,7 @@ module _ (image bindings : List ℕ) (p : PatId) (from count : ℕ) (mode : Matc
 
       -- where it matched it goes on at `join`
       module _ {c₁ : Counts} {then : BasicBlockId} {other : OptBlock} {t₁ t₂ : Body} {v₁ : List ℕ}
-          (W : Walks (λ ctx. alternative (pattern_match_inner image bindings (tree image q.0)) mode ctx here place) c here OptBlock.None t v (Lowered.Done c₁ then other) t₁ v₁)
+          (W : Walks (λ ctx. alternative (pattern_match_inner image bindings (tree image q.0)) mode ctx here place) c here None t v (Ok (c₁, then, other)) t₁ v₁)
           (set : t₂ ≡ with_blocks t₁ (stored t₁.blocks (block_width * then.0) (term_row (Terminator.Goto join)))) where
         goto_answers : Ready t₁ c₁ →
             Answers t₁ c₁ then.0 t₂ (some c₁) (done (decode t₂ c₁)) (done (set_goto (decode t₁ c₁) then join))
@@ -115,8 +115,8 @@ module _ (image bindings : List ℕ) (p : PatId) (from count : ℕ) (mode : Matc
 
       -- it cannot fail, and is the last
       pub alternatives_sure : {c₁ : Counts} {then : BasicBlockId} {t₁ t₂ : Body} {v₁ : List ℕ} → Begins c here els → join.0 < c.blocks → Ready t c →
-          Walks (λ ctx. alternative (pattern_match_inner image bindings (tree image q.0)) mode ctx here place) c here OptBlock.None t v (Lowered.Done c₁ then OptBlock.None) t₁ v₁ →
-          t₂ ≡ with_blocks t₁ (stored t₁.blocks (block_width * then.0) (term_row (Terminator.Goto join))) → Rest (Lowered.Done c₁ join els) t₂ v₁
+          Walks (λ ctx. alternative (pattern_match_inner image bindings (tree image q.0)) mode ctx here place) c here None t v (Ok (c₁, then, None)) t₁ v₁ →
+          t₂ ≡ with_blocks t₁ (stored t₁.blocks (block_width * then.0) (term_row (Terminator.Goto join))) → Rest (Ok (c₁, join, els)) t₂ v₁
       alternatives_sure {c₁ = c₁} B inside P W set = joins_by alternative_as (record {
         answers = λ visits R H.
             let F = W.answers visits R H in
@@ -138,7 +138,7 @@ module _ (image bindings : List ℕ) (p : PatId) (from count : ℕ) (mode : Matc
 
       -- the others start where it does not match
       pub alternatives_next : {c₁ : Counts} {then on : BasicBlockId} {t₁ t₂ : Body} {v₁ : List ℕ} → Begins c here els → Ready t c →
-          Walks (λ ctx. alternative (pattern_match_inner image bindings (tree image q.0)) mode ctx here place) c here OptBlock.None t v (Lowered.Done c₁ then (OptBlock.Some on)) t₁ v₁ →
+          Walks (λ ctx. alternative (pattern_match_inner image bindings (tree image q.0)) mode ctx here place) c here None t v (Ok (c₁, then, Some on)) t₁ v₁ →
           t₂ ≡ with_blocks t₁ (stored t₁.blocks (block_width * then.0) (term_row (Terminator.Goto join))) →
           {r : Lowered} {t₃ : Body} {v₂ : List ℕ} → Joins (alternatives_go (i + 1) on) c₁ on join els t₂ v₁ r t₃ v₂ → Rest r t₃ v₂
       alternatives_next {c₁ = c₁} {on = on} B P W set {r = r} {t₃ = t₃} N = joins_by alternative_as (record {
@@ -164,7 +164,7 @@ module _ (image bindings : List ℕ) (p : PatId) (from count : ℕ) (mode : Matc
         onward = joined_by c c₁ join els r (grown_after W P) (onward_refl B).own_else N.onward;
       })
         where
-          own_next : OwnElse c OptBlock.None (OptBlock.Some on) → Own c here.0 on.0
+          own_next : OwnElse c None (Some on) → Own c here.0 on.0
           own_next (inl same) = let z : ◌≡◌ {A = ℕ} 0 1 = cc in absurd (omega arith)
           own_next (inr new) = inr new
 
@@ -191,7 +191,7 @@ module _ {image : List ℕ} {tables : Tables} {bindings : List ℕ} {p : PatId} 
     (h : i < count) (q : PatId) (names : q.0 ≡ list_at image (from + i)) {c₁ : Counts} {then on : BasicBlockId} {t₁ t₂ : Body} {v₁ : List ℕ} where
   -- and after one more alternative
   pub alternatives_again :
-      Walks (λ ctx. alternative (pattern_match_inner image bindings (tree image q.0)) mode ctx here place) c here OptBlock.None t v (Lowered.Done c₁ then (OptBlock.Some on)) t₁ v₁ →
+      Walks (λ ctx. alternative (pattern_match_inner image bindings (tree image q.0)) mode ctx here place) c here None t v (Ok (c₁, then, Some on)) t₁ v₁ →
       t₂ ≡ with_blocks t₁ (stored t₁.blocks (block_width * then.0) (term_row (Terminator.Goto join))) →
       AlternativesGoing image tables bindings p from count mode join els place c₀ b₀ t₀ v₀ c₁ on t₂ v₁ (i + 1)
   alternatives_again W set =
@@ -217,7 +217,7 @@ module _ (image bindings : List ℕ) (p : PatId) (from count : ℕ) (mode : Matc
   Or = Walks (λ ctx. or_pattern p.0 (lowered image bindings from count) mode ctx current els place) c current els t v
 
   -- there is no room for a new block
-  pub or_full : NewBlock.Full ≡ new_block c → Or (Lowered.Refused MirLowerError.Limit p) t v
+  pub or_full : None ≡ new_block c → Or (Err (MirLowerError.Limit, p)) t v
   or_full is = record {
     answers = λ visits R H. record {
       visits' = visits;
@@ -230,7 +230,7 @@ module _ (image bindings : List ℕ) (p : PatId) (from count : ℕ) (mode : Matc
   }
 
   -- what matches goes on at it
-  pub or_goes : {c₁ : Counts} {join : BasicBlockId} {r : Lowered} {t₁ : Body} {v₁ : List ℕ} → Begins c current els → NewBlock.Block c₁ join ≡ new_block c →
+  pub or_goes : {c₁ : Counts} {join : BasicBlockId} {r : Lowered} {t₁ : Body} {v₁ : List ℕ} → Begins c current els → Some (c₁, join) ≡ new_block c →
       Joins (λ ctx. alternatives_from image bindings p.0 from count mode ctx join current els place) c₁ current join els t v r t₁ v₁ → Or r t₁ v₁
   or_goes {c₁ = c₁} {join = join} {r = r} {t₁ = t₁} B is S = record {
     answers = λ visits R H.
@@ -255,6 +255,6 @@ module _ (image bindings : List ℕ) (p : PatId) (from count : ℕ) (mode : Matc
       more = (block_onward c is B).0
 
       joined : (r : Lowered) → JoinedBy c₁ join els r → OnwardBy c current els r
-      joined (Lowered.Done c₂ then els₂) D =
+      joined (Ok (c₂, then, els₂)) D =
           record { own = inr (rw (D.at, (block_made c is).1) (le_refl c.blocks)); own_else = own_else_trans c c₁ els els els₂ more (onward_refl B).own_else D.own_else; begins = D.begins }
-      joined (Lowered.Refused e at) D = tt
+      joined (Err (e, at)) D = tt

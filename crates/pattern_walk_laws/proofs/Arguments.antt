@@ -1,4 +1,5 @@
 -- `pattern_match_adt`: a law for each way through it, and the invariant of its loop. Assumes nothing.
+use Rattle.std.specs.Prelude.{Ok, Err}
 use mathlib.Core.Path.{◌≡◌, refl, sym, ap, ◌∙◌}
 use mathlib.Core.Bool.{true}
 use mathlib.Core.List.{List}
@@ -17,11 +18,11 @@ use Rattle.place.specs.Elems.{Fits}
 use Rattle.place.specs.Places.{onward, Projects}
 use Rattle.mir.specs.declared.BasicBlockId.{BasicBlockId}
 use Rattle.mir.specs.declared.Counts.{Counts}
-use Rattle.lower_spec.specs.declared.merging.OptBlock.{OptBlock}
+use Rattle.lower_spec.specs.Results.{OptBlock}
 use Rattle.pattern_matching.specs.declared.MatchingMode.{MatchingMode}
 use Rattle.pattern_matching.specs.Walking.{Ctx, Out, Walk, next, step, project}
 use Rattle.pattern_matching.specs.Patterns.{pattern_match_inner}
-use Rattle.pattern_walk_spec.specs.declared.Lowered.{Lowered}
+use Rattle.pattern_walk_spec.specs.Results.{Lowered}
 use Rattle.pattern_walk_spec.specs.Answers.{Begins, Walks}
 use Rattle.pattern_walk_spec.proofs.Sequences.{walks_by, walks_stops, walks_then}
 use Rattle.pattern_rows.specs.declared.ArgumentRow.{ArgumentRow}
@@ -41,7 +42,7 @@ module _ (row : ArgumentRow) (image bindings : List ℕ) (p : PatId) (from field
 
   module _ (i : ℕ) (c : Counts) (here : BasicBlockId) (other : OptBlock) (t : Body) (v : List ℕ) where
     -- no argument is left
-    pub arguments_end : count ≤ i → Begins c here other → Walks (arguments_left i here other) c here other t v (Lowered.Done c here other) t v
+    pub arguments_end : count ≤ i → Begins c here other → Walks (arguments_left i here other) c here other t v (Ok (c, here, other)) t v
     arguments_end h B = walks_skips (λ ctx. sym (applied (arguments_none row image bindings p.0 from fields count i h) mode ctx here other place)) B
 
     -- the argument i, which is the pattern q, on the place `to`
@@ -58,7 +59,7 @@ module _ (row : ArgumentRow) (image bindings : List ℕ) (p : PatId) (from field
           ∙ ap (λ (e : ProjectionElem). step p.0 (project place e) (λ to. argument to ctx)) (sym is)
 
       -- there is no room for the element
-      pub argument_full : stopped MirLowerError.Limit ≡ project place elem → Walks (arguments_left i here other) c here other t v (Lowered.Refused MirLowerError.Limit p) t v
+      pub argument_full : stopped MirLowerError.Limit ≡ project place elem → Walks (arguments_left i here other) c here other t v (Err (MirLowerError.Limit, p)) t v
       argument_full full = looks_stops p (λ ctx. project place elem) argument argument_looks (λ visits. full)
 
       module _ {to : Place} (there : done to ≡ project place elem) (q : PatId) (names : q.0 ≡ argument_pat row image from i) where
@@ -72,14 +73,14 @@ module _ (row : ArgumentRow) (image bindings : List ℕ) (p : PatId) (from field
 
         -- it is refused
         pub argument_stops : {x : MirLowerError} {at : PatId} {t₁ : Body} {v₁ : List ℕ} →
-            Walks (λ ctx. pattern_match_inner image bindings (tree image q.0) mode ctx here other to) c here other t v (Lowered.Refused x at) t₁ v₁ →
-            Walks (arguments_left i here other) c here other t v (Lowered.Refused x at) t₁ v₁
+            Walks (λ ctx. pattern_match_inner image bindings (tree image q.0) mode ctx here other to) c here other t v (Err (x, at)) t₁ v₁ →
+            Walks (arguments_left i here other) c here other t v (Err (x, at)) t₁ v₁
         argument_stops W =
             argument_walks (walks_stops (λ r. arguments_from row image bindings p.0 from fields (i + 1) (count - (i + 1)) mode r.ctx r.then r.else place) (argument_named W))
 
         -- the rest behind it
         pub argument_goes : {c₁ : Counts} {then : BasicBlockId} {els : OptBlock} {t₁ : Body} {v₁ : List ℕ} → Ready t c →
-            Walks (λ ctx. pattern_match_inner image bindings (tree image q.0) mode ctx here other to) c here other t v (Lowered.Done c₁ then els) t₁ v₁ →
+            Walks (λ ctx. pattern_match_inner image bindings (tree image q.0) mode ctx here other to) c here other t v (Ok (c₁, then, els)) t₁ v₁ →
             {r : Lowered} {t₂ : Body} {v₂ : List ℕ} → Walks (arguments_left (i + 1) then els) c₁ then els t₁ v₁ r t₂ v₂ →
             Walks (arguments_left i here other) c here other t v r t₂ v₂
         argument_goes R W S =
@@ -130,7 +131,7 @@ module _ {row : ArgumentRow} {image : List ℕ} {tables : Tables} {bindings : Li
     (G : ArgumentsGoing row image tables bindings p from fields count mode place c₀ b₀ e₀ t₀ v₀ c here other t v i) where
   pub arguments_again : (h : i < count) {elem : ProjectionElem} → elem ≡ argument_elem row image from fields i → {to : Place} → done to ≡ project place elem →
       (q : PatId) → q.0 ≡ argument_pat row image from i → {c₁ : Counts} {then : BasicBlockId} {els : OptBlock} {t₁ : Body} {v₁ : List ℕ} →
-      Walks (λ ctx. pattern_match_inner image bindings (tree image q.0) mode ctx here other to) c here other t v (Lowered.Done c₁ then els) t₁ v₁ →
+      Walks (λ ctx. pattern_match_inner image bindings (tree image q.0) mode ctx here other to) c here other t v (Ok (c₁, then, els)) t₁ v₁ →
       ArgumentsGoing row image tables bindings p from fields count mode place c₀ b₀ e₀ t₀ v₀ c₁ then els t₁ v₁ (i + 1)
   arguments_again h is there q names W = record {
     walkable = walkable_after G.walkable W;

@@ -1,4 +1,5 @@
 -- What the functions of the walk ask for: after a call, at a place that was reached, with another else, and what they ask of what they call. Assumes nothing.
+use Rattle.std.specs.Prelude.{Some, None, Ok}
 use mathlib.Core.Path.{◌≡◌, ◌∙◌}
 use mathlib.Core.Bool.{true}
 use mathlib.Core.List.{List, []}
@@ -13,13 +14,11 @@ use Rattle.place.specs.declared.Place.{Place}
 use Rattle.place.specs.PlaceTypes.{Named}
 use Rattle.mir.specs.declared.BasicBlockId.{BasicBlockId}
 use Rattle.mir.specs.declared.Counts.{Counts}
-use Rattle.mir.specs.declared.blocks.NewBlock.{NewBlock}
 use Rattle.mir.specs.Blocks.{new_block}
 use Rattle.mir.specs.Locals.{local_ty}
 use Rattle.body_tables.proofs.Building.{block_made}
-use Rattle.lower_spec.specs.declared.merging.OptBlock.{OptBlock}
+use Rattle.lower_spec.specs.Results.{OptBlock}
 use Rattle.pattern_matching.specs.Walking.{Ctx, Out, Walk}
-use Rattle.pattern_walk_spec.specs.declared.Lowered.{Lowered}
 use Rattle.pattern_walk_spec.specs.Answers.{Begins, Lowers, Walks}
 use Rattle.pattern_walk_spec.proofs.Following.{begins_grown, block_onward}
 use Rattle.pattern_walk_spec.proofs.Sequences.{lowers_walks, ready_after, placed_after}
@@ -33,7 +32,7 @@ use Rattle.state.specs.Promises.{Ready}
 module _ {image : List ℕ} {tables : Tables} {bindings : List ℕ} {t : Body} {c : Counts} {current : BasicBlockId} {els : OptBlock} {place : Place} (W : Walkable image tables bindings t c current els place) where
   -- where a part goes on
   pub walkable_after : {defined : Ctx → Walk Out} {c₁ : Counts} {then : BasicBlockId} {other : OptBlock} {t₁ : Body} {v v₁ : List ℕ} →
-      Walks defined c current els t v (Lowered.Done c₁ then other) t₁ v₁ → Walkable image tables bindings t₁ c₁ then other place
+      Walks defined c current els t v (Ok (c₁, then, other)) t₁ v₁ → Walkable image tables bindings t₁ c₁ then other place
   walkable_after F = record {
     image_valid = W.image_valid;
     whole = W.whole;
@@ -45,7 +44,7 @@ module _ {image : List ℕ} {tables : Tables} {bindings : List ℕ} {t : Body} {
 
   -- where one that visits no pattern does
   pub walkable_behind : {defined : Ctx → Walk Out} {c₁ : Counts} {then : BasicBlockId} {other : OptBlock} {t₁ : Body} →
-      Lowers defined c current els t (Lowered.Done c₁ then other) t₁ → Walkable image tables bindings t₁ c₁ then other place
+      Lowers defined c current els t (Ok (c₁, then, other)) t₁ → Walkable image tables bindings t₁ c₁ then other place
   walkable_behind F = walkable_after (lowers_walks [] F)
 
   -- at a place that was reached
@@ -60,7 +59,7 @@ module _ {image : List ℕ} {tables : Tables} {bindings : List ℕ} {t : Body} {
   }
 
   -- without an else
-  pub walkable_sure : Walkable image tables bindings t c current OptBlock.None place
+  pub walkable_sure : Walkable image tables bindings t c current None place
   walkable_sure = record {
     image_valid = W.image_valid;
     whole = W.whole;
@@ -71,7 +70,7 @@ module _ {image : List ℕ} {tables : Tables} {bindings : List ℕ} {t : Body} {
   }
 
   -- with one block more
-  pub walkable_block : {c₁ : Counts} {m : BasicBlockId} → NewBlock.Block c₁ m ≡ new_block c → Walkable image tables bindings t c₁ current els place × (m.0 < c₁.blocks)
+  pub walkable_block : {c₁ : Counts} {m : BasicBlockId} → Some (c₁, m) ≡ new_block c → Walkable image tables bindings t c₁ current els place × (m.0 < c₁.blocks)
   walkable_block is =
       let more = block_onward c is W.begins in (
         record {

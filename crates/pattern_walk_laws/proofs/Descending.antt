@@ -20,12 +20,12 @@ use Rattle.place.specs.declared.Place.{Place}
 use Rattle.place.specs.declared.Projected.{Projected}
 use Rattle.mir.specs.declared.BasicBlockId.{BasicBlockId}
 use Rattle.mir.specs.declared.Counts.{Counts}
-use Rattle.lower_spec.specs.declared.merging.OptBlock.{OptBlock}
+use Rattle.lower_spec.specs.Results.{OptBlock}
 use Rattle.pattern_matching.specs.declared.MatchingMode.{MatchingMode}
 use Rattle.pattern_matching.specs.Modes.{is_check}
 use Rattle.pattern_matching.specs.Walking.{Ctx, Out, Walk, ok, refused, next, in_check}
 use Rattle.pattern_matching.specs.Patterns.{bind_pattern, pattern_match_inner, lowering?}
-use Rattle.pattern_walk_spec.specs.declared.Lowered.{Lowered}
+use Rattle.pattern_walk_spec.specs.Results.{Lowered}
 use Rattle.pattern_walk_spec.specs.Answers.{Lowers}
 use Rattle.pattern_walk_spec.proofs.Sequences.{lowers_walks, walks_by}
 use Rattle.pattern_entering.specs.Entering.{projected_result, derefs_of}

@@ -1,4 +1,5 @@
 -- `pattern_match_inner`: a law for each way through it, before its kind is looked at and by its kind. Assumes nothing.
+use Rattle.std.specs.Prelude.{Ok, Err}
 use mathlib.Core.Path.{◌≡◌, sym, ap, ◌∙◌}
 use mathlib.Core.Bool.{Bool, true, false, cond}
 use mathlib.Core.List.{List}
@@ -22,16 +23,15 @@ use Rattle.place.specs.PlaceTypes.{multi_projection_ty}
 use Rattle.mir.specs.declared.BasicBlockId.{BasicBlockId}
 use Rattle.mir.specs.declared.Counts.{Counts}
 use Rattle.mir.specs.Locals.{local_ty}
-use Rattle.lower_spec.specs.declared.merging.OptBlock.{OptBlock}
+use Rattle.lower_spec.specs.Results.{OptBlock}
 use Rattle.pattern_matching.specs.declared.MatchingMode.{MatchingMode}
 use Rattle.pattern_matching.specs.Walking.{Ctx, step}
 use Rattle.pattern_matching.specs.Variants.{place_ty, shape_of, pattern_match_tuple_like, ellipsis_at, tuple_pattern, ref_pattern, variant_pattern}
 use Rattle.pattern_matching.specs.Slices.{slice_on}
 use Rattle.pattern_matching.specs.Patterns.{or_pattern, bind_pattern, rest_of, pattern_match_inner, lowering?}
-use Rattle.pattern_walk_spec.specs.declared.Lowered.{Lowered}
+use Rattle.pattern_walk_spec.specs.Results.{Lowered}
 use Rattle.pattern_walk_spec.specs.Answers.{Placed, Walks}
 use Rattle.pattern_walk_spec.proofs.Sequences.{walks_by}
-use Rattle.pattern_parts.specs.declared.adts.TupleAt.{TupleAt}
 use Rattle.pattern_entering.specs.Entering.{projected_result, derefs_of}
 use Rattle.pattern_parts.specs.Parts.{tuple_at, tuple_result}
 use Rattle.pattern_entering.proofs.Visiting.{Reached, derefs_reach, visited_in, enter_stops, enter_goes}
@@ -62,7 +62,7 @@ derefs_reached place n b is e = derefs_reach place n (derefs_done place n b is e
 module _ (image bindings : List ℕ) (p : PatId) (row : PatRow) (mode : MatchingMode) (c : Counts) (current : BasicBlockId) (els : OptBlock) (place : Place) (t : Body) (v : List ℕ) {v₁ : List ℕ} (b : Projected)
     (good : valid image ≡ true) (h : p.0 < pattern_count image) (same : row ≡ pat_at image p.0) (seen : v₁ ≡ visited_in v p) (is : projected_result b ≡ derefs_of place row.derefs) where
   -- there is no room for the derefs
-  pub inner_stops : b.ok ≡ false → Inner image bindings p mode c current els place t v (Lowered.Refused MirLowerError.Limit p) t v₁
+  pub inner_stops : b.ok ≡ false → Inner image bindings p mode c current els place t v (Err (MirLowerError.Limit, p)) t v₁
   inner_stops e =
       rw seen
       (walks_by (λ ctx. sym (applied (by_read_row image bindings p.0 row good h same) mode ctx current els place))
@@ -92,13 +92,13 @@ module _ (image bindings : List ℕ) (p : PatId) (row : PatRow) (mode : Matching
         applied (tuple_by_kind (pat_kind row.kind) image bindings p.0 row e) mode ctx current els place
         ∙ tuple_needed p.0 mode ctx current els place (shape_of image (place_ty image ctx.state place)) (lowered image bindings row.a row.b) (word? row.c)
 
-    pub kind_no_tuple : {x : MirLowerError} → tuple_result (TupleAt.Refused x) ≡ tuple_at (shape_of image ty) → Kind (Lowered.Refused x p) t v
+    pub kind_no_tuple : {x : MirLowerError} → tuple_result (Err x) ≡ tuple_at (shape_of image ty) → Kind (Err (x, p)) t v
     kind_no_tuple n =
         looks_stops p (λ ctx. tuple_at (shape_of image (place_ty image ctx.state place)))
         (λ fields ctx. pattern_match_tuple_like p.0 (lowered image bindings row.a row.b) (ellipsis_at (word? row.c) (lowered image bindings row.a row.b)) fields mode ctx current els place)
         tuple_looks (λ visits. n ∙ ap (λ (s : PlaceTy). tuple_at (shape_of image s)) (place_ty_now image t c place P is))
 
-    pub kind_tuple : {fields : ℕ} {r : Lowered} {t₁ : Body} {v₁ : List ℕ} → tuple_result (TupleAt.Fields fields) ≡ tuple_at (shape_of image ty) →
+    pub kind_tuple : {fields : ℕ} {r : Lowered} {t₁ : Body} {v₁ : List ℕ} → tuple_result (Ok fields) ≡ tuple_at (shape_of image ty) →
         Walks (λ ctx. pattern_match_tuple_like p.0 (lowered image bindings row.a row.b) (ellipsis_at (word? row.c) (lowered image bindings row.a row.b)) fields mode ctx current els place) c current els t v r t₁ v₁ →
         Kind r t₁ v₁
     kind_tuple n W =

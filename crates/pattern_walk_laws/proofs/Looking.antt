@@ -1,4 +1,5 @@
 -- Parts of the walk that look at something before anything is done, and parts of it by what they promise. Assumes nothing.
+use Rattle.std.specs.Prelude.{Ok, Err}
 use mathlib.Core.Path.{◌≡◌, sym, ap, ◌∙◌}
 use mathlib.Core.Bool.{true}
 use mathlib.Core.List.{List}
@@ -21,10 +22,10 @@ use Rattle.mir.specs.declared.Counts.{Counts}
 use Rattle.mir.specs.Locals.{local_ty}
 use Rattle.state.specs.State.{Body, decode}
 use Rattle.state.proofs.Answering.{kept_refl}
-use Rattle.lower_spec.specs.declared.merging.OptBlock.{OptBlock}
+use Rattle.lower_spec.specs.Results.{OptBlock}
 use Rattle.pattern_matching.specs.Walking.{Ctx, Out, Walk, refused, step, out}
 use Rattle.pattern_matching.specs.Variants.{place_ty}
-use Rattle.pattern_walk_spec.specs.declared.Lowered.{Lowered}
+use Rattle.pattern_walk_spec.specs.Results.{Lowered}
 use Rattle.pattern_walk_spec.specs.Answers.{Begins, Placed, ctx_of, Walks}
 use Rattle.pattern_walk_spec.proofs.Following.{refuses, answers_by}
 use Rattle.pattern_walk_spec.proofs.Sequences.{lowers_skips, lowers_walks}
@@ -44,7 +45,7 @@ module _ {defined : Ctx → Walk Out} {c : Counts} {current : BasicBlockId} {els
 
   -- a refusal before anything is done
   pub walks_refuses : {e : MirLowerError} {p : PatId} → ((visits : List ℕ) → refused e p.0 ≡ defined (ctx_of t₀ c visits)) →
-      Walks defined c current els t₀ v₀ (Lowered.Refused e p) t₀ v₀
+      Walks defined c current els t₀ v₀ (Err (e, p)) t₀ v₀
   walks_refuses same = record {
     answers = λ visits R H. record { visits' = visits; holds = H; answers = refuses (same visits) };
     leaves = λ P. (tt, kept_refl c current.0 t₀);
@@ -52,13 +53,13 @@ module _ {defined : Ctx → Walk Out} {c : Counts} {current : BasicBlockId} {els
   }
 
   -- nothing to do
-  pub walks_skips : ((ctx : Ctx) → out ctx current els ≡ defined ctx) → Begins c current els → Walks defined c current els t₀ v₀ (Lowered.Done c current els) t₀ v₀
+  pub walks_skips : ((ctx : Ctx) → out ctx current els ≡ defined ctx) → Begins c current els → Walks defined c current els t₀ v₀ (Ok (c, current, els)) t₀ v₀
   walks_skips same h = lowers_walks v₀ (lowers_skips same h)
 
   -- a step that looks at something: it refuses, or the walk goes on with what it saw
   module _ {A : Type 0} (p : PatId) (look : Ctx → Result A) (k : A → Ctx → Walk Out) (same : (ctx : Ctx) → defined ctx ≡ step p.0 (look ctx) (λ a. k a ctx)) where
     pub looks_stops : {e : MirLowerError} → ((visits : List ℕ) → stopped e ≡ look (ctx_of t₀ c visits)) →
-        Walks defined c current els t₀ v₀ (Lowered.Refused e p) t₀ v₀
+        Walks defined c current els t₀ v₀ (Err (e, p)) t₀ v₀
     looks_stops seen = walks_refuses (λ visits.
         ap (λ (r : Result A). step p.0 r (λ a. k a (ctx_of t₀ c visits))) (seen visits)
         ∙ sym (same (ctx_of t₀ c visits)))

@@ -1,4 +1,5 @@
 -- Ref patterns in `kind`, and `bound`: a law for each way through them. Assumes nothing.
+use Rattle.std.specs.Prelude.{Ok, Err}
 use mathlib.Core.Path.{◌≡◌, refl, sym, ap, ◌∙◌}
 use mathlib.Core.Bool.{true, false}
 use mathlib.Core.List.{List}
@@ -17,15 +18,14 @@ use Rattle.place.specs.PlaceTypes.{multi_projection_ty}
 use Rattle.mir.specs.declared.BasicBlockId.{BasicBlockId}
 use Rattle.mir.specs.declared.Counts.{Counts}
 use Rattle.mir.specs.Locals.{local_ty}
-use Rattle.lower_spec.specs.declared.merging.OptBlock.{OptBlock}
+use Rattle.lower_spec.specs.Results.{OptBlock}
 use Rattle.pattern_matching.specs.declared.MatchingMode.{MatchingMode}
 use Rattle.pattern_matching.specs.Walking.{Ctx, Out, Walk, Lowering, next, step, project}
 use Rattle.pattern_matching.specs.Variants.{place_ty, shape_of, ref_pattern}
 use Rattle.pattern_matching.specs.Patterns.{passing, bind_pattern, pattern_match_inner, lowering?}
-use Rattle.pattern_walk_spec.specs.declared.Lowered.{Lowered}
+use Rattle.pattern_walk_spec.specs.Results.{Lowered}
 use Rattle.pattern_walk_spec.specs.Answers.{Placed, Lowers, Walks}
 use Rattle.pattern_walk_spec.proofs.Sequences.{lowers_walks, walks_by, walks_stops, walks_then}
-use Rattle.pattern_parts.specs.declared.adts.ReferenceAt.{ReferenceAt}
 use Rattle.pattern_parts.specs.Parts.{reference_at, reference_result}
 use Rattle.pattern_entering.proofs.Visiting.{project_stops, project_goes}
 use Rattle.pattern_parts.proofs.Needed.{reference_needed}
@@ -51,19 +51,19 @@ module _ (image : List ℕ) (p : PatId) (sub : Lowering) (mode : MatchingMode) (
 
   module _ {ty : PlaceTy} (P : Placed image t c place) (is : ty ≡ multi_projection_ty image (local_ty (get_or t.locals place.local.0 0)) (projection_of place)) where
     -- there is no reference
-    pub ref_refused : {x : MirLowerError} → reference_result (ReferenceAt.Refused x) ≡ reference_at (shape_of image ty) → Ref (Lowered.Refused x p) t v
+    pub ref_refused : {x : MirLowerError} → reference_result (Err x) ≡ reference_at (shape_of image ty) → Ref (Err (x, p)) t v
     ref_refused n =
         looks_stops p (λ ctx. reference_at (shape_of image (place_ty image ctx.state place))) (λ there ctx. referent ctx) ref_looks
         (λ visits. n ∙ ap (λ (s : PlaceTy). reference_at (shape_of image s)) (place_ty_now image t c place P is))
 
-    module _ (n : reference_result ReferenceAt.Reference ≡ reference_at (shape_of image ty)) {b : Projected} (Q : Projects place ProjectionElem.Deref b) where
+    module _ (n : reference_result (Ok tt) ≡ reference_at (shape_of image ty)) {b : Projected} (Q : Projects place ProjectionElem.Deref b) where
       ref_there : {r : Lowered} {t₁ : Body} {v₁ : List ℕ} → Walks referent c current els t v r t₁ v₁ → Ref r t₁ v₁
       ref_there W =
           looks_then p (λ ctx. reference_at (shape_of image (place_ty image ctx.state place))) (λ there ctx. referent ctx) ref_looks
           (λ visits. n ∙ ap (λ (s : PlaceTy). reference_at (shape_of image s)) (place_ty_now image t c place P is)) W
 
       -- there is no room for the deref
-      pub ref_stops : b.ok ≡ false → Ref (Lowered.Refused MirLowerError.Limit p) t v
+      pub ref_stops : b.ok ≡ false → Ref (Err (MirLowerError.Limit, p)) t v
       ref_stops e =
           ref_there (looks_stops p (λ ctx. project place ProjectionElem.Deref) (λ onward ctx. sub mode ctx current els onward) (λ ctx. refl) (λ visits. project_stops place ProjectionElem.Deref Q e))
 
@@ -101,11 +101,11 @@ module _ (image bindings : List ℕ) (p : PatId) (b q : ℕ) (how : BindingMode)
 
     -- the subpattern is refused
     pub bind_stops : {t t₁ : Body} {v v₁ : List ℕ} {x : MirLowerError} {at : PatId} →
-        Walks (λ ctx. pattern_match_inner image bindings (tree image q) mode ctx current els place) c current els t v (Lowered.Refused x at) t₁ v₁ → Bind t v (Lowered.Refused x at) t₁ v₁
+        Walks (λ ctx. pattern_match_inner image bindings (tree image q) mode ctx current els place) c current els t v (Err (x, at)) t₁ v₁ → Bind t v (Err (x, at)) t₁ v₁
     bind_stops W = walks_by bind_with (walks_stops behind_sub W)
 
     -- the binding behind it
     pub bind_then : {t t₁ t₂ : Body} {v v₁ : List ℕ} {c₁ : Counts} {then : BasicBlockId} {other : OptBlock} {r : Lowered} → Ready t c →
-        Walks (λ ctx. pattern_match_inner image bindings (tree image q) mode ctx current els place) c current els t v (Lowered.Done c₁ then other) t₁ v₁ →
+        Walks (λ ctx. pattern_match_inner image bindings (tree image q) mode ctx current els place) c current els t v (Ok (c₁, then, other)) t₁ v₁ →
         Lowers (λ ctx. bound bindings p.0 b how mode ctx then other place) c₁ then other t₁ r t₂ → Bind t v r t₂ v₁
     bind_then {v₁ = v₁} P W F = walks_by bind_with (walks_then W P behind_sub (lowers_walks v₁ F))

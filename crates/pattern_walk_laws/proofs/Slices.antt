@@ -1,4 +1,5 @@
 -- Slice patterns: a law for each way through the functions. Assumes nothing.
+use Rattle.std.specs.Prelude.{Ok, Err}
 use mathlib.Core.Path.{◌≡◌, refl, sym, ap, ◌∙◌}
 use mathlib.Core.List.{List}
 use Prim.Native.Nat.{ℕ, ◌+◌}
@@ -11,12 +12,12 @@ use Rattle.image.specs.Tree.{tree, tree?}
 use Rattle.place.specs.declared.Place.{Place}
 use Rattle.mir.specs.declared.BasicBlockId.{BasicBlockId}
 use Rattle.mir.specs.declared.Counts.{Counts}
-use Rattle.lower_spec.specs.declared.merging.OptBlock.{OptBlock}
+use Rattle.lower_spec.specs.Results.{OptBlock}
 use Rattle.pattern_matching.specs.declared.MatchingMode.{MatchingMode}
 use Rattle.pattern_matching.specs.Walking.{Ctx, Out, Walk, Lowering, next}
 use Rattle.pattern_matching.specs.Slices.{RestOf, rest_bound, slice_items, slice_on}
 use Rattle.pattern_matching.specs.Patterns.{rest_of}
-use Rattle.pattern_walk_spec.specs.declared.Lowered.{Lowered}
+use Rattle.pattern_walk_spec.specs.Results.{Lowered}
 use Rattle.pattern_walk_spec.specs.Answers.{Lowers, Walks}
 use Rattle.pattern_walk_spec.proofs.Sequences.{lowers_walks, walks_by, walks_stops, walks_then}
 use Rattle.pattern_rows.specs.declared.ArgumentRow.{ArgumentRow}
@@ -58,21 +59,21 @@ module _ (image bindings : List ℕ) (p : PatId) (rest from front back : ℕ) (m
   module _ {t t₁ : Body} {v : List ℕ} (P : Ready t c) where
     -- in `slice`: the rest is refused
     pub slice_behind_stops : {x : MirLowerError} {at : PatId} →
-        Lowers (λ ctx. rest_bound (rest_of (tree? (tree image) rest)) bindings p.0 front back mode ctx current els place) c current els t (Lowered.Refused x at) t₁ →
-        Walks (λ ctx. slice_behind image bindings p.0 rest from front back mode ctx current els place) c current els t v (Lowered.Refused x at) t₁ v
+        Lowers (λ ctx. rest_bound (rest_of (tree? (tree image) rest)) bindings p.0 front back mode ctx current els place) c current els t (Err (x, at)) t₁ →
+        Walks (λ ctx. slice_behind image bindings p.0 rest from front back mode ctx current els place) c current els t v (Err (x, at)) t₁ v
     slice_behind_stops F = walks_by behind_as (walks_stops behind_rest (lowers_walks v F))
 
     -- the items at the end
     pub slice_behind_then : {c₁ : Counts} {then : BasicBlockId} {other : OptBlock} {r : Lowered} {t₂ : Body} {v₂ : List ℕ} →
-        Lowers (λ ctx. rest_bound (rest_of (tree? (tree image) rest)) bindings p.0 front back mode ctx current els place) c current els t (Lowered.Done c₁ then other) t₁ →
+        Lowers (λ ctx. rest_bound (rest_of (tree? (tree image) rest)) bindings p.0 front back mode ctx current els place) c current els t (Ok (c₁, then, other)) t₁ →
         Walks (λ ctx. arguments_from ArgumentRow.LastItems image bindings p.0 from back 0 back mode ctx then other place) c₁ then other t₁ v r t₂ v₂ →
         Walks (λ ctx. slice_behind image bindings p.0 rest from front back mode ctx current els place) c current els t v r t₂ v₂
     slice_behind_then F S = walks_by behind_as (walks_then (lowers_walks v F) P behind_rest S)
 
     -- no item at the end
     pub slice_behind_none : {c₁ : Counts} {then : BasicBlockId} {other : OptBlock} →
-        Lowers (λ ctx. rest_bound (rest_of (tree? (tree image) rest)) bindings p.0 front back mode ctx current els place) c current els t (Lowered.Done c₁ then other) t₁ → back ≡ 0 →
-        Walks (λ ctx. slice_behind image bindings p.0 rest from front back mode ctx current els place) c current els t v (Lowered.Done c₁ then other) t₁ v
+        Lowers (λ ctx. rest_bound (rest_of (tree? (tree image) rest)) bindings p.0 front back mode ctx current els place) c current els t (Ok (c₁, then, other)) t₁ → back ≡ 0 →
+        Walks (λ ctx. slice_behind image bindings p.0 rest from front back mode ctx current els place) c current els t v (Ok (c₁, then, other)) t₁ v
     slice_behind_none {c₁} {then} {other} F none =
         slice_behind_then F (walks_by (λ ctx. ap (λ (k : ℕ). arguments_from ArgumentRow.LastItems image bindings p.0 from back 0 k mode ctx then other place) (sym none))
         (arguments_end ArgumentRow.LastItems image bindings p from back 0 mode place 0 c₁ then other t₁ v (omega arith) (lowers_walks v F).onward.begins))
@@ -92,12 +93,12 @@ module _ (image bindings : List ℕ) (p : PatId) (rest from front back : ℕ) (m
 
   -- one in front is refused
   pub slice_items_stop : {t t₁ : Body} {v v₁ : List ℕ} {x : MirLowerError} {at : PatId} →
-      Walks (λ ctx. arguments_from ArgumentRow.Items image bindings p.0 from 0 0 front mode ctx current els place) c current els t v (Lowered.Refused x at) t₁ v₁ → Items t v (Lowered.Refused x at) t₁ v₁
+      Walks (λ ctx. arguments_from ArgumentRow.Items image bindings p.0 from 0 0 front mode ctx current els place) c current els t v (Err (x, at)) t₁ v₁ → Items t v (Err (x, at)) t₁ v₁
   slice_items_stop W = walks_by items_as (walks_stops behind_front W)
 
   -- what is behind them
   pub slice_items_then : {t t₁ t₂ : Body} {v v₁ v₂ : List ℕ} {c₁ : Counts} {then : BasicBlockId} {other : OptBlock} {r : Lowered} → Ready t c →
-      Walks (λ ctx. arguments_from ArgumentRow.Items image bindings p.0 from 0 0 front mode ctx current els place) c current els t v (Lowered.Done c₁ then other) t₁ v₁ →
+      Walks (λ ctx. arguments_from ArgumentRow.Items image bindings p.0 from 0 0 front mode ctx current els place) c current els t v (Ok (c₁, then, other)) t₁ v₁ →
       Walks (λ ctx. slice_behind image bindings p.0 rest (from + front) front back mode ctx then other place) c₁ then other t₁ v₁ r t₂ v₂ → Items t v r t₂ v₂
   slice_items_then P W S = walks_by items_as (walks_then W P behind_front S)
 
@@ -123,12 +124,12 @@ module _ (image bindings : List ℕ) (p : PatId) (rest from front back : ℕ) (m
 
     -- the test is refused
     pub slice_stops : {t t₁ : Body} {v : List ℕ} {x : MirLowerError} {at : PatId} →
-        Lowers (λ ctx. slice_test (ty_of image ty).shape image p.0 n (rest_of (tree? (tree image) rest)) mode ctx current els place) c current els t (Lowered.Refused x at) t₁ → Slice t v (Lowered.Refused x at) t₁ v
+        Lowers (λ ctx. slice_test (ty_of image ty).shape image p.0 n (rest_of (tree? (tree image) rest)) mode ctx current els place) c current els t (Err (x, at)) t₁ → Slice t v (Err (x, at)) t₁ v
     slice_stops {v = v} L = walks_by slice_as (walks_stops behind_length (lowers_walks v L))
 
     -- the items
     pub slice_then : {t t₁ t₂ : Body} {v v₂ : List ℕ} {c₁ : Counts} {then : BasicBlockId} {other : OptBlock} {r : Lowered} → Ready t c →
-        Lowers (λ ctx. slice_test (ty_of image ty).shape image p.0 n (rest_of (tree? (tree image) rest)) mode ctx current els place) c current els t (Lowered.Done c₁ then other) t₁ →
+        Lowers (λ ctx. slice_test (ty_of image ty).shape image p.0 n (rest_of (tree? (tree image) rest)) mode ctx current els place) c current els t (Ok (c₁, then, other)) t₁ →
         Walks (λ ctx. slice_items bindings p.0 (lowered image bindings from front) (rest_of (tree? (tree image) rest)) (lowered image bindings (from + front) back) mode ctx then other place) c₁ then other t₁ v r t₂ v₂ →
         Slice t v r t₂ v₂
     slice_then {v = v} P L S = walks_by slice_as (walks_then (lowers_walks v L) P behind_length S)

@@ -1,4 +1,5 @@
 -- What the functions of the walk ask for and promise. Assumes nothing: these are definitions.
+use Rattle.std.specs.Prelude.{Err}
 use Rattle.std.specs.Prelude.{◌≡◌, Bool, true, false, not, ◌&&◌, List, ℕ, ◌≤◌, eqb, length}
 use Rattle.refusals.specs.declared.MirLowerError.{MirLowerError}
 use Rattle.image.specs.declared.PatId.{PatId}
@@ -13,12 +14,12 @@ use Rattle.place.specs.declared.Place.{Place}
 use Rattle.mir.specs.declared.BasicBlockId.{BasicBlockId}
 use Rattle.mir.specs.declared.Counts.{Counts}
 use Rattle.state.specs.Promises.{Ready}
-use Rattle.lower_spec.specs.declared.merging.OptBlock.{OptBlock}
+use Rattle.lower_spec.specs.Results.{OptBlock}
 use Rattle.pattern_matching.specs.declared.MatchingMode.{MatchingMode}
 use Rattle.pattern_matching.specs.Modes.{is_check}
 use Rattle.pattern_matching.specs.Walking.{Ctx, Out, Walk}
 use Rattle.pattern_matching.specs.Patterns.{pattern_match_inner}
-use Rattle.pattern_walk_spec.specs.declared.Lowered.{Lowered}
+use Rattle.pattern_walk_spec.specs.Results.{Lowered}
 use Rattle.pattern_walk_spec.specs.Answers.{Begins, Placed, Leaves, Holds, Walked, Walks, JoinedBy}
 use Rattle.pattern_parts.specs.Parts.{is_bind}
 use Rattle.pattern_nodes.specs.Nodes.{kind_pattern}
@@ -54,7 +55,7 @@ pub record Enters (image : List ℕ) (mode : MatchingMode) (p : PatId) (place : 
   pub below : q.0 ≤ p.0
   pub root : room ≡ true → (to.local ≡ place.local) × (place.len ≤ 16 → to.len ≤ 16)
   pub stops : room ≡ false → (bindings : List ℕ) (c : Counts) (current : BasicBlockId) (els : OptBlock) (t : Body) →
-      Inner image bindings p mode c current els place t v (Lowered.Refused MirLowerError.Limit q) t v₁
+      Inner image bindings p mode c current els place t v (Err (MirLowerError.Limit, q)) t v₁
   pub goes : room ≡ true → (row : PatRow) → row ≡ pat_at image q.0 → (bindings : List ℕ) (c : Counts) (current : BasicBlockId) (els : OptBlock) (t : Body) {r : Lowered} {t₂ : Body} {v₂ : List ℕ} →
       Walks (λ ctx. kind_pattern (pat_kind row.kind) image bindings q.0 row mode ctx current els to) c current els t v₁ r t₂ v₂ →
       Inner image bindings p mode c current els place t v r t₂ v₂

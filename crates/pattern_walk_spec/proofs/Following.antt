@@ -1,4 +1,6 @@
 -- Answers of a walk follow one another. Assumes nothing.
+use Rattle.mir.specs.Results.{NewBlock}
+use Rattle.std.specs.Prelude.{Some, None, Ok, Err}
 use mathlib.Core.Path.{◌≡◌, refl, ap, ◌∙◌}
 use mathlib.Core.Logic.{inl, inr}
 use mathlib.Core.Bool.{Bool, true, false, cond}
@@ -12,15 +14,14 @@ use Rattle.refusals.specs.Refusals.{Result, and_then}
 use Rattle.refusals.specs.Refusals.{done, stopped}
 use Rattle.mir.specs.declared.BasicBlockId.{BasicBlockId}
 use Rattle.mir.specs.declared.Counts.{Counts}
-use Rattle.mir.specs.declared.blocks.NewBlock.{NewBlock}
 use Rattle.mir.specs.Blocks.{block_limit, one_block_more, new_block}
-use Rattle.lower_spec.specs.declared.merging.OptBlock.{OptBlock}
+use Rattle.lower_spec.specs.Results.{OptBlock}
 use Rattle.state.specs.State.{Body}
 use Rattle.state.specs.Promises.{Ready, Grown, Own, Goes, Answers}
 use Rattle.state.proofs.Answering.{grown_refl, grown_trans, kept_refl, kept_trans}
 use Rattle.pattern_matching.specs.Walking.{Walk, ok, refused, next, step}
 use Rattle.lower_spec.specs.Promises.{Within}
-use Rattle.pattern_walk_spec.specs.declared.Lowered.{Lowered}
+use Rattle.pattern_walk_spec.specs.Results.{Lowered}
 use Rattle.pattern_walk_spec.specs.Answers.{OwnElse, Begins, Onward, OnwardBy}
 
 pub goes_on_lem : {c c₁ : Counts} (b₂ : Body) (c₂ : Option Counts) → Grown c c₁ → Goes c₁ c₂ b₂ → Goes c c₂ b₂
@@ -75,9 +76,9 @@ own_trans G own (inr new) = inr (le_trans G.blocks new)
 
 -- and so is an else
 pub own_else_trans : (c c₁ : Counts) (els els₁ els₂ : OptBlock) → Grown c c₁ → OwnElse c els els₁ → OwnElse c₁ els₁ els₂ → OwnElse c els els₂
-own_else_trans c c₁ els els₁ OptBlock.None G own own₁ = tt
-own_else_trans c c₁ els els₁ (OptBlock.Some b) G own (inl same) = rw same at own
-own_else_trans c c₁ els els₁ (OptBlock.Some b) G own (inr new) = inr (le_trans G.blocks new)
+own_else_trans c c₁ els els₁ None G own own₁ = tt
+own_else_trans c c₁ els els₁ (Some b) G own (inl same) = rw same at own
+own_else_trans c c₁ els els₁ (Some b) G own (inr new) = inr (le_trans G.blocks new)
 
 -- where it goes on, one after the other
 pub onward_trans : {c c₁ c₂ : Counts} {current then then₂ : BasicBlockId} {els els₁ els₂ : OptBlock} → Grown c c₁ → Onward c current els c₁ then els₁ → Onward c₁ then els₁ c₂ then₂ els₂ →
@@ -90,36 +91,38 @@ pub onward_refl : {c : Counts} {current : BasicBlockId} {els : OptBlock} → Beg
 onward_refl {c = c} {els = els} h = record { own = inl refl; own_else = own_same c els; begins = h }
   where
     own_same : (c : Counts) (els : OptBlock) → OwnElse c els els
-    own_same c OptBlock.None = tt
-    own_same c (OptBlock.Some b) = inl refl
+    own_same c None = tt
+    own_same c (Some b) = inl refl
 
 -- more blocks, and the same ones to go on at
 pub begins_grown : {c c₁ : Counts} {current : BasicBlockId} {els : OptBlock} → Grown c c₁ → Begins c current els → Begins c₁ current els
 begins_grown {c = c} {c₁ = c₁} {els = els} G h = record { start = le_trans h.start G.blocks; else = within_grown els h.else }
   where
     within_grown : (els : OptBlock) → Within c els → Within c₁ els
-    within_grown OptBlock.None w = tt
-    within_grown (OptBlock.Some b) w = le_trans w G.blocks
+    within_grown None w = tt
+    within_grown (Some b) w = le_trans w G.blocks
 
 pub onward_grown : {c c₁ : Counts} {current : BasicBlockId} {els : OptBlock} → Grown c c₁ → Begins c current els → Onward c current els c₁ current els
 onward_grown G h = let same = onward_refl h in record { own = same.own; own_else = same.own_else; begins = begins_grown G h }
 
 -- where an answer goes on, one after the other
 pub onward_by : {c c₁ : Counts} {current then : BasicBlockId} {els els₁ : OptBlock} (r : Lowered) → Grown c c₁ → Onward c current els c₁ then els₁ → OnwardBy c₁ then els₁ r → OnwardBy c current els r
-onward_by (Lowered.Done c₂ then₂ els₂) G F S = onward_trans G F S
-onward_by (Lowered.Refused e p) G F S = tt
+onward_by (Ok (c₂, then₂, els₂)) G F S = onward_trans G F S
+onward_by (Err (e, p)) G F S = tt
 
 -- a new block: its number is the count of those before it, and then there is one more
-pub block_made : (c : Counts) {c₁ : Counts} {m : BasicBlockId} → NewBlock.Block c₁ m ≡ new_block c → (c₁ ≡ one_block_more c) × (m ≡ record { 0 = c.blocks })
+pub block_made : (c : Counts) {c₁ : Counts} {m : BasicBlockId} → Some (c₁, m) ≡ new_block c → (c₁ ≡ one_block_more c) × (m ≡ record { 0 = c.blocks })
 unfolding new_block
 block_made c {c₁ = c₁} {m = m} is = made (ltb c.blocks block_limit) is
   where
-    made : (b : Bool) → NewBlock.Block c₁ m ≡ cond b (NewBlock.Block (one_block_more c) (record { 0 = c.blocks })) NewBlock.Full → (c₁ ≡ one_block_more c) × (m ≡ record { 0 = c.blocks })
-    made true e = (cc, cc)
+    made : (b : Bool) → ◌≡◌ {A = NewBlock} (Some (c₁, m)) (cond b (Some (one_block_more c, record { 0 = c.blocks })) None) → (c₁ ≡ one_block_more c) × (m ≡ record { 0 = c.blocks })
+    made true e =
+        let same : ◌≡◌ {A = Counts × BasicBlockId} (c₁, m) (one_block_more c, record { 0 = c.blocks }) = cc in
+        (ap (λ (pair : Counts × BasicBlockId). pair.0) same, ap (λ (pair : Counts × BasicBlockId). pair.1) same)
     made false e = absurd (let z : ◌≡◌ {A = ℕ} 0 1 = cc in omega arith)
 
 -- a walk goes on at it
-pub block_onward : (c : Counts) {c₁ : Counts} {m current : BasicBlockId} {els : OptBlock} → NewBlock.Block c₁ m ≡ new_block c → Begins c current els → Grown c c₁ × Onward c current els c₁ m els
+pub block_onward : (c : Counts) {c₁ : Counts} {m current : BasicBlockId} {els : OptBlock} → Some (c₁, m) ≡ new_block c → Begins c current els → Grown c c₁ × Onward c current els c₁ m els
 block_onward c is h =
     let made = block_made c is in
     let grown : Grown c (one_block_more c) =

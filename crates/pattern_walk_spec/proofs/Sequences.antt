@@ -1,4 +1,5 @@
 -- Parts of a walk follow one another: what the first promises, and what the second does from there. Assumes nothing.
+use Rattle.std.specs.Prelude.{Ok, Err}
 use mathlib.Core.Path.{◌≡◌, sym, ap, ◌∙◌}
 use mathlib.Core.List.{List, []}
 use Prim.Native.Nat.{ℕ}
@@ -12,20 +13,20 @@ use Rattle.mir.specs.declared.BasicBlockId.{BasicBlockId}
 use Rattle.mir.specs.declared.Counts.{Counts}
 use Rattle.state.specs.Promises.{Ready, Grown}
 use Rattle.state.proofs.Answering.{kept_trans}
-use Rattle.lower_spec.specs.declared.merging.OptBlock.{OptBlock}
+use Rattle.lower_spec.specs.Results.{OptBlock}
 use Rattle.pattern_matching.specs.Walking.{Ctx, Out, Walk, refused, next, out}
-use Rattle.pattern_walk_spec.specs.declared.Lowered.{Lowered}
+use Rattle.pattern_walk_spec.specs.Results.{Lowered}
 use Rattle.pattern_walk_spec.specs.Answers.{Begins, Placed, lowered_counts, Leaves, Lowers, Walks}
 use Rattle.pattern_walk_spec.proofs.Following.{goes_on_lem, stays, refuses, answers_by, next_then, next_stops, onward_refl, onward_by}
 use Rattle.state.specs.State.{Body}
 
 module _ {defined : Ctx → Walk Out} {c : Counts} {current : BasicBlockId} {els : OptBlock} {t₀ : Body} where
   -- a part that does nothing
-  pub lowers_skips : ((ctx : Ctx) → out ctx current els ≡ defined ctx) → Begins c current els → Lowers defined c current els t₀ (Lowered.Done c current els) t₀
+  pub lowers_skips : ((ctx : Ctx) → out ctx current els ≡ defined ctx) → Begins c current els → Lowers defined c current els t₀ (Ok (c, current, els)) t₀
   lowers_skips same h = record { answers = λ visits R. answers_by (same _) (stays _ R); onward = onward_refl h }
 
   -- a part that refuses before anything is done
-  pub lowers_refuses : {e : MirLowerError} {p : PatId} → ((ctx : Ctx) → refused e p.0 ≡ defined ctx) → Lowers defined c current els t₀ (Lowered.Refused e p) t₀
+  pub lowers_refuses : {e : MirLowerError} {p : PatId} → ((ctx : Ctx) → refused e p.0 ≡ defined ctx) → Lowers defined c current els t₀ (Err (e, p)) t₀
   lowers_refuses same = record { answers = λ visits R. refuses (same _); onward = tt }
 
 module _ {defined : Ctx → Walk Out} {c : Counts} {current : BasicBlockId} {els : OptBlock} {t₀ t : Body} where
@@ -34,7 +35,7 @@ module _ {defined : Ctx → Walk Out} {c : Counts} {current : BasicBlockId} {els
   lowers_leaves L P = let F = L.answers [] P in (F.goes, F.kept)
 
   -- where it goes on, the next part may begin
-  pub lowers_goes : {c₁ : Counts} {then : BasicBlockId} {els₁ : OptBlock} → Lowers defined c current els t₀ (Lowered.Done c₁ then els₁) t → Ready t₀ c →
+  pub lowers_goes : {c₁ : Counts} {then : BasicBlockId} {els₁ : OptBlock} → Lowers defined c current els t₀ (Ok (c₁, then, els₁)) t → Ready t₀ c →
       Ready t c₁ × Begins c₁ then els₁
   lowers_goes L P = ((lowers_leaves L P).0.0, L.onward.begins)
 
@@ -60,12 +61,12 @@ module _ {defined : Ctx → Walk Out} {c : Counts} {current : BasicBlockId} {els
       }
 
   -- a first part that refuses
-  pub lowers_stops : {e : MirLowerError} {p : PatId} (k : Out → Walk Out) → Lowers defined c current els t₀ (Lowered.Refused e p) t →
-      Lowers (λ ctx. next (defined ctx) k) c current els t₀ (Lowered.Refused e p) t
+  pub lowers_stops : {e : MirLowerError} {p : PatId} (k : Out → Walk Out) → Lowers defined c current els t₀ (Err (e, p)) t →
+      Lowers (λ ctx. next (defined ctx) k) c current els t₀ (Err (e, p)) t
   lowers_stops k L = record { answers = λ visits R. next_stops k (L.answers visits R); onward = tt }
 
-  pub walks_stops : {e : MirLowerError} {p : PatId} {v₀ v : List ℕ} (k : Out → Walk Out) → Walks defined c current els t₀ v₀ (Lowered.Refused e p) t v →
-      Walks (λ ctx. next (defined ctx) k) c current els t₀ v₀ (Lowered.Refused e p) t v
+  pub walks_stops : {e : MirLowerError} {p : PatId} {v₀ v : List ℕ} (k : Out → Walk Out) → Walks defined c current els t₀ v₀ (Err (e, p)) t v →
+      Walks (λ ctx. next (defined ctx) k) c current els t₀ v₀ (Err (e, p)) t v
   walks_stops k W =
       record {
         answers = λ visits R H. let F = W.answers visits R H in record { visits' = F.visits'; holds = F.holds; answers = next_stops k F.answers };
@@ -73,7 +74,7 @@ module _ {defined : Ctx → Walk Out} {c : Counts} {current : BasicBlockId} {els
         onward = tt;
       }
 
-  module _ {c₁ : Counts} {then : BasicBlockId} {els₁ : OptBlock} {v₀ v : List ℕ} (W : Walks defined c current els t₀ v₀ (Lowered.Done c₁ then els₁) t v) (P : Ready t₀ c) where
+  module _ {c₁ : Counts} {then : BasicBlockId} {els₁ : OptBlock} {v₀ v : List ℕ} (W : Walks defined c current els t₀ v₀ (Ok (c₁, then, els₁)) t v) (P : Ready t₀ c) where
     -- where a part goes on, the tables are primed, nothing was taken away, and a place is where it was
     pub ready_after : Ready t c₁
     ready_after = (W.leaves P).0.0
@@ -110,7 +111,7 @@ module _ {defined : Ctx → Walk Out} {c : Counts} {current : BasicBlockId} {els
 
   -- the same where neither part visits a pattern
   pub lowers_then : {c₁ : Counts} {then : BasicBlockId} {els₁ : OptBlock} {r : Lowered} {t₂ : Body} (k : Out → Walk Out) → Ready t₀ c →
-      Lowers defined c current els t₀ (Lowered.Done c₁ then els₁) t → Lowers (λ ctx. k (record { ctx = ctx; then = then; else = els₁ })) c₁ then els₁ t r t₂ →
+      Lowers defined c current els t₀ (Ok (c₁, then, els₁)) t → Lowers (λ ctx. k (record { ctx = ctx; then = then; else = els₁ })) c₁ then els₁ t r t₂ →
       Lowers (λ ctx. next (defined ctx) k) c current els t₀ r t₂
   lowers_then {r = r} k P L S =
       record {

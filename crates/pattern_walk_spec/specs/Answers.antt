@@ -1,4 +1,5 @@
 -- What the functions of a walk promise: with the tables at exit, an answer is what the definition gives. Assumes nothing: these are definitions.
+use Rattle.std.specs.Prelude.{Some, None, Ok, Err}
 use Rattle.std.specs.Prelude.{ℕ, ◌≤◌, ◌<◌, ◌≡◌, ◌⊎◌, cond, List, map, ltb, get_or}
 use Rattle.std.proofs.Math.Option.{Option, none, some}
 use Rattle.place.specs.declared.Place.{Place}
@@ -8,10 +9,10 @@ use Rattle.mir.specs.declared.Counts.{Counts}
 use Rattle.mir.specs.Locals.{local_ty}
 use Rattle.state.specs.State.{Body, decode}
 use Rattle.state.specs.Promises.{Ready, Kept, Own, Goes, Answers}
-use Rattle.lower_spec.specs.declared.merging.OptBlock.{OptBlock}
+use Rattle.lower_spec.specs.Results.{OptBlock}
 use Rattle.lower_spec.specs.Promises.{Within}
 use Rattle.pattern_matching.specs.Walking.{Ctx, Out, Walk, ok, refused}
-use Rattle.pattern_walk_spec.specs.declared.Lowered.{Lowered}
+use Rattle.pattern_walk_spec.specs.Results.{Lowered}
 
 -- where a walk starts: at a block that there is, with an else that there is, or none
 pub record Begins (c : Counts) (current : BasicBlockId) (els : OptBlock) : Type 0 where
@@ -30,17 +31,17 @@ ctx_of b c visits = record { state = decode b c; visits = visits }
 
 -- an answer, with the tables at exit, as the definitions have it
 abbrev pub walk_of : Lowered → Body → List ℕ → Walk Out
-walk_of (Lowered.Done c then els) b visits = ok (record { ctx = ctx_of b c visits; then = then; else = els })
-walk_of (Lowered.Refused e p) b visits = refused e p.0
+walk_of (Ok (c, then, els)) b visits = ok (record { ctx = ctx_of b c visits; then = then; else = els })
+walk_of (Err (e, p)) b visits = refused e p.0
 
 abbrev pub lowered_counts : Lowered → Option Counts
-lowered_counts (Lowered.Done c then els) = some c
-lowered_counts (Lowered.Refused e p) = none
+lowered_counts (Ok (c, then, els)) = some c
+lowered_counts (Err (e, p)) = none
 
 -- the else that was handed in, or a new block, where there is one
 abbrev pub OwnElse : Counts → OptBlock → OptBlock → Type 0
-OwnElse c els OptBlock.None = Unit
-OwnElse c els (OptBlock.Some b) = (els ≡ OptBlock.Some b) ⊎ (c.blocks ≤ b.0)
+OwnElse c els None = Unit
+OwnElse c els (Some b) = (els ≡ Some b) ⊎ (c.blocks ≤ b.0)
 
 -- where it goes on: at the block where it started, or at a new one
 pub record Onward (c : Counts) (current : BasicBlockId) (els : OptBlock) (c' : Counts) (then : BasicBlockId) (els' : OptBlock) : Type 0 where
@@ -49,8 +50,8 @@ pub record Onward (c : Counts) (current : BasicBlockId) (els : OptBlock) (c' : C
   pub begins : Begins c' then els'
 
 abbrev pub OnwardBy : Counts → BasicBlockId → OptBlock → Lowered → Type 0
-OnwardBy c current els (Lowered.Done c' then els') = Onward c current els c' then els'
-OnwardBy c current els (Lowered.Refused e p) = Unit
+OnwardBy c current els (Ok (c', then, els')) = Onward c current els c' then els'
+OnwardBy c current els (Err (e, p)) = Unit
 
 -- What a step of the walk that visits no pattern promises: the body b₀ before, and b after.
 pub record Lowers (defined : Ctx → Walk Out) (c : Counts) (current : BasicBlockId) (els : OptBlock) (b₀ : Body) (r : Lowered) (b : Body) : Type 0 where
@@ -89,8 +90,8 @@ pub record Joined (c : Counts) (join : BasicBlockId) (els : OptBlock) (c' : Coun
   pub begins : Begins c' then els'
 
 abbrev pub JoinedBy : Counts → BasicBlockId → OptBlock → Lowered → Type 0
-JoinedBy c join els (Lowered.Done c' then els') = Joined c join els c' then els'
-JoinedBy c join els (Lowered.Refused e p) = Unit
+JoinedBy c join els (Ok (c', then, els')) = Joined c join els c' then els'
+JoinedBy c join els (Err (e, p)) = Unit
 
 -- what the end of alternatives promises, from the block where the last did not match: the body b₀ before, and b after
 pub record Ends (defined : Ctx → Walk Out) (c : Counts) (left join : BasicBlockId) (els : OptBlock) (b₀ : Body) (r : Lowered) (b : Body) : Type 0 where

@@ -2,15 +2,8 @@
 #![tactic(auto)]
 
 use image::PatId;
-use lower_spec::merging::OptBlock;
 use mir::{BasicBlockId, Counts};
 use refusals::MirLowerError;
 
 // What the lowering of a pattern, or a part of it, gives.
-#[derive(Clone, Copy)]
-pub enum Lowered {
-    // The counts, the block where a match goes on, and the one where a mismatch does.
-    Done(Counts, BasicBlockId, OptBlock),
-    // Why it was refused, and the pattern that was visited then.
-    Refused(MirLowerError, PatId),
-}
+pub type Lowered = Result<(Counts, BasicBlockId, Option<BasicBlockId>), (MirLowerError, PatId)>;

@@ -1,5 +1,5 @@
 -- Words and the numbers whose bytes theirs are: words of at most eight bytes are the same where their numbers are. Assumes nothing.
-use Prim.Native.Nat.{ℕ, zero, suc, ◌+◌, ◌-◌, ◌*◌, ◌^◌, ◌<◌, ◌≤◌}
+use Prim.Native.Nat.{ℕ, suc, ◌+◌, ◌-◌, ◌*◌, ◌^◌, ◌<◌, ◌≤◌}
 use mathlib.Core.Path.{◌≡◌, refl, sym}
 use mathlib.Core.Bool.{Bool, true, false, cond, ◌&&◌, ◌||◌}
 use mathlib.Core.List.{List, [], ◌∷◌, map}
@@ -127,18 +127,18 @@ run_all test (x ∷ xs) = first (test x) refl (run_all test xs)
     first false e rest = refl
 
 -- a number of one byte more
-pub number_on : (word : List ℕ) (at : ℕ) → (at ≡ 0 → ⊥) → at ≤ length word → little_endian (drop (at - 1) word) ≡ get_or word (at - 1) 0 + 256 * little_endian (drop at word)
+pub number_on : (word : List ℕ) (at : ℕ) → 0 < at → at ≤ length word → little_endian (drop (at - 1) word) ≡ get_or word (at - 1) 0 + 256 * little_endian (drop at word)
 unfolding little_endian
 number_on word at n h =
     let e : at - 1 + 1 ≡ at = omega (arith, n) in
     rw (on word (at - 1) (omega (arith, n)), e)
 
-pub number_bound : (number b len at : ℕ) → number < 256 ^ (len - at) → b < 256 → (at ≡ 0 → ⊥) → at ≤ len → number * 256 + b < 256 ^ (len - (at - 1))
+pub number_bound : (number b len at : ℕ) → number < 256 ^ (len - at) → b < 256 → 0 < at → at ≤ len → number * 256 + b < 256 ^ (len - (at - 1))
 number_bound number b len at h hb n l =
     let e : len - (at - 1) ≡ suc (len - at) = omega (arith, n) in
     rw (e, pow-suc 256 (len - at)) (omega arith)
 
-pub number_fits : (number len at : ℕ) → number < 256 ^ (len - at) → (at ≡ 0 → ⊥) → at ≤ len → len ≤ 8 → number < 72057594037927936
+pub number_fits : (number len at : ℕ) → number < 256 ^ (len - at) → 0 < at → at ≤ len → len ≤ 8 → number < 72057594037927936
 number_fits number len at h n l s =
     let p = pow-le-pow_right {n = 256} (omega arith) {i = len - at} {j = 7} (omega (arith, n)) in
     omega (arith, p)

@@ -114,16 +114,15 @@ pub fn is_in_word(b: u8) -> bool
 
 // How many bytes a word has that begins at `from`.
 fn word_run(bytes: &[u8], from: usize) -> usize
+    requires { from ≤ length bytes.now }
     ensures { result ≡ run in_word (drop from bytes.now) }
 {
-    let mut at = from;
-    while at < bytes.len() {
+    for at in from..bytes.len() {
         if !is_in_word(bytes[at]) {
             return at - from;
         }
-        at += 1;
     }
-    at - from
+    bytes.len() - from
 }
 
 // The number whose bytes a word's are.
@@ -132,9 +131,7 @@ fn word_number(word: &[u8]) -> u64
     ensures { result ≡ little_endian word.now }
 {
     let mut number: u64 = 0;
-    let mut at = word.len();
-    while at != 0 {
-        at -= 1;
+    for at in (0..word.len()).rev() {
         number = number * 256 + (word[at] as u64);
     }
     number

@@ -10,7 +10,7 @@ ghost use Rattle.image.specs.Valid.{valid};
 ghost use Rattle.place.specs.PlaceTypes.{field_of, deref_ty, adt_field_ty, field_ty, element_ty, subslice_ty, adt_downcast_ty, downcast_ty};
 
 use image::Tables;
-use image::kinds::{AdtKind, TypeKind, adt_kind};
+use image::kinds::{AdtKind, TypeKind};
 use image::rows::{TypeRow, list_at, variant_at};
 use place::place_ty::PlaceTy;
 
@@ -63,7 +63,7 @@ pub fn field_ty(image: &[u8], tables: Tables, row: TypeRow, kind: TypeKind, i: u
 {
     match kind {
         TypeKind::Tuple => field_of(image, tables, row.a, row.b, i),
-        TypeKind::Adt => adt_field_ty(image, tables, adt_kind(row.c), row.a, i),
+        TypeKind::Adt => adt_field_ty(image, tables, AdtKind::from(row.c), row.a, i),
         _ => PlaceTy::Inapplicable,
     }
 }
@@ -117,7 +117,7 @@ pub fn downcast_ty(e: u16, v: u16, row: TypeRow, kind: TypeKind) -> PlaceTy
     ensures { (image : List ℕ) → result ≡ downcast_ty e v (shape_by kind image row) }
 {
     match kind {
-        TypeKind::Adt => adt_downcast_ty(adt_kind(row.c), e, v, row.a, row.b),
+        TypeKind::Adt => adt_downcast_ty(AdtKind::from(row.c), e, v, row.a, row.b),
         _ => PlaceTy::Inapplicable,
     }
 }

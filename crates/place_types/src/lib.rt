@@ -8,7 +8,7 @@ ghost use Rattle.place.specs.PlaceTypes.{ty_projection, variant_projection, part
 ghost use Rattle.place.specs.Places.{projection_of};
 
 use image::Tables;
-use image::kinds::type_kind;
+use image::kinds::TypeKind;
 use image::rows::type_at;
 use place::Place;
 use place::elems::{ProjectionElem, elem_of};
@@ -21,7 +21,7 @@ fn ty_projection(image: &[u8], tables: Tables, t: u16, elem: ProjectionElem) -> 
     ensures { result ≡ ty_projection elem image.now t }
 {
     let row = type_at(image, tables, t);
-    let kind = type_kind(row.kind);
+    let kind = TypeKind::from(row.kind);
     match elem {
         ProjectionElem::Deref => deref_ty(row, kind),
         ProjectionElem::Field(i) => field_ty(image, tables, row, kind, i),
@@ -74,13 +74,9 @@ pub fn multi_projection_ty(image: &[u8], tables: Tables, ty: PlaceTy, place: Pla
     requires { Whole image.now tables × (valid image.now ≡ true) × Named image.now ty × (place.len ≤ 16) }
     ensures { result ≡ multi_projection_ty image.now ty (projection_of place) }
 {
-    let elems = place.elems;
-    let len = place.len as usize;
     let mut here = ty;
-    let mut i = 0;
-    while i < len {
-        here = projection_ty(image, tables, here, elem_of(elems[i]));
-        i += 1;
+    for elem in &place.elems[..place.len as usize] {
+        here = projection_ty(image, tables, here, elem_of(*elem));
     }
     here
 }

@@ -6,34 +6,27 @@ ghost use Rattle.program_io.specs.Inputs.{InputFits};
 
 use std::io::Read;
 
-#[derive(Clone, Copy)]
-pub enum Input {
-    // So many bytes, at the start of the buffer.
-    Bytes(usize),
-    // A read failed, which is told.
-    Failed,
-}
-
 fn tell_read(rt: &impl Eprint) {
     let _ = eprintln!(rt; "standard input could not be read");
 }
 
 // Reads until the buffer is full or the input ends.
-pub fn read_input(rt: &impl Eprint, input: &mut impl Read, buffer: &mut [u8]) -> Input
+pub fn read_input(rt: &impl Eprint, input: &mut impl Read, buffer: &mut [u8]) -> Option<usize>
     ensures { InputFits result (length buffer.old) }
 {
     let mut done = 0;
+    // A while: a read brings as many bytes as it will.
     while done < buffer.len() {
         match input.read(&mut buffer[done..]) {
             Err(_) => {
                 tell_read(rt);
-                return Input::Failed;
+                return None;
             }
-            Ok(0) => return Input::Bytes(done),
+            Ok(0) => return Some(done),
             Ok(more) => done += more,
         }
     }
-    Input::Bytes(done)
+    Some(done)
 }
 
 // A write failed.

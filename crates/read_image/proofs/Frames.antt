@@ -1,4 +1,5 @@
 -- The ways through the test of an image's frame. Assumes nothing.
+use Rattle.std.specs.Prelude.{Some, None}
 use Prim.Native.Nat.{ℕ, ◌+◌, ◌*◌, ◌-◌, ◌≤◌, ◌<◌}
 use mathlib.Core.Path.{◌≡◌, refl}
 use mathlib.Core.Bool.{Bool, true, false, cond, ◌&&◌}
@@ -13,7 +14,6 @@ use Rattle.image.specs.Tables.{type_count, variant_count, pattern_count, binding
 use Rattle.image.specs.Lists.{all_true}
 use Rattle.image.specs.Rules.{counts_what_follows, version_is_one, tables_fill_the_rest, within_limits}
 use Rattle.image.proofs.Bools.{and_left, and_right, and_true, and_false_right, all_true_at, one_false}
-use Rattle.read_image.specs.declared.Read.{Read}
 use Rattle.read_image.specs.Parts.{limits, framed, Begun, frame_of}
 
 -- the rules of the frame
@@ -21,22 +21,22 @@ abbrev pub frame_rules : List ℕ → List Bool
 frame_rules image = counts_what_follows image ∷ version_is_one image ∷ tables_fill_the_rest image ∷ within_limits image ∷ []
 
 module _ (image : List ℕ) where
-  refused : framed image ≡ false → Read.Refused ≡ frame_of image
+  refused : framed image ≡ false → None ≡ frame_of image
   unfolding frame_of
   refused e = rw e
 
-  unfilled : (length image ≡ tables_end image → ⊥) → Read.Refused ≡ frame_of image
+  unfilled : (length image ≡ tables_end image → ⊥) → None ≡ frame_of image
   unfolding framed tables_fill_the_rest
   unfilled ne = refused (one_false (frame_rules image) 2 (ne_eqb _ _ ne))
 
-  pub short : length image < 17 → Read.Refused ≡ frame_of image
+  pub short : length image < 17 → None ≡ frame_of image
   short h = unfilled (λ e. omega arith)
 
-  pub miscounted : (length image ≡ 4 + (word_at image 0 * 65536 + word_at image 2) → ⊥) → Read.Refused ≡ frame_of image
+  pub miscounted : (length image ≡ 4 + (word_at image 0 * 65536 + word_at image 2) → ⊥) → None ≡ frame_of image
   unfolding framed counts_what_follows
   miscounted ne = refused (one_false (frame_rules image) 0 (and_false_right (leb 4 (length image)) (eqb (length image) (4 + long_at image 0)) (ne_eqb _ _ ne)))
 
-  pub other_version : (byte_at image 4 ≡ 1 → ⊥) → Read.Refused ≡ frame_of image
+  pub other_version : (byte_at image 4 ≡ 1 → ⊥) → None ≡ frame_of image
   unfolding framed version_is_one
   other_version ne = refused (one_false (frame_rules image) 1 (ne_eqb _ _ ne))
 
@@ -49,20 +49,20 @@ module _ (image : List ℕ) where
         version = eq-eqb _ _ v;
       }
 
-  pub cut : length image < data_at image → Read.Refused ≡ frame_of image
+  pub cut : length image < data_at image → None ≡ frame_of image
   cut h = unfilled (λ e. omega arith)
 
-  pub loose : data_at image ≤ length image → (length image - data_at image ≡ data_count image → ⊥) → Read.Refused ≡ frame_of image
+  pub loose : data_at image ≤ length image → (length image - data_at image ≡ data_count image → ⊥) → None ≡ frame_of image
   loose h ne = unfilled (λ e. ne (omega arith))
 
   abbrev counts_hold : Bool
   counts_hold = limits (type_count image) (variant_count image) (pattern_count image) (binding_count image) (list_count image) (data_count image)
 
-  pub over_a_limit : counts_hold ≡ false → Read.Refused ≡ frame_of image
+  pub over_a_limit : counts_hold ≡ false → None ≡ frame_of image
   unfolding framed within_limits
   over_a_limit e = refused (one_false (frame_rules image) 3 e)
 
-  pub whole_frame : Begun image → data_at image ≤ length image → length image - data_at image ≡ data_count image → counts_hold ≡ true → Read.Image (tables_of image) ≡ frame_of image
+  pub whole_frame : Begun image → data_at image ≤ length image → length image - data_at image ≡ data_count image → counts_hold ≡ true → Some (tables_of image) ≡ frame_of image
   unfolding frame_of framed within_limits tables_fill_the_rest all_true
   whole_frame B h e l = rw (B.counted, B.version, eq-eqb (length image) (tables_end image) (omega arith), l)
 
@@ -115,11 +115,11 @@ module _ (image : List ℕ) where
         leb-true _ _ (and_right (t && v && p && b) l first5),
       )
 
-  pub known : (tables : Tables) → Read.Image tables ≡ frame_of image → Framed tables
+  pub known : (tables : Tables) → Some tables ≡ frame_of image → Framed tables
   unfolding frame_of
   known tables e = go (framed image) refl e
     where
-      go : (b : Bool) → framed image ≡ b → Read.Image tables ≡ cond b (Read.Image (tables_of image)) Read.Refused → Framed tables
+      go : (b : Bool) → framed image ≡ b → Some tables ≡ cond b (Some (tables_of image)) None → Framed tables
       go true f q =
           let same : tables ≡ tables_of image = cc in
           record {
@@ -132,10 +132,10 @@ module _ (image : List ℕ) where
           }
       go false f q = absurd (let z : ◌≡◌ {A = ℕ} 0 1 = cc in omega arith)
 
-  pub unknown : Read.Refused ≡ frame_of image → framed image ≡ false
+  pub unknown : None ≡ frame_of image → framed image ≡ false
   unfolding frame_of
   unknown e = go (framed image) e
     where
-      go : (b : Bool) → Read.Refused ≡ cond b (Read.Image (tables_of image)) Read.Refused → b ≡ false
+      go : (b : Bool) → None ≡ cond b (Some (tables_of image)) None → b ≡ false
       go true q = absurd (let z : ◌≡◌ {A = ℕ} 0 1 = cc in omega arith)
       go false q = refl

@@ -1,9 +1,10 @@
 -- The parts of the test, in the order in which they are tried: each is some of the rules of `valid`. Assumes nothing: these are definitions.
+use Rattle.std.specs.Prelude.{Some, None}
 use Rattle.std.specs.Prelude.{ℕ, ◌≤◌, ◌≡◌, Bool, true, cond, ◌&&◌, List, [], ◌∷◌, leb, length}
 use Rattle.image.specs.Tables.{tables_of}
 use Rattle.image.specs.Lists.{all_true}
 use Rattle.image.specs.Rules.{counts_what_follows, version_is_one, tables_fill_the_rest, within_limits}
-use Rattle.read_image.specs.declared.Read.{Read}
+use Rattle.read_image.specs.Results.{Read}
 
 -- the six counts are within their limits
 abbrev pub limits : ℕ → ℕ → ℕ → ℕ → ℕ → ℕ → Bool
@@ -21,4 +22,4 @@ pub record Begun (image : List ℕ) : Type 0 where
 
 -- the tables' places, where the frame holds
 unfoldable pub frame_of : List ℕ → Read
-frame_of image = cond (framed image) (Read.Image (tables_of image)) Read.Refused
+frame_of image = cond (framed image) (Some (tables_of image)) None

@@ -2,8 +2,7 @@
 ghost use Rattle.std.specs.Prelude.{◌≡◌};
 ghost use Rattle.read_image.specs.Parts.{limits, Begun, frame_of};
 
-use super::Read;
-use image::{tables_of, word_at};
+use image::{Tables, tables_of, word_at};
 
 fn within_limits(
     types: u16,
@@ -37,35 +36,35 @@ fn within_limits(
 }
 
 // The places of the tables, where the frame is whole and the tables fill the rest of it.
-pub fn read_frame(image: &[u8]) -> Read
+pub fn read_frame(image: &[u8]) -> Option<Tables>
     ensures { result ≡ frame_of image.now }
 {
     if image.len() < 17 {
-        return Read::Refused;
+        return None;
     }
     let high = word_at(image, 0) as usize;
     let low = word_at(image, 2) as usize;
     if image.len() != 4 + (high * 65536 + low) {
-        return Read::Refused;
+        return None;
     }
     if image[4] != 1 {
-        return Read::Refused;
+        return None;
     }
     read_tables(image)
 }
 
 // The tables, behind the version.
-fn read_tables(image: &[u8]) -> Read
+fn read_tables(image: &[u8]) -> Option<Tables>
     requires { Begun image.now }
     ensures { result ≡ frame_of image.now }
 {
     let tables = tables_of(image);
     let end = tables.bytes.at as usize;
     if image.len() < end {
-        return Read::Refused;
+        return None;
     }
     if image.len() - end != (tables.bytes.count as usize) {
-        return Read::Refused;
+        return None;
     }
     if !within_limits(
         tables.types.count,
@@ -75,7 +74,7 @@ fn read_tables(image: &[u8]) -> Read
         tables.list.count,
         tables.bytes.count,
     ) {
-        return Read::Refused;
+        return None;
     }
-    Read::Image(tables)
+    Some(tables)
 }

@@ -11,28 +11,19 @@ use image_marks::adts_apart;
 use image_tables::patterns::patterns_hold;
 use image_tables::tables_hold::rows_hold;
 
-// The places of the tables; or the image breaks a rule.
-#[derive(Clone, Copy)]
-pub enum Read {
-    Image(Tables),
-    Refused,
-}
-
 // The places of an image's tables, for every byte string: or it breaks a rule, and is refused.
-pub fn read_image(image: &[u8]) -> Read
+pub fn read_image(image: &[u8]) -> Option<Tables>
     ensures { Reads image.now result }
 {
-    let Read::Image(tables) = read_frame(image) else {
-        return Read::Refused;
-    };
+    let tables = read_frame(image)?;
     if !rows_hold(image, tables) {
-        return Read::Refused;
+        return None;
     }
     if !adts_apart(image, tables) {
-        return Read::Refused;
+        return None;
     }
     if !patterns_hold(image, tables) {
-        return Read::Refused;
+        return None;
     }
-    Read::Image(tables)
+    Some(tables)
 }

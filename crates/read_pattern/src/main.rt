@@ -10,11 +10,11 @@ use draft_tables::DRAFT_WORDS;
 use image_writing::IMAGE_BYTES;
 use node_rows::{MAKING_WORDS, NODE_WORDS};
 use node_typing::WAITING_WORDS;
-use program_io::{Input, read_input, write_output};
+use program_io::{read_input, write_output};
 use reading_call::read_pattern;
 use reading_input::parts_of;
 use reading_lines::print_refusal;
-use reading_typed::PatternRead;
+use reading_typed::ReadRefusal;
 use spelled_names::NAME_BYTES;
 
 // The image of a text, in the lent bytes, or the refusal: the tables that reading takes are made here.
@@ -24,7 +24,7 @@ fn read_text(
     names: &[u8],
     expected: u16,
     image: &mut [u8; IMAGE_BYTES],
-) -> PatternRead
+) -> Result<usize, ReadRefusal>
     ensures { PatternReads text.now sheet.now names.now expected image.old result image.new }
 {
     let mut spelled = [0u8; NAME_BYTES];
@@ -70,15 +70,15 @@ fn answer(rt: &(impl Print + Eprint), input: &[u8]) {
         parts.expected,
         &mut image,
     ) {
-        PatternRead::Image(count) => write_first(rt, &image, count),
-        PatternRead::RefusedAt(number, position) => print_refusal(rt, number, position),
+        Ok(count) => write_first(rt, &image, count),
+        Err(ReadRefusal { number, position }) => print_refusal(rt, number, position),
     }
 }
 
 fn main(rt: HostRuntime) {
     let mut buffer = [0u8; 131072];
     match read_input(&rt, &mut rt.stdin(), &mut buffer) {
-        Input::Failed => {}
-        Input::Bytes(n) => answer(&rt, &buffer[..n]),
+        None => {}
+        Some(n) => answer(&rt, &buffer[..n]),
     }
 }

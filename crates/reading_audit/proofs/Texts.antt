@@ -1,5 +1,6 @@
 -- The auditor's page on patterns as text, request S-14: each theorem is a sentence of the request, proved by one citation. The first speak of the definition
 -- `read_pattern`, the last of the call `read_pattern`, by its contract. Assumes nothing.
+use Rattle.std.specs.Prelude.{Ok, Err}
 use Prim.Native.Nat.{ℕ, ◌<◌}
 use mathlib.Core.Path.{◌≡◌}
 use mathlib.Core.Bool.{true}
@@ -12,8 +13,7 @@ use Rattle.pattern_grammar.specs.Parsed.{lexemes, parsed}
 use Rattle.pattern_grammar.proofs.Verdicts.{Refused}
 use Rattle.pattern_reading.specs.Reads.{image_of, refused_with, read_pattern}
 use Rattle.image_growth.specs.Growing.{IsBytes}
-use Rattle.reading_typed.specs.declared.PatternRead.{PatternRead}
-use Rattle.reading_typed.specs.declared.PatternRead.TheVariants.{Image, RefusedAt}
+use Rattle.reading_typed.specs.Results.{PatternRead}
 use Rattle.reading_call.specs.Calls.{PatternReads}
 use Rattle.reading_audit.specs.Texts.{IsRead, FirstPlace}
 use Rattle.reading_audit.specs.Calls.{ImageStands, NothingWritten}
@@ -47,9 +47,9 @@ module _ (text sheet names : List ℕ) (expected : ℕ) where
 -- A call on them: the image's bytes before it, its answer, and the bytes behind it.
 module _ (text sheet names : List ℕ) (expected : ℕ) (before : List ℕ) (answer : PatternRead) (after : List ℕ) (called : PatternReads text sheet names expected before answer after) where
   -- an answer with an image's length: the image that the definition reads stands there
-  pub the_image_read_is_written : (count : ℕ) → answer ≡ Image count → ImageStands text sheet names expected before count after
+  pub the_image_read_is_written : (count : ℕ) → answer ≡ Ok count → ImageStands text sheet names expected before count after
   the_image_read_is_written = image_stands text sheet names expected before answer after called
 
   -- "Refused, writing nothing"
-  pub what_is_refused_writes_nothing : (number at : ℕ) → answer ≡ RefusedAt number at → NothingWritten text sheet names expected before number at after
+  pub what_is_refused_writes_nothing : (number at : ℕ) → answer ≡ Err (record { number = number; position = at }) → NothingWritten text sheet names expected before number at after
   what_is_refused_writes_nothing = nothing_written text sheet names expected before answer after called

@@ -1,4 +1,5 @@
 -- An image that was read is within its room, which is as long as it was. Assumes nothing.
+use Rattle.std.specs.Prelude.{Ok, Err}
 use Prim.Native.Nat.{ℕ, ◌≤◌}
 use mathlib.Core.Path.{◌≡◌, sym, ap, ◌∙◌}
 use mathlib.Core.List.{List}
@@ -7,22 +8,21 @@ use lib.ListN.{length}
 use Rattle.row_tables.specs.Rows.{stored}
 use Rattle.row_tables.proofs.Tables.{length_stored}
 use Rattle.pattern_reading.specs.Reads.{Answer, image_of, refused_with, read_pattern}
-use Rattle.reading_typed.specs.declared.PatternRead.{PatternRead}
-use Rattle.reading_typed.specs.declared.PatternRead.TheVariants.{Image, RefusedAt}
+use Rattle.reading_typed.specs.Results.{PatternRead}
 use Rattle.reading_typed.specs.Answers.{ReadsAs}
 use Rattle.reading_call.specs.Calls.{PatternReads}
 
 -- how many bytes an answer has, and whether it has any
 unfoldable bytes_read : PatternRead → ℕ
-bytes_read (Image count) = count
-bytes_read (RefusedAt number at) = 0
+bytes_read (Ok count) = count
+bytes_read (Err refusal) = 0
 
 unfoldable is_image : PatternRead → ℕ
-is_image (Image count) = 1
-is_image (RefusedAt number at) = 0
+is_image (Ok count) = 1
+is_image (Err refusal) = 0
 
 module _ {text sheet names : List ℕ} {expected : ℕ} {before : List ℕ} {r : PatternRead} {after : List ℕ} (P : PatternReads text sheet names expected before r after) where
-  pub image_fits : {count : ℕ} → r ≡ Image count → count ≤ 34321
+  pub image_fits : {count : ℕ} → r ≡ Ok count → count ≤ 34321
   unfolding bytes_read is_image
   image_fits {count} is = by (read_pattern text sheet names expected) P.shows
     where

@@ -1,7 +1,7 @@
 -- What the call on a text answers, and what it leaves in the image's bytes. Assumes nothing: these are definitions.
 use Rattle.std.specs.Prelude.{ℕ, List}
 use Rattle.pattern_reading.specs.Reads.{read_pattern}
-use Rattle.reading_typed.specs.declared.PatternRead.{PatternRead}
+use Rattle.reading_typed.specs.Results.{PatternRead}
 use Rattle.reading_typed.specs.Answers.{ReadsAs}
 
 -- the call on a text, a sheet, a name table and an expected type

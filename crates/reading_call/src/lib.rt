@@ -8,9 +8,9 @@ use draft_tables::DRAFT_WORDS;
 use image_writing::IMAGE_BYTES;
 use node_rows::{MAKING_WORDS, NODE_WORDS};
 use node_typing::WAITING_WORDS;
-use pattern_parsing::{Parsed, parse_pattern};
+use pattern_parsing::parse_pattern;
 use reading_nodes::read_nodes;
-use reading_typed::PatternRead;
+use reading_typed::ReadRefusal;
 use spelled_names::NAME_BYTES;
 
 // The image of a pattern's text, read at the expected type, with the names of a table: number 19 is tried first.
@@ -26,12 +26,15 @@ pub fn read_pattern(
     makings: &mut [u16; MAKING_WORDS],
     draft: &mut [u16; DRAFT_WORDS],
     image: &mut [u8; IMAGE_BYTES],
-) -> PatternRead
+) -> Result<usize, ReadRefusal>
     ensures { PatternReads text.now sheet.now names.now expected image.old result image.new }
 {
     match parse_pattern(text, nodes, stack, spelled) {
-        Parsed::FailsAt(at) => PatternRead::RefusedAt(19, at),
-        Parsed::Nodes(n) => read_nodes(
+        Err(at) => Err(ReadRefusal {
+            number: 19,
+            position: at,
+        }),
+        Ok(n) => read_nodes(
             text, sheet, names, expected, spelled, nodes, n, waiting, makings, draft, image,
         ),
     }

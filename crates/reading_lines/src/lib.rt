@@ -18,11 +18,9 @@ fn hex_digit(value: u8) -> u8 {
 fn put_hex(bytes: &[u8], count: usize, out: &mut [u8])
     requires { (count ≤ length bytes.now) × (2 * count ≤ length out.old) × (count ≤ 34321) }
 {
-    let mut i = 0;
-    while i < count {
-        out[2 * i] = hex_digit(bytes[i] / 16);
-        out[2 * i + 1] = hex_digit(bytes[i]);
-        i += 1;
+    for (i, byte) in bytes[..count].iter().enumerate() {
+        out[2 * i] = hex_digit(*byte / 16);
+        out[2 * i + 1] = hex_digit(*byte);
     }
 }
 

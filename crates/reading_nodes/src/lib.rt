@@ -11,8 +11,8 @@ use image_writing::IMAGE_BYTES;
 use name_rules::names_hold;
 use node_rows::{MAKING_WORDS, NODE_WORDS};
 use node_typing::WAITING_WORDS;
-use reading_typed::{PatternRead, read_typed};
-use type_sheets::{Sheet, read_sheet};
+use reading_typed::{ReadRefusal, read_typed};
+use type_sheets::read_sheet;
 
 // Numbers 1 and 2 for sheet, type and name table, and then the passes over the nodes.
 pub fn read_nodes(
@@ -27,18 +27,27 @@ pub fn read_nodes(
     makings: &mut [u16; MAKING_WORDS],
     draft: &mut [u16; DRAFT_WORDS],
     image: &mut [u8; IMAGE_BYTES],
-) -> PatternRead
+) -> Result<usize, ReadRefusal>
     requires { NodesParsed text.now spelled.now nodes.now n }
     ensures { ReadsAs (read_nodes sheet.now names.now expected (nodes_in text.now spelled.now nodes.now n)) image.old result image.new }
 {
-    let Sheet::Tables(tables) = read_sheet(sheet) else {
-        return PatternRead::RefusedAt(1, 65535);
+    let Some(tables) = read_sheet(sheet) else {
+        return Err(ReadRefusal {
+            number: 1,
+            position: 65535,
+        });
     };
     if tables.types.count <= expected {
-        return PatternRead::RefusedAt(2, 65535);
+        return Err(ReadRefusal {
+            number: 2,
+            position: 65535,
+        });
     }
     if !names_hold(sheet, tables, names) {
-        return PatternRead::RefusedAt(2, 65535);
+        return Err(ReadRefusal {
+            number: 2,
+            position: 65535,
+        });
     }
     read_typed(
         text, sheet, tables, names, expected, spelled, nodes, n, waiting, makings, draft, image,

@@ -1,4 +1,5 @@
 -- What the passes over a text's nodes answer, where what is handed in keeps its rules. Assumes nothing.
+use Rattle.std.specs.Prelude.{Some, None, Ok, Err}
 use Prim.Native.Nat.{ℕ, ◌≤◌}
 use mathlib.Core.Path.{◌≡◌, refl, sym, ap, subst, ◌∙◌}
 use mathlib.Core.Bool.{true}
@@ -21,7 +22,7 @@ use Rattle.image_growth.proofs.Grows.{sheet_filled, length_tables, image_long}
 use Rattle.image_growth.proofs.Limits.{few}
 use Rattle.node_rows.specs.Nodes.{nodes_in}
 use Rattle.node_rows.specs.Makings.{makings_in}
-use Rattle.name_resolving.specs.declared.Refused.{Refused}
+use Rattle.name_resolving.specs.Results.{Refused}
 use Rattle.name_resolving.specs.Gives.{refused_of}
 use Rattle.node_typing.specs.Rows.{PatternTyped}
 use Rattle.node_typing.proofs.Typings.{tree_made, tree_refused}
@@ -30,7 +31,6 @@ use Rattle.parsing_machine.specs.Answers.{NodesOrFailure, nodes_are, fails_there
 use Rattle.token_parsing.specs.Standing.{NodesParsed}
 use Rattle.reading_passes.specs.Passes.{emitted_from}
 use Rattle.literal_bounds.proofs.Ready.{text_image_ready}
-use Rattle.reading_typed.specs.declared.PatternRead.TheVariants.{Image, RefusedAt}
 use Rattle.reading_typed.specs.Answers.{TablesRead, ReadsAs}
 
 -- an image within the limits is at most 34,321 bytes long
@@ -66,13 +66,13 @@ tree_of_lem text nodes e = by (outcome (parsed text)) refl e
 -- behind the pass down
 module _ {sheet names spelled nodes : List ℕ} {n expected : ℕ} {made : List ℕ} {r : Refused} (T : PatternTyped sheet names spelled nodes n expected made r) (text : List ℕ) (N : NodesParsed text spelled nodes n) where
   -- number 20
-  pub refused_typed : (at : ℕ) (before : List ℕ) → r ≡ Refused.At at →
-      ReadsAs (emitted_from sheet (type_nodes sheet names (nodes_in text spelled nodes n) (typing_of expected))) before (RefusedAt 20 at) before
+  pub refused_typed : (at : ℕ) (before : List ℕ) → r ≡ Some at →
+      ReadsAs (emitted_from sheet (type_nodes sheet names (nodes_in text spelled nodes n) (typing_of expected))) before (Err (record { number = 20; position = at })) before
   unfolding emitted_from unless_refused refused_of
   refused_typed at before is = rw (sym (T.refuses text)) (rw is (refl, refl))
 
   -- what is made of nodes that are not refused finds its parts, and its literals are in 16 bytes
-  pub image_ready : {tables : Tables} → TablesRead sheet tables names expected → r ≡ Refused.No → ImageReady sheet tables (makings_in text spelled made n)
+  pub image_ready : {tables : Tables} → TablesRead sheet tables names expected → r ≡ None → ImageReady sheet tables (makings_in text spelled made n)
   unfolding refused_of
   image_ready {tables} B is =
       let t = tree_of_lem text (nodes_in text spelled nodes n) N.same in
@@ -82,16 +82,16 @@ module _ {sheet names spelled nodes : List ℕ} {n expected : ℕ} {made : List 
       (text_image_ready text sheet names tables t.tree expected by_value t.read B.whole B.ruled free)
 
   -- the image that is made of it
-  pub image_typed : (before after : List ℕ) (long : ℕ) → r ≡ Refused.No → sheet_holds sheet ≡ true
+  pub image_typed : (before after : List ℕ) (long : ℕ) → r ≡ None → sheet_holds sheet ≡ true
       → ImageOf sheet (draft_up sheet (makings_in text spelled made n)) before long after
-      → ReadsAs (emitted_from sheet (type_nodes sheet names (nodes_in text spelled nodes n) (typing_of expected))) before (Image long) after
+      → ReadsAs (emitted_from sheet (type_nodes sheet names (nodes_in text spelled nodes n) (typing_of expected))) before (Ok long) after
   unfolding emitted_from unless_refused refused_of imaged
   image_typed before after long is holds I =
       rw (sym (T.refuses text))
-      (rw (sym (T.makes text)) (rw is (rw I.within (ap Image I.bytes, image_few sheet _ holds I.within, I.written))))
+      (rw (sym (T.makes text)) (rw is (rw I.within (ap Ok I.bytes, image_few sheet _ holds I.within, I.written))))
 
   -- or number 1
-  pub limit_typed : (before after : List ℕ) → r ≡ Refused.No → NoImageOf sheet (draft_up sheet (makings_in text spelled made n)) before after
-      → ReadsAs (emitted_from sheet (type_nodes sheet names (nodes_in text spelled nodes n) (typing_of expected))) before (RefusedAt 1 absent) after
+  pub limit_typed : (before after : List ℕ) → r ≡ None → NoImageOf sheet (draft_up sheet (makings_in text spelled made n)) before after
+      → ReadsAs (emitted_from sheet (type_nodes sheet names (nodes_in text spelled nodes n) (typing_of expected))) before (Err (record { number = 1; position = absent })) after
   unfolding emitted_from unless_refused refused_of imaged
   limit_typed before after is I = rw (sym (T.refuses text)) (rw (sym (T.makes text)) (rw is (rw I.past (refl, I.kept))))

@@ -9,17 +9,16 @@ ghost use Rattle.reading_typed.specs.Answers.{TablesRead, ReadsAs};
 
 use draft_tables::DRAFT_WORDS;
 use image::Tables;
-use image_making::{ImageMade, make_image};
+use image_making::make_image;
 use image_writing::IMAGE_BYTES;
-use name_resolving::Refused;
 use node_rows::{MAKING_WORDS, NODE_WORDS};
 use node_typing::{WAITING_WORDS, type_nodes};
 
-// The image's length, or a refusal's number and position.
+// A refusal: its number, and the position in the text, or 65535.
 #[derive(Clone, Copy)]
-pub enum PatternRead {
-    Image(usize),
-    RefusedAt(u16, u16),
+pub struct ReadRefusal {
+    pub number: u16,
+    pub position: u16,
 }
 
 // Number 20 by the pass down over the nodes, or the image by the pass up, or number 1 for a limit.
@@ -36,17 +35,23 @@ pub fn read_typed(
     makings: &mut [u16; MAKING_WORDS],
     draft: &mut [u16; DRAFT_WORDS],
     image: &mut [u8; IMAGE_BYTES],
-) -> PatternRead
+) -> Result<usize, ReadRefusal>
     requires { TablesRead sheet.now tables names.now expected × NodesParsed text.now spelled.now nodes.now n }
     ensures { ReadsAs (emitted_from sheet.now (type_nodes sheet.now names.now (nodes_in text.now spelled.now nodes.now n) (typing_of expected))) image.old result image.new }
 {
-    if let Refused::At(at) = type_nodes(
+    if let Some(at) = type_nodes(
         sheet, tables, names, spelled, nodes, n, expected, makings, waiting,
     ) {
-        return PatternRead::RefusedAt(20, at);
+        return Err(ReadRefusal {
+            number: 20,
+            position: at,
+        });
     }
     match make_image(sheet, tables, text, spelled, makings, n, draft, image) {
-        ImageMade::Image(count) => PatternRead::Image(count),
-        ImageMade::PastALimit => PatternRead::RefusedAt(1, 65535),
+        Some(count) => Ok(count),
+        None => Err(ReadRefusal {
+            number: 1,
+            position: 65535,
+        }),
     }
 }

@@ -3,7 +3,7 @@ use image_listing::list_image;
 use params_listing::list_params;
 use program_io::write_output;
 use std::io::Read;
-use stored_records::{Words, next_words};
+use stored_records::next_words;
 
 // Prints the listing of an image, or its refusal; the buffer is lent as room for the text, and one that does not fit is not printed.
 pub fn print_listing(rt: &(impl Print + Eprint), image: &[u8], out: &mut [u8]) {
@@ -26,8 +26,8 @@ pub fn replay_params(
 ) -> bool {
     let mut words = [0u16; 4096];
     match next_words(input, &mut words) {
-        Words::End => false,
-        Words::Some(k) => {
+        None => false,
+        Some(k) => {
             print_params(rt, image, &words[..k], out);
             true
         }

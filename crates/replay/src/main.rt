@@ -9,7 +9,7 @@ use listings::{print_listing, replay_params};
 use replay_fit::replay_fit;
 use replay_matches::replay_script;
 use std::io::Read;
-use stored_records::{Entry, next_entry, next_sort};
+use stored_records::{next_entry, next_sort};
 
 // A record of this sort, of which the image has been read: answers whether it could be replayed.
 fn replay_record(
@@ -47,21 +47,22 @@ fn next(
 ) -> bool {
     let sort = next_sort(input);
     match next_entry(input, buffer) {
-        Entry::End => false,
-        Entry::Image(n) => replay_record(rt, input, sort, &buffer[..n], out),
+        None => false,
+        Some(n) => replay_record(rt, input, sort, &buffer[..n], out),
     }
 }
 
-// A proved loop has to end, so it counts its turns down, from a number that no list uses up.
+// A proved loop has to end, so it counts its turns, up to a number that no list reaches.
 fn replay(
     rt: &(impl Print + Eprint),
     input: &mut impl Read,
     buffer: &mut [u8],
     out: &mut [u8; 524288],
 ) {
-    let mut turns = u64::MAX;
-    while turns > 0 && next(rt, input, buffer, out) {
-        turns -= 1;
+    for _ in 0..u64::MAX {
+        if !next(rt, input, buffer, out) {
+            return;
+        }
     }
 }
 

@@ -4,11 +4,11 @@
 ghost use Rattle.std.specs.Prelude.{◌≡◌, length};
 ghost use Rattle.body_tables.specs.Layout.{body_words};
 
-use body_calls_spec::{DropCall, MergeCall, ScopeCall, TempCall};
+use body_calls_spec::CallError;
 use body_tables::{BODY_WORDS, ENTRIES, LOCALS, SCOPES, STATEMENTS};
 use image::PatId;
-use lower_spec::merging::OptBlock;
 use mir::{BasicBlockId, Counts};
+use place::LocalId;
 use refusal_numbers::{number_of, reason_of};
 use refusals::MirLowerError;
 
@@ -35,65 +35,77 @@ fn print_block(rt: &impl Print, block: BasicBlockId) {
     print_number(rt, block.0 as u32);
 }
 
-fn print_opt_block(rt: &impl Print, block: OptBlock) {
+fn print_opt_block(rt: &impl Print, block: Option<BasicBlockId>) {
     match block {
-        OptBlock::None => {
+        None => {
             let _ = rt.write_all(b"block - ");
         }
-        OptBlock::Some(b) => print_block(rt, b),
+        Some(b) => print_block(rt, b),
     }
 }
 
 // The counts behind a call: those of its answer, or after a refusal those before.
-pub fn print_temp(rt: &impl Print, answer: TempCall, before: Counts) -> Counts {
+pub fn print_temp(
+    rt: &impl Print,
+    answer: Result<(Counts, LocalId), CallError>,
+    before: Counts,
+) -> Counts {
     match answer {
-        TempCall::Local(counts, l) => {
+        Ok((counts, l)) => {
             let _ = rt.write_all(b"local ");
             print_number(rt, l.0 as u32);
             return counts;
         }
-        TempCall::Refused(e) => print_error(rt, e, PatId(65535)),
-        TempCall::BadCall => print_refusal(rt, 2, PatId(65535), 0),
-        TempCall::BadImage => print_refusal(rt, 1, PatId(65535), 0),
+        Err(CallError::Refused(e)) => print_error(rt, e, PatId(65535)),
+        Err(CallError::BadCall) => print_refusal(rt, 2, PatId(65535), 0),
+        Err(CallError::BadImage) => print_refusal(rt, 1, PatId(65535), 0),
     }
     before
 }
 
-pub fn print_merge(rt: &impl Print, answer: MergeCall, before: Counts) -> Counts {
+pub fn print_merge(
+    rt: &impl Print,
+    answer: Result<(Counts, Option<BasicBlockId>), CallError>,
+    before: Counts,
+) -> Counts {
     match answer {
-        MergeCall::At(counts, b) => {
+        Ok((counts, b)) => {
             print_opt_block(rt, b);
             return counts;
         }
-        MergeCall::Refused(e) => print_error(rt, e, PatId(65535)),
-        MergeCall::BadCall => print_refusal(rt, 2, PatId(65535), 0),
-        MergeCall::BadImage => print_refusal(rt, 1, PatId(65535), 0),
+        Err(CallError::Refused(e)) => print_error(rt, e, PatId(65535)),
+        Err(CallError::BadCall) => print_refusal(rt, 2, PatId(65535), 0),
+        Err(CallError::BadImage) => print_refusal(rt, 1, PatId(65535), 0),
     }
     before
 }
 
-pub fn print_scope(rt: &impl Print, answer: ScopeCall, before: Counts) -> Counts {
+pub fn print_scope(rt: &impl Print, answer: Result<Counts, CallError>, before: Counts) -> Counts {
     match answer {
-        ScopeCall::Now(counts) => {
+        Ok(counts) => {
             let _ = rt.write_all(b"now ");
             return counts;
         }
-        ScopeCall::Refused(e) => print_error(rt, e, PatId(65535)),
-        ScopeCall::BadCall => print_refusal(rt, 2, PatId(65535), 0),
-        ScopeCall::BadImage => print_refusal(rt, 1, PatId(65535), 0),
+        Err(CallError::Refused(e)) => print_error(rt, e, PatId(65535)),
+        Err(CallError::BadCall) => print_refusal(rt, 2, PatId(65535), 0),
+        Err(CallError::BadImage) => print_refusal(rt, 1, PatId(65535), 0),
     }
     before
 }
 
-pub fn print_drop(rt: &impl Print, answer: DropCall, before: Counts) -> Counts {
+pub fn print_drop(
+    rt: &impl Print,
+    answer: Result<(Counts, BasicBlockId), CallError>,
+    before: Counts,
+) -> Counts {
     match answer {
-        DropCall::At(counts, b) => {
+        Ok((counts, b)) => {
             print_block(rt, b);
             return counts;
         }
-        DropCall::Refused(e) => print_error(rt, e, PatId(65535)),
-        DropCall::BadCall => print_refusal(rt, 2, PatId(65535), 0),
-        DropCall::BadImage => print_refusal(rt, 1, PatId(65535), 0),
+        Err(CallError::Refused(e)) => print_error(rt, e, PatId(65535)),
+        Err(CallError::BadCall) => print_refusal(rt, 2, PatId(65535), 0),
+        Err(CallError::BadImage) => print_refusal(rt, 1, PatId(65535), 0),
     }
     before
 }
@@ -116,10 +128,8 @@ fn plus(sum: u32, word: u16) -> u32 {
 fn checksum(table: &[u16]) -> u32 {
     let mut behind = 0u32;
     let mut sum = 0u32;
-    let mut i = table.len();
-    while i > 0 {
-        i -= 1;
-        behind = plus(behind, table[i]);
+    for word in table.iter().rev() {
+        behind = plus(behind, *word);
         sum = std::num::wrapping_add_u32(sum, behind);
     }
     sum

@@ -6,7 +6,6 @@ use body_pop_assume_dropped_call::pop_assume_dropped;
 use body_push_drop_scope_call::push_drop_scope;
 use body_tables::BODY_WORDS;
 use body_temp_call::temp;
-use lower_spec::merging::OptBlock;
 use mir::{BasicBlockId, Counts};
 use replay_answers::{print_drop, print_merge, print_scope, print_temp};
 
@@ -27,8 +26,8 @@ pub fn call_merge(
     image: &[u8],
     body: &mut [u16; BODY_WORDS],
     counts: Counts,
-    x: OptBlock,
-    y: OptBlock,
+    x: Option<BasicBlockId>,
+    y: Option<BasicBlockId>,
 ) -> Counts {
     let answer = merge_blocks(image, body, counts, x, y);
     print_merge(rt, answer, counts)

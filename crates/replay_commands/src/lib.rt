@@ -5,7 +5,6 @@ pub mod call_words; // call_words.rt: what is handed in besides the body
 pub mod words; // words.rt: the words of the tables that are set
 
 use image::word_at;
-use lower_spec::merging::OptBlock;
 use mir::BasicBlockId;
 use std::io::Read;
 
@@ -39,9 +38,9 @@ pub fn next_command(input: &mut impl Read) -> Command {
 }
 
 // A block's number; 65535 is none.
-pub fn opt_block(word: u16) -> OptBlock {
+pub fn opt_block(word: u16) -> Option<BasicBlockId> {
     if word == 65535 {
-        return OptBlock::None;
+        return None;
     }
-    OptBlock::Some(BasicBlockId(word))
+    Some(BasicBlockId(word))
 }

@@ -7,7 +7,7 @@ use image::PatId;
 use place::LocalId;
 use program_io::write_output;
 use std::io::Read;
-use stored_records::{Words, next_words};
+use stored_records::next_words;
 
 // Prints the answer to a question; fewer than three words name nothing.
 fn print_fit(rt: &(impl Print + Eprint), image: &[u8], words: &[u16]) {
@@ -28,8 +28,8 @@ fn print_fit(rt: &(impl Print + Eprint), image: &[u8], words: &[u16]) {
 pub fn replay_fit(rt: &(impl Print + Eprint), input: &mut impl Read, image: &[u8]) -> bool {
     let mut words = [0u16; 4096];
     match next_words(input, &mut words) {
-        Words::End => false,
-        Words::Some(k) => {
+        None => false,
+        Some(k) => {
             print_fit(rt, image, &words[..k]);
             true
         }

@@ -31,11 +31,9 @@ fn script(
         scopes: 0,
         entries: 0,
     };
-    let mut left = next_number(input);
-    while left > 0 {
+    for _ in 0..next_number(input) {
         let next = next_command(input);
         counts = run_command(rt, image, bindings, body, visits, counts, handed, next);
-        left -= 1;
     }
 }
 

@@ -2,7 +2,6 @@
 use super::answers::print_match;
 use body_tables::BODY_WORDS;
 use image::{BindingId, PatId};
-use lower_spec::merging::OptBlock;
 use mir::{BasicBlockId, Counts};
 use pattern_assignment_call::pattern_match_assignment;
 use pattern_entering::VISIT_WORDS;
@@ -21,7 +20,7 @@ pub fn call_match(
     handed: &[u16; 35],
     p: PatId,
     current: BasicBlockId,
-    els: OptBlock,
+    els: Option<BasicBlockId>,
 ) -> Counts {
     let place = place_of(handed);
     let answer = pattern_match(

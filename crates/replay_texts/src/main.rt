@@ -5,7 +5,7 @@ mod readings; // readings.rt: the calls of a record
 
 use readings::replay_reading;
 use std::io::Read;
-use stored_records::{Entry, next_entry, next_sort};
+use stored_records::{next_entry, next_sort};
 
 // A record of this sort, of which the sheet has been read: answers whether it could be replayed.
 fn replay_record(
@@ -21,16 +21,17 @@ fn replay_record(
 fn next(rt: &(impl Print + Eprint), input: &mut impl Read, buffer: &mut [u8]) -> bool {
     let sort = next_sort(input);
     match next_entry(input, buffer) {
-        Entry::End => false,
-        Entry::Image(n) => replay_record(rt, input, sort, &buffer[..n]),
+        None => false,
+        Some(n) => replay_record(rt, input, sort, &buffer[..n]),
     }
 }
 
-// A proved loop has to end, so it counts its turns down, from a number that no list uses up.
+// A proved loop has to end, so it counts its turns, up to a number that no list reaches.
 fn replay(rt: &(impl Print + Eprint), input: &mut impl Read, buffer: &mut [u8]) {
-    let mut turns = u64::MAX;
-    while turns > 0 && next(rt, input, buffer) {
-        turns -= 1;
+    for _ in 0..u64::MAX {
+        if !next(rt, input, buffer) {
+            return;
+        }
     }
 }
 

@@ -7,10 +7,10 @@ use node_rows::{MAKING_WORDS, NODE_WORDS};
 use node_typing::WAITING_WORDS;
 use reading_call::read_pattern;
 use reading_lines::{print_image, print_refusal};
-use reading_typed::PatternRead;
+use reading_typed::ReadRefusal;
 use spelled_names::NAME_BYTES;
 use std::io::Read;
-use stored_records::{Entry, next_bytes, next_number};
+use stored_records::{next_bytes, next_number};
 
 // A call is made, and its answer printed.
 fn print_reading(
@@ -30,8 +30,8 @@ fn print_reading(
     match read_pattern(
         text, sheet, names, expected, spelled, nodes, stack, waiting, makings, draft, image,
     ) {
-        PatternRead::Image(count) => print_image(rt, image, count),
-        PatternRead::RefusedAt(number, position) => print_refusal(rt, number, position),
+        Ok(count) => print_image(rt, image, count),
+        Err(ReadRefusal { number, position }) => print_refusal(rt, number, position),
     }
 }
 
@@ -58,10 +58,9 @@ fn replay_texts(
     let mut makings = [0u16; MAKING_WORDS];
     let mut draft = [0u16; DRAFT_WORDS];
     let mut image = [0u8; IMAGE_BYTES];
-    let mut done = 0;
-    while done < many {
+    for _ in 0..many {
         let expected = next_word(input);
-        let Entry::Image(n) = next_bytes(input, &mut text) else {
+        let Some(n) = next_bytes(input, &mut text) else {
             return false;
         };
         print_reading(
@@ -78,7 +77,6 @@ fn replay_texts(
             &mut draft,
             &mut image,
         );
-        done += 1;
     }
     true
 }
@@ -87,8 +85,8 @@ fn replay_texts(
 pub fn replay_reading(rt: &(impl Print + Eprint), input: &mut impl Read, sheet: &[u8]) -> bool {
     let mut names = [0u8; 32768];
     match next_bytes(input, &mut names) {
-        Entry::End => false,
-        Entry::Image(n) => {
+        None => false,
+        Some(n) => {
             let many = next_number(input);
             replay_texts(rt, input, sheet, &names[..n], many)
         }

@@ -1,4 +1,5 @@
 -- The steps that build a body are not refused for a limit while there is room. Assumes nothing.
+use Rattle.std.specs.Prelude.{Some, None}
 use mathlib.Core.Path.{◌≡◌, refl, sym, ◌∙◌}
 use mathlib.Core.Bool.{Bool, true, false, cond, true≢false}
 use mathlib.Core.List.{List, [], ◌∷◌, ◌++◌}
@@ -19,7 +20,7 @@ use Rattle.mir.specs.Blocks.{term_row}
 use Rattle.mir.specs.Rvalues.{live_row}
 use Rattle.state.specs.State.{State}
 use Rattle.state.specs.Steps.{new_block, set_terminator, push_statement, new_local, push_entry, within, try_block, try_statement, try_local, try_entry, next_local}
-use Rattle.lower_spec.specs.declared.merging.OptBlock.{OptBlock}
+use Rattle.lower_spec.specs.Results.{OptBlock}
 use Rattle.lower_spec.specs.Temps.{is_slice, is_held, record_unless, mark_live, push_storage_live_for_local, temp}
 use Rattle.lower_spec.specs.Recorded.{recorded}
 use Rattle.pattern_matching.specs.Walking.{else_state}
@@ -282,6 +283,6 @@ once_more F els entry = 0
 pub spend_else : {A : Type 0} {base : Origin} {T : Goal} (st : State) (m : Table → ℕ) (els : OptBlock) → Has A base T st (λ w. make (else_made true els) 0 0 0 w + m w) →
     Sure A base (λ st'. Has A base T st' m) (else_state st els)
 unfolding else_state
-spend_else {A = A} {base = base} {T = T} st m (OptBlock.Some x) h =
+spend_else {A = A} {base = base} {T = T} st m (Some x) h =
     sure_done (λ st'. Has A base T st' m) st (has_by h m (omega arith) (omega arith) (omega arith) (omega arith))
-spend_else st m OptBlock.None h = spend_block st m h
+spend_else st m None h = spend_block st m h

@@ -1,4 +1,5 @@
 -- An Or takes what is counted of it and its alternatives up to the first that cannot fail. Assumes nothing.
+use Rattle.std.specs.Prelude.{Some, None}
 use mathlib.Core.Path.{◌≡◌, refl, sym, ap, subst, ◌∙◌}
 use mathlib.Core.Bool.{Bool, true, false, cond, ◌&&◌, true≢false, false≢true}
 use mathlib.Core.List.{List, [], ◌∷◌, ◌++◌, append-nil}
@@ -11,7 +12,7 @@ use Rattle.place.specs.declared.place_ty.PlaceTy.{PlaceTy}
 use Rattle.mir.specs.declared.BasicBlockId.{BasicBlockId}
 use Rattle.mir.specs.declared.blocks.Terminator.{Terminator}
 use Rattle.state.specs.Steps.{next_block, try_block, set_terminator}
-use Rattle.lower_spec.specs.declared.merging.OptBlock.{OptBlock}
+use Rattle.lower_spec.specs.Results.{OptBlock}
 use Rattle.pattern_matching.specs.declared.MatchingMode.{MatchingMode}
 use Rattle.pattern_matching.specs.Walking.{Ctx, Out, Walk, ok, Lowering, next, out, with_state, else_state}
 use Rattle.pattern_matching.specs.Patterns.{Alternatives, behind, alternative, alternatives, alternatives_end, or_pattern}
@@ -81,8 +82,8 @@ module _ {k : ℕ} {rs : Bool → List Reached} (h : Headed k rs) (f : Bool) whe
 
 -- no else is made where nothing fails
 no_else : (els : OptBlock) → else_made false els ≡ 0
-no_else OptBlock.None = refl
-no_else (OptBlock.Some b) = refl
+no_else None = refl
+no_else (Some b) = refl
 
 -- what an alternative leaves: the room that is left, and an else only if it can fail
 abbrev Tried : Type 0 → Origin → Goal → Bool → (Table → ℕ) → OptBlock → Bool → Out → Type 0
@@ -101,7 +102,7 @@ module _ {A : Type 0} {base : Origin} {image : List ℕ} {l : Lowering} {fails :
   -- the test of an alternative
   sound_tried : (T : Goal) (c : Ctx) (current : BasicBlockId) (place : Place) (n : Table → ℕ) → At image base place ty → (A → place.len + deep ty ≤ 16) → Fares A base T F (λ w. total (tested w) (rs (fails ty)) + (n w + m w)) c els →
       Sound A base (λ r. Has A base T r.ctx.state (λ w. once_more (fails ty) r.else w + (n w + kept w)) × Settled (fails ty) r.else)
-      (l MatchingMode.Check c current OptBlock.None place)
+      (l MatchingMode.Check c current None place)
   sound_tried T c current place n at len h =
       let flag = flag_tested (pays.headed ty (k + 1)) (fails ty) in
       let a = flag block in
@@ -110,7 +111,7 @@ module _ {A : Type 0} {base : Origin} {image : List ℕ} {l : Lowering} {fails :
       let e = flag entry in
       sound_and
       (sound_as (λ r q. q.0)
-      ((pays.spends ty).goes checks (k + 1) T (fails ty) (λ w. n w + kept w) c current OptBlock.None place at len (λ t. t)
+      ((pays.spends ty).goes checks (k + 1) T (fails ty) (λ w. n w + kept w) c current None place at len (λ t. t)
       (has_by (has_checks T (rs false) h) _ (omega (arith, a)) (omega (arith, b)) (omega (arith, d)) (omega (arith, e)))))
       (pays.settles ty c current place (on_kept {c = base.ctx} {c' = c} h.kept at.on))
 
@@ -120,19 +121,19 @@ module _ {A : Type 0} {base : Origin} {image : List ℕ} {l : Lowering} {fails :
       Sound A base (λ r. Tried A base T F m els (fails ty) r × Reaches pass place (deep ty)) (alternative l (mode_of pass) c current place)
   sound_alternative T checks c current place at len h =
       let h' = has_later T _ _ (ap (λ (ls : List ℕ). ls ++ T.later) (marked_checks base.bindings (rs (fails ty)))) h in
-      sound_next (l MatchingMode.Check c current OptBlock.None place) (λ r. ok r) (sound_tried T c current place (λ w. 0) at len (has_as _ (λ w. omega arith) h')) (λ r t.
+      sound_next (l MatchingMode.Check c current None place) (λ r. ok r) (sound_tried T c current place (λ w. 0) at len (has_as _ (λ w. omega arith) h')) (λ r t.
       let q = t.1.1 in
       sound_ok (λ r. Tried A base T F m els (fails ty) r × Reaches checks place (deep ty)) r ((has_by t.0 _ (omega (arith, q)) (omega arith) (omega arith) (omega arith), t.1), tt))
   sound_alternative T binds c current place at len h =
       let h'' = has_later T _ _ (ap (λ (ls : List ℕ). ls ++ T.later) (flag_marked (pays.headed ty (k + 1)) (fails ty) base.bindings binds)) h in
-      sound_next (l MatchingMode.Check c current OptBlock.None place) again
+      sound_next (l MatchingMode.Check c current None place) again
       (sound_tried (owing (marked_in base.bindings binds (rs false)) T) c current place (λ w. total (spent binds (k + 1) w) (rs false)) at len
       (has_as _ (λ w.
       let a = once_more_lem k w (rs (fails ty)) (flag_above (pays.headed ty (k + 1)) (fails ty) (k + 1) ((pays.spends ty).above (k + 1))) in
       let b = flag_bound (pays.headed ty (k + 1)) (fails ty) w in
       omega (arith, a, b)) h'')) (λ r t.
-      sound_next (l MatchingMode.Bind r.ctx r.then OptBlock.None place) (last r)
-      ((pays.spends ty).goes binds (k + 1) T false kept r.ctx r.then OptBlock.None place at len (λ t. absurd (false≢true t))
+      sound_next (l MatchingMode.Bind r.ctx r.then None place) (last r)
+      ((pays.spends ty).goes binds (k + 1) T false kept r.ctx r.then None place at len (λ t. absurd (false≢true t))
       (let q = t.1.1 in has_by t.0 _ (omega (arith, q)) (omega arith) (omega arith) (omega arith))) (λ r' h'.
       let q' = no_else r'.else in
       sound_ok (λ r. Tried A base T F m els (fails ty) r × Reaches binds place (deep ty)) (record { ctx = r'.ctx; then = r'.then; else = r.else })
@@ -142,24 +143,24 @@ module _ {A : Type 0} {base : Origin} {image : List ℕ} {l : Lowering} {fails :
       last r r' = out r'.ctx r'.then r.else
 
       again : Out → Walk Out
-      again r = next (l MatchingMode.Bind r.ctx r.then OptBlock.None place) (last r)
+      again r = next (l MatchingMode.Bind r.ctx r.then None place) (last r)
 
 -- what alternatives leave: the room that is left, and a block where the last does not match only if all can fail
 abbrev Chosen : Type 0 → Origin → Goal → Bool → (Table → ℕ) → OptBlock → Bool → Alternatives → Type 0
-Chosen A base T F m els all a = Fares A base T F m a.ctx els × (all ≡ false → a.left ≡ OptBlock.None)
+Chosen A base T F m els all a = Fares A base T F m a.ctx els × (all ≡ false → a.left ≡ None)
 
 -- the walk ends behind an alternative that leaves no block
-sound_last : {A : Type 0} {base : Origin} {T : Goal} (F : Bool) (m : Table → ℕ) (els : OptBlock) (all : Bool) (c : Ctx) (left : OptBlock) (rest : BasicBlockId → Walk Alternatives) → left ≡ OptBlock.None →
+sound_last : {A : Type 0} {base : Origin} {T : Goal} (F : Bool) (m : Table → ℕ) (els : OptBlock) (all : Bool) (c : Ctx) (left : OptBlock) (rest : BasicBlockId → Walk Alternatives) → left ≡ None →
     Fares A base T F m c els → Sound A base (Chosen A base T F m els all) (behind left c rest)
 sound_last {A = A} {base = base} {T = T} F m els all c left rest e h =
     subst (λ (x : OptBlock). Sound A base (Chosen A base T F m els all) (behind x c rest)) (sym e)
-    (sound_ok (Chosen A base T F m els all) (record { ctx = c; left = OptBlock.None }) (h, λ q. refl))
+    (sound_ok (Chosen A base T F m els all) (record { ctx = c; left = None }) (h, λ q. refl))
 
 -- and goes on behind one that leaves one
 sound_others : {A : Type 0} {base : Origin} {Q : Alternatives → Type 0} (c : Ctx) (left : OptBlock) (rest : BasicBlockId → Walk Alternatives) → else_made true left ≡ 0 →
     ((b : BasicBlockId) → Sound A base Q (rest b)) → Sound A base Q (behind left c rest)
-sound_others c OptBlock.None rest q then = absurd (omega (arith, q))
-sound_others c (OptBlock.Some b) rest q then = then b
+sound_others c None rest q then = absurd (omega (arith, q))
+sound_others c (Some b) rest q then = then b
 
 module _ {A : Type 0} {base : Origin} {image : List ℕ} (p : ℕ) (ty : PlaceTy) (k : ℕ) (T : Goal) (F : Bool) (m : Table → ℕ) (els : OptBlock) (pass : Pass) (join : BasicBlockId) (place : Place)
     (at : At image base place ty) where
@@ -170,7 +171,7 @@ module _ {A : Type 0} {base : Origin} {image : List ℕ} (p : ℕ) (ty : PlaceTy
       Sound A base (λ a. Chosen A base T F m els (all_alternatives ty fs) a × Reaches pass place (most_of_alternatives ty fs ds)) (alternatives p ls (mode_of pass) c join current place)
   unfolding alternatives all_alternatives through_alternatives most_of_alternatives total
   sound_alternatives none_left c current len h =
-      sound_ok (λ a. Chosen A base T F m els true a × Reaches pass place 0) (record { ctx = c; left = OptBlock.Some current })
+      sound_ok (λ a. Chosen A base T F m els true a × Reaches pass place 0) (record { ctx = c; left = Some current })
       ((has_as _ (λ w. omega arith) h, λ q. absurd (true≢false q)), reach_none pass place at.short)
   sound_alternatives (one_more_lem {l = l} {fails = fails} {reach = reach} {deep = deep} {ls = ls} {fs = fs} {rs = rs} {ds = ds} pays e) c current len h =
       by (fails ty) refl (λ c current len h. sound_alternatives e c current len h)
@@ -231,19 +232,19 @@ unfolding alternatives_end
 sound_left {A = A} {base = base} {T = T} p F m els pass join all a f (h, left) = by pass all a.left f left
   where
     checked : (F : Bool) (b : BasicBlockId) → F ≡ true → Fares A base T F m a.ctx els →
-        Sound A base (Leaves A base T F m) (alternatives_end p MatchingMode.Check (record { ctx = a.ctx; left = OptBlock.Some b }) join els)
+        Sound A base (Leaves A base T F m) (alternatives_end p MatchingMode.Check (record { ctx = a.ctx; left = Some b }) join els)
     checked false b e h = absurd (false≢true e)
     checked true b e h =
         sound_step p (else_state a.ctx.state els) _
-        (spend_else a.ctx.state (λ w. once_more false OptBlock.None w + m w) els (has_by h _ (omega arith) (omega arith) (omega arith) (omega arith))) (λ st h'.
+        (spend_else a.ctx.state (λ w. once_more false None w + m w) els (has_by h _ (omega arith) (omega arith) (omega arith) (omega arith))) (λ st h'.
         sound_ok (Leaves A base T true m) _ (has_terminator st _ b _ (has_by h' _ (omega arith) (omega arith) (omega arith) (omega arith))))
 
-    by : (pass : Pass) (all : Bool) (left : OptBlock) → (in_checks pass all ≡ true → F ≡ true) → (all ≡ false → left ≡ OptBlock.None) →
+    by : (pass : Pass) (all : Bool) (left : OptBlock) → (in_checks pass all ≡ true → F ≡ true) → (all ≡ false → left ≡ None) →
         Sound A base (Leaves A base T F m) (alternatives_end p (mode_of pass) (record { ctx = a.ctx; left = left }) join els)
-    by pass all OptBlock.None f q = sound_ok (Leaves A base T F m) _ h
-    by checks true (OptBlock.Some b) f q = checked F b (f refl) h
-    by checks false (OptBlock.Some b) f q = absurd (let e = q refl in let z : ◌≡◌ {A = ℕ} 0 1 = cc in omega arith)
-    by binds all (OptBlock.Some b) f q = sound_ok (Leaves A base T F m) _ (has_terminator a.ctx.state _ b Terminator.Unreachable h)
+    by pass all None f q = sound_ok (Leaves A base T F m) _ h
+    by checks true (Some b) f q = checked F b (f refl) h
+    by checks false (Some b) f q = absurd (let e = q refl in let z : ◌≡◌ {A = ℕ} 0 1 = cc in omega arith)
+    by binds all (Some b) f q = sound_ok (Leaves A base T F m) _ (has_terminator a.ctx.state _ b Terminator.Unreachable h)
 
 -- k Ors are above what is reached through alternatives
 above_alternatives : {A : Type 0} {base : Origin} {image : List ℕ} {ls : List Lowering} {fs : List (PlaceTy → Bool)} {rs : List Reaching} {ds : List (PlaceTy → ℕ)} (ty : PlaceTy) (k : ℕ) →

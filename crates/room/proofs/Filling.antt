@@ -17,7 +17,7 @@ use Rattle.place.specs.declared.elems.ProjectionElem.{ProjectionElem}
 use Rattle.place.specs.declared.place_ty.PlaceTy.{PlaceTy}
 use Rattle.place.specs.Elems.{Fits}
 use Rattle.mir.specs.declared.BasicBlockId.{BasicBlockId}
-use Rattle.lower_spec.specs.declared.merging.OptBlock.{OptBlock}
+use Rattle.lower_spec.specs.Results.{OptBlock}
 use Rattle.pattern_matching.specs.Walking.{Ctx, Lowering, out, project, in_check}
 use Rattle.pattern_matching.specs.Tests.{pattern_match_binding}
 use Rattle.pattern_matching.specs.Variants.{pattern_match_adt}

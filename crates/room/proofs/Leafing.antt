@@ -15,7 +15,7 @@ use Rattle.place.specs.declared.Place.{Place}
 use Rattle.place.specs.declared.place_ty.PlaceTy.{PlaceTy}
 use Rattle.mir.specs.declared.BasicBlockId.{BasicBlockId}
 use Rattle.mir.specs.declared.rvalues.BinOp.{BinOp}
-use Rattle.lower_spec.specs.declared.merging.OptBlock.{OptBlock}
+use Rattle.lower_spec.specs.Results.{OptBlock}
 use Rattle.pattern_matching.specs.Walking.{Ctx}
 use Rattle.pattern_matching.specs.Tests.{lit_by, literal, constant_path, range_end?, local_path}
 use Rattle.pattern_matching.specs.Variants.{shape_of, AdtPatternShape, pattern_matching_variant, variant_pattern}

@@ -1,4 +1,5 @@
 -- Arguments take what their patterns take: in a row, with an ellipsis or none, and by fields. Assumes nothing.
+use Rattle.std.specs.Prelude.{None}
 use lib.Seq.{take-length}
 use mathlib.Core.Path.{◌≡◌, sym, ap, subst, ◌∙◌}
 use mathlib.Core.Bool.{Bool, true, false, cond, ◌||◌}
@@ -17,7 +18,7 @@ use Rattle.place.specs.declared.elems.ProjectionElem.{ProjectionElem}
 use Rattle.place.specs.declared.place_ty.PlaceTy.{PlaceTy}
 use Rattle.place.specs.PlaceTypes.{projection_ty, multi_projection_ty}
 use Rattle.mir.specs.declared.BasicBlockId.{BasicBlockId}
-use Rattle.lower_spec.specs.declared.merging.OptBlock.{OptBlock}
+use Rattle.lower_spec.specs.Results.{OptBlock}
 use Rattle.pattern_matching.specs.declared.MatchingMode.{MatchingMode}
 use Rattle.pattern_matching.specs.Walking.{Ctx, Out, Walk, refused, Lowering, next, project}
 use Rattle.pattern_matching.specs.Variants.{pattern_match_adt, fields_up_to, pattern_match_tuple_like, ellipsis_at, resolved, record_fields}
@@ -56,14 +57,14 @@ pub record Headed (k : ℕ) (rs : Bool → List Reached) : Type 0 where
 
 -- an else is there, where there was none, if there can be a mismatch
 abbrev pub Settled : Bool → OptBlock → Type 0
-Settled fails els = (fails ≡ false → els ≡ OptBlock.None) × (else_made fails els ≡ 0)
+Settled fails els = (fails ≡ false → els ≡ None) × (else_made fails els ≡ 0)
 
 -- a lowering takes what the patterns that are reached take, whatever the type of its place, and leaves an else if it can fail
 pub record Pays (A : Type 0) (base : Origin) (image : List ℕ) (l : Lowering) (fails : PlaceTy → Bool) (reach : Reaching) (deep : PlaceTy → ℕ) : Type 0 where
   pub spends : (ty : PlaceTy) → Spends A base image ty l (fails ty) (deep ty) (λ k. reach ty k false)
   pub headed : (ty : PlaceTy) (k : ℕ) → Headed k (λ f. reach ty k f)
   pub settles : (ty : PlaceTy) (c : Ctx) (current : BasicBlockId) (place : Place) → On image c place ty →
-      Holds (λ (r : Out). Settled (fails ty) r.else) (l MatchingMode.Check c current OptBlock.None place)
+      Holds (λ (r : Out). Settled (fails ty) r.else) (l MatchingMode.Check c current None place)
 
 -- each of a row of lowerings does
 pub data Each (A : Type 0) (base : Origin) (image : List ℕ) : List Lowering → List (PlaceTy → Bool) → List Reaching → List (PlaceTy → ℕ) → Type 0 where

@@ -17,7 +17,7 @@ use Rattle.place.specs.PlaceTypes.{projection_ty}
 use Rattle.refusals.specs.declared.MirLowerError.{MirLowerError}
 use Rattle.mir.specs.declared.BasicBlockId.{BasicBlockId}
 use Rattle.state.specs.State.{State}
-use Rattle.lower_spec.specs.declared.merging.OptBlock.{OptBlock}
+use Rattle.lower_spec.specs.Results.{OptBlock}
 use Rattle.pattern_matching.specs.Walking.{Ctx, Out, Walk, refused, Lowering, next, step, out, project, visited, derefed, entered, in_check}
 use Rattle.counting.specs.Reaching.{Reached, behind_derefs, testing, naming}
 use Rattle.counting.specs.Counting.{one, total, bind_statements}

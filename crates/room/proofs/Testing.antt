@@ -1,4 +1,5 @@
 -- Each test, and each binding, takes what is counted of it. Assumes nothing.
+use Rattle.std.specs.Prelude.{Some}
 use mathlib.Core.Path.{◌≡◌, refl, subst}
 use mathlib.Core.Bool.{Bool, true, false, cond, false≢true}
 use mathlib.Core.Option.{Option, none, some}
@@ -21,7 +22,7 @@ use Rattle.mir.specs.declared.rvalues.Left.{Left}
 use Rattle.state.specs.State.{State}
 use Rattle.state.specs.Steps.{try_block, try_statement}
 use Rattle.literals.specs.Literals.{integer_constant, literal_by, lower_literal_to_operand, literal_or_const_by, lower_literal_or_const_to_operand}
-use Rattle.lower_spec.specs.declared.merging.OptBlock.{OptBlock}
+use Rattle.lower_spec.specs.Results.{OptBlock}
 use Rattle.lower_spec.specs.Temps.{temp, binding_local, push_storage_live_for_local, discr_temp_place}
 use Rattle.pattern_matching.specs.Walking.{Ctx, else_state, else_block}
 use Rattle.pattern_matching.specs.Tests.{bool_word, usize_word, compare, pattern_match_const, constant_path, range_end, range_end?, pattern_match_binding}
@@ -103,7 +104,7 @@ sure_end {A = A} {base = base} image t o = by o.kind
 
 module _ {A : Type 0} {base : Origin} {T : Goal} (image : List ℕ) (p : ℕ) (m : Table → ℕ) (c : Ctx) where
   -- a test's end
-  tested_end : (F : Bool) (st : State) (els : BasicBlockId) → Has A base T st m → Has A base T st (λ w. once_more F (OptBlock.Some els) w + m w)
+  tested_end : (F : Bool) (st : State) (els : BasicBlockId) → Has A base T st m → Has A base T st (λ w. once_more F (Some els) w + m w)
   tested_end F st els h = has_by h _ (omega arith) (omega arith) (omega arith) (omega arith)
 
   -- an operator's test

@@ -1,4 +1,5 @@
 -- Every pattern takes what is counted of the patterns that are reached from it: by induction over the tree. Assumes nothing.
+use Rattle.std.specs.Prelude.{Some, None}
 use mathlib.Core.Path.{refl, ap}
 use mathlib.Core.Bool.{Bool, true, false, cond, true≢false}
 use mathlib.Core.Option.{some}
@@ -13,7 +14,7 @@ use Rattle.refusals.specs.declared.MirLowerError.{MirLowerError}
 use Rattle.place.specs.declared.Place.{Place}
 use Rattle.place.specs.declared.place_ty.PlaceTy.{PlaceTy}
 use Rattle.mir.specs.declared.BasicBlockId.{BasicBlockId}
-use Rattle.lower_spec.specs.declared.merging.OptBlock.{OptBlock}
+use Rattle.lower_spec.specs.Results.{OptBlock}
 use Rattle.pattern_matching.specs.declared.MatchingMode.{MatchingMode}
 use Rattle.pattern_matching.specs.Walking.{Ctx, Out, Lowering, entered}
 use Rattle.pattern_matching.specs.Variants.{shape_of}
@@ -61,17 +62,17 @@ headed image (Pat.Box h) ty k = record { head = testing h k false 0 0; others = 
 headed image (Pat.Deref h) ty k = record { head = testing h k false 0 0; others = _; ors = refl; is = λ f. refl }
 
 -- the else that is there behind a walk with none
-settled : (fails : Bool) (els : OptBlock) (from to : ℕ) → ElseIs fails OptBlock.None els from to → Settled fails els
-settled true OptBlock.None from to h = absurd h
-settled true (OptBlock.Some b) from to h = (λ e. absurd (true≢false e), refl)
+settled : (fails : Bool) (els : OptBlock) (from to : ℕ) → ElseIs fails None els from to → Settled fails els
+settled true None from to h = absurd h
+settled true (Some b) from to h = (λ e. absurd (true≢false e), refl)
 settled false els from to h = (λ e. h, ap (else_made false) h)
 
 -- it is one if the pattern can fail
 settles : (image bindings : List ℕ) (pat : Pat) (ty : PlaceTy) (c : Ctx) (current : BasicBlockId) (place : Place) → On image c place ty →
-    Holds (λ (r : Out). Settled (can_fail image pat ty) r.else) (pattern_match_inner image bindings pat MatchingMode.Check c current OptBlock.None place)
+    Holds (λ (r : Out). Settled (can_fail image pat ty) r.else) (pattern_match_inner image bindings pat MatchingMode.Check c current None place)
 settles image bindings pat ty c current place on =
     holds_as (λ r a. settled (can_fail image pat ty) r.else (length c.state.blocks) (length r.ctx.state.blocks) a.steps.else)
-    ((counts image bindings pat).goes checks c current OptBlock.None place ty 0 false on)
+    ((counts image bindings pat).goes checks c current None place ty 0 false on)
 
 -- a pattern that appends no more than its derefs
 spends_leaf : {A : Type 0} {base : Origin} {image : List ℕ} {ty : PlaceTy} {l : Lowering} {fails : Bool} {rs : ℕ → List Reached} (p derefs : ℕ) →

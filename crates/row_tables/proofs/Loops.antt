@@ -1,16 +1,17 @@
--- The loops that store a row and that clear a table: where each begins, a turn, and its end. Assumes nothing.
+-- A row that is stored, by a loop or whole, and a table that is cleared: the parts that are written, and the loops that look for zeros. Assumes nothing.
 use Prim.Native.Nat.{ℕ, zero, suc, ◌+◌, ◌-◌, ◌≤◌, ◌<◌}
 use mathlib.Core.Path.{◌≡◌, refl, sym, ap, ap₂, subst, ◌∙◌}
-use mathlib.Core.List.{List, ◌∷◌, append_assoc}
+use mathlib.Core.List.{List, ◌∷◌, ◌++◌, append_assoc}
 use mathlib.Core.Logic.{⊎_elim}
 use native.Mathlib.Nat.{add-zero, add-suc, suc-add, eq-or-lt_of_le}
 use native.Mathlib.Numerals.{add-one}
 use native.Mathlib.Omega.{arith}
 use lib.Bits.{bit_or, or_add_and, and_le_l, and_le_r}
-use lib.ListN.{length, get_or, set, take, drop, length-set, drop_of_length-le, replicate-append-replicate}
-use lib.Seq.{take-length, drop-cons, paste, paste-zero, paste-suc}
+use lib.ListN.{length, get_or, set, take, drop, replicate, length-set, drop_of_length-le, replicate-append-replicate}
+use lib.Seq.{take-length, drop-cons, drop-drop, get_or-take, get_or-drop, paste, paste-zero, paste-suc}
+use borrow.Rule.Slice.PartMut.{mid_of, put_mid, mid_len}
 use Rattle.row_tables.specs.Rows.{zeros, stored, cleared, AtMost, ZerosFrom}
-use Rattle.row_tables.proofs.Zeros.{length_zeros, zero_at}
+use Rattle.row_tables.proofs.Zeros.{length_zeros}
 
 -- the first i numbers of the row are stored
 pub record Storing (before : List ℕ) (at : ℕ) (row : List ℕ) (i : ℕ) (table : List ℕ) : Type 0 where
@@ -18,7 +19,7 @@ pub record Storing (before : List ℕ) (at : ℕ) (row : List ℕ) (i : ℕ) (ta
   pub within : i ≤ length row
   pub kept : length table ≡ length before
 
--- `store_row`: where the loop begins
+-- where a loop that stores a row begins
 pub store_start : {before : List ℕ} {at : ℕ} {row : List ℕ} → Storing before at row 0 before
 store_start {before} {at} {row} = record { pasted = paste-zero before at row; within = omega arith; kept = refl }
 
@@ -39,30 +40,21 @@ module _ {before : List ℕ} {at : ℕ} {row : List ℕ} {i : ℕ} {table : List
       let all : i ≡ length row = omega arith in
       s.pasted ∙ rw (all, take-length row) (append_assoc (take at before) row (drop (at + length row) before))
 
--- the numbers from `from` to i, of those up to `to`, are cleared
-pub record Clearing (before : List ℕ) (from to i : ℕ) (table : List ℕ) : Type 0 where
-  pub zeroed : Storing before from (zeros (to - from)) (i - from) table
-  pub begun : from ≤ i
+-- a row put in the place of as many numbers is stored there
+pub put_stored : (t : List ℕ) (at n : ℕ) (row : List ℕ) → n ≡ length row → put_mid at n t row ≡ stored t at row
+unfolding stored
+put_stored t at n row e = ap (λ (l : List ℕ). take at t ++ (row ++ l)) (drop-drop n at t ∙ ap (λ (k : ℕ). drop (at + k) t) e)
 
--- `clear_to`: where the loop begins
-pub clear_start : {before : List ℕ} {from to : ℕ} → Clearing before from to from before
-clear_start {before} {from} {to} =
-    let none : from - from ≡ 0 = omega arith in
-    record { zeroed = rw none store_start; begun = omega arith }
+module _ (t : List ℕ) (from to : ℕ) (within : to ≤ length t) where
+  -- a part filled with zeros
+  pub put_zeros : (part : List ℕ) → part ≡ replicate (length (mid_of from (to - from) t)) 0 → put_mid from (to - from) t part ≡ stored t from (zeros (to - from))
+  put_zeros part e =
+      let all : part ≡ zeros (to - from) = e ∙ ap (λ (n : ℕ). zeros n) (mid_len from to t within) in
+      rw all (put_stored t from (to - from) (zeros (to - from)) (sym (length_zeros (to - from))))
 
-module _ {before : List ℕ} {from to i : ℕ} {table : List ℕ} (s : Clearing before from to i table) where
-  -- a turn clears one number more
-  pub clear_more : to ≤ length before → i < to → Clearing before from to (i + 1) (set table i 0)
-  clear_more fits h =
-      let place : from + (i - from) ≡ i = omega arith in
-      let next : i - from + 1 ≡ i + 1 - from = omega arith in
-      let cell = zero_at (to - from) (i - from) (omega arith) in
-      let long = length_zeros (to - from) in
-      record { zeroed = rw (place, next, cell) at (store_more s.zeroed (omega arith) (omega arith)); begun = omega arith }
-
-  -- the loop's end
-  pub clear_end : to ≤ i → table ≡ stored before from (zeros (to - from))
-  clear_end h = store_end s.zeroed (omega (arith, length_zeros (to - from)))
+  -- a number of a part, by its place in the table
+  pub number_of : (k : ℕ) → k < length (mid_of from (to - from) t) → get_or (mid_of from (to - from) t) k 0 ≡ get_or t (from + k) 0
+  number_of k h = get_or-take (to - from) (drop from t) k 0 (rw (mid_len from to t within) at h) ∙ get_or-drop from t k 0
 
 -- `|` is no less than either side
 le_or_l : (a b : ℕ) → a ≤ bit_or a b

@@ -9,11 +9,7 @@ pub fn store_row(table: &mut [u16], at: usize, row: &[u16])
     requires { at + length row.now ≤ length table.old }
     ensures { table.new ≡ stored table.old at row.now }
 {
-    let mut i = 0;
-    while i < row.len() {
-        table[at + i] = row[i];
-        i += 1;
-    }
+    table[at..at + row.len()].copy_from_slice(row);
 }
 
 // Zeros, from the number `from` of the table up to the number `to`.
@@ -21,11 +17,7 @@ fn clear_to(table: &mut [u16], from: usize, to: usize)
     requires { (from ≤ to) × (to ≤ length table.old) }
     ensures { table.new ≡ stored table.old from (zeros (to - from)) }
 {
-    let mut i = from;
-    while i < to {
-        table[i] = 0;
-        i += 1;
-    }
+    table[from..to].fill(0);
 }
 
 // The bits of the 512 numbers from `at` on, together.
@@ -34,10 +26,8 @@ fn bits_of(table: &[u16], at: usize) -> u16
     ensures { AtMost result table.now at 512 }
 {
     let mut bits = 0u16;
-    let mut k = 0;
-    while k < 512 {
-        bits = bits | table[at + k];
-        k += 1;
+    for number in &table[at..at + 512] {
+        bits |= *number;
     }
     bits
 }
@@ -48,6 +38,7 @@ fn set_to(table: &[u16], at: usize) -> usize
     ensures { (at ≤ result) × ZerosFrom table.now result }
 {
     let mut end = table.len();
+    // A while: the end moves down by 512 numbers.
     while 512 <= end - at {
         if bits_of(table, end - 512) != 0 {
             return end;

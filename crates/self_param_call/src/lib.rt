@@ -5,7 +5,6 @@
 ghost use Rattle.std.specs.Prelude.{◌<◌, length};
 ghost use Rattle.refusals.specs.Refusals.{no_pattern};
 ghost use Rattle.image.specs.declared.kinds.BindingMode.{BindingMode};
-ghost use Rattle.lower_spec.specs.declared.merging.OptBlock.{OptBlock};
 ghost use Rattle.body_calls_spec.specs.Sizes.{Sized};
 ghost use Rattle.pattern_matching.specs.Walking.{local_place};
 ghost use Rattle.pattern_matching.specs.Tests.{pattern_match_binding};
@@ -14,7 +13,7 @@ ghost use Rattle.pattern_walk_spec.specs.Calls.{by_walk, start_ctx};
 ghost use Rattle.pattern_calls_spec.specs.Calls.{match_way, SelfGives};
 ghost use Rattle.body_tables.specs.Layout.{body_of};
 
-use body_calls_spec::Opened;
+use body_calls_spec::PatternCallError;
 use body_clearing::clear_above;
 use body_handed::self_holds;
 use body_opening::open;
@@ -22,9 +21,7 @@ use body_restoring::{block_row, put_back};
 use body_tables::BODY_WORDS;
 use image::kinds::BindingMode;
 use image::{BindingId, PatId};
-use lower_spec::merging::OptBlock;
 use mir::{BasicBlockId, Counts};
-use pattern_calls_spec::MatchCall;
 use pattern_parts::bindings::pattern_match_binding;
 use pattern_walk_spec::Lowered;
 use place::{LocalId, Place};
@@ -37,9 +34,9 @@ fn self_step(
     b: BindingId,
     current: BasicBlockId,
     l: LocalId,
-) -> MatchCall
+) -> Result<(Counts, BasicBlockId, Option<BasicBlockId>), PatternCallError>
     requires { Sized (body_of body.old) counts × (b.0 < length bindings.now) × (current.0 < counts.blocks) }
-    ensures { Gives match_way (body_of body.old) counts (by_walk (pattern_match_binding bindings.now no_pattern no_pattern b.0 BindingMode.Value (start_ctx (body_of body.old) counts) current OptBlock.None (local_place l))) result (body_of body.new) }
+    ensures { Gives match_way (body_of body.old) counts (by_walk (pattern_match_binding bindings.now no_pattern no_pattern b.0 BindingMode.Value (start_ctx (body_of body.old) counts) current None (local_place l))) result (body_of body.new) }
 {
     clear_above(body, counts);
     let row = block_row(body, current);
@@ -57,14 +54,14 @@ fn self_step(
         b,
         BindingMode::Value,
         current,
-        OptBlock::None,
+        None,
         whole,
     ) {
-        Lowered::Done(c, then, other) => MatchCall::Matched(c, then, other),
-        Lowered::Refused(e, q) => {
+        Ok((c, then, other)) => Ok((c, then, other)),
+        Err((e, q)) => {
             put_back(body, current, row);
             clear_above(body, counts);
-            MatchCall::Refused(e, q)
+            Err(PatternCallError::Refused(e, q))
         }
     }
 }
@@ -78,17 +75,12 @@ pub fn match_self_param(
     b: BindingId,
     current: BasicBlockId,
     l: LocalId,
-) -> MatchCall
+) -> Result<(Counts, BasicBlockId, Option<BasicBlockId>), PatternCallError>
     ensures { SelfGives image.now bindings.now counts b.0 current l (body_of body.old) result (body_of body.new) }
 {
-    match open(image, body, counts) {
-        Opened::BadImage => MatchCall::BadImage,
-        Opened::BadCall => MatchCall::BadCall,
-        Opened::Image(tables) => {
-            if !self_holds(tables, bindings, body, counts, b, current, l) {
-                return MatchCall::BadCall;
-            }
-            self_step(bindings, body, counts, b, current, l)
-        }
+    let tables = open(image, body, counts)?;
+    if !self_holds(tables, bindings, body, counts, b, current, l) {
+        return Err(PatternCallError::BadCall);
     }
+    self_step(bindings, body, counts, b, current, l)
 }

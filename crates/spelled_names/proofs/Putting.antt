@@ -1,10 +1,12 @@
--- Bytes put behind those in use, in one loop and in two steps. Assumes nothing.
-use Prim.Native.Nat.{ℕ, suc, ◌+◌, ◌-◌, ◌<◌, ◌≤◌}
-use mathlib.Core.Path.{◌≡◌, refl, sym, ap, subst, ◌∙◌}
-use mathlib.Core.List.{List, [], ◌∷◌, ◌++◌}
+-- Bytes put behind those in use, in one copy and in two steps. Assumes nothing.
+use Prim.Native.Nat.{ℕ, ◌+◌, ◌-◌, ◌≤◌}
+use mathlib.Core.Path.{◌≡◌, refl, sym, ap, ◌∙◌}
+use mathlib.Core.List.{List, [], ◌∷◌, ◌++◌, append_assoc}
 use native.Mathlib.Omega.{arith}
-use lib.ListN.{length, get_or, set, take, drop, length-append, length-drop, length-set}
-use lib.Seq.{length-take-le, take_at, drop_at, get_or-take, get_or-drop}
+use lib.ListN.{length, set, take, drop, length-append, length-drop}
+use lib.Seq.{length-take-le, take_at, drop_at, take-length, paste}
+use borrow.Rule.Slice.PartMut.{put_mid}
+use Rattle.std.proofs.lemmas.Slice.{put_mid-paste}
 use Rattle.row_tables.specs.Rows.{stored}
 use Rattle.row_tables.proofs.Loops.{Storing, store_start, store_more, store_end}
 use Rattle.row_tables.proofs.Tables.{before_stored}
@@ -26,31 +28,26 @@ stored_spelled t named bytes h =
       long = refl;
     }
 
+-- a whole row that is pasted is stored
+paste_stored : (t : List ℕ) (at : ℕ) (row : List ℕ) → paste t at row (length row) ≡ stored t at row
+unfolding stored
+paste_stored t at row = rw (take-length row) (append_assoc (take at t) row (drop (at + length row) t))
+
 module _ (text : List ℕ) (from to : ℕ) (h : from ≤ to) (inside : to ≤ length text) where
   length_part : length (bytes_from text from to) ≡ to - from
   unfolding bytes_from
   length_part = length-take-le (to - from) (drop from text) (omega (arith, length-drop from text))
 
-  part_at_lem : (i : ℕ) → i < to - from → get_or (bytes_from text from to) i 0 ≡ get_or text (from + i) 0
-  unfolding bytes_from
-  part_at_lem i l = get_or-take (to - from) (drop from text) i 0 l ∙ get_or-drop from text i 0
-
-  -- a byte more
-  pub copy_more :
-      (before : List ℕ) (named i : ℕ) (table : List ℕ) → named + (to - from) ≤ length before → Storing before named (bytes_from text from to) i table
-      → i < to - from → Storing before named (bytes_from text from to) (i + 1) (set table (named + i) (get_or text (from + i) 0))
-  copy_more before named i table fits s l =
-      subst (λ (v : ℕ). Storing before named (bytes_from text from to) (i + 1) (set table (named + i) v)) (part_at_lem i l)
-      (store_more s (omega (arith, length_part)) (omega (arith, length_part)))
-
-  -- the last one
-  pub copy_end :
-      (before : List ℕ) (named i : ℕ) (table : List ℕ) → named + (to - from) ≤ length before → Storing before named (bytes_from text from to) i table
-      → to - from ≤ i → Spelled before named (bytes_from text from to) (named + (to - from)) table
-  copy_end before named i table fits s l =
-      let e = store_end s (omega (arith, length_part)) in
+  -- the bytes of a text, copied into a part
+  pub part_spelled :
+      (before : List ℕ) (named : ℕ) (part : List ℕ) → named + (to - from) ≤ length before → part ≡ bytes_from text from to
+      → Spelled before named (bytes_from text from to) (named + (to - from)) (put_mid named (named + (to - from) - named) before part)
+  part_spelled before named part fits e =
+      let many : named + (to - from) - named ≡ length (bytes_from text from to) = omega (arith, length_part) in
+      let pasted = put_mid-paste named (named + (to - from) - named) before part (bytes_from text from to) (length (bytes_from text from to)) e (sym many) refl in
+      let all : put_mid named (named + (to - from) - named) before part ≡ stored before named (bytes_from text from to) = pasted ∙ paste_stored before named (bytes_from text from to) in
       let w = stored_spelled before named (bytes_from text from to) (omega arith) in
-      rw (length_part, ← e) at w
+      rw (length_part, ← all) at w
 
 -- `::`
 pub joint_spelled : (t : List ℕ) (named : ℕ) → named + 2 ≤ length t → Spelled t named (ascii "::") (named + 2) (set (set t named 58) (named + 1) 58)

@@ -13,13 +13,9 @@ fn copy_part(text: &[u8], from: usize, to: usize, names: &mut [u8], named: usize
     requires { ((from ≤ to) × (to ≤ length text.now)) × (named + (to - from) ≤ length names.old) }
     ensures { Spelled names.old named (bytes_from text.now from to) result names.new }
 {
-    let many = to - from;
-    let mut i = 0;
-    while i < many {
-        names[named + i] = text[from + i];
-        i += 1;
-    }
-    named + many
+    let end = named + (to - from);
+    names[named..end].copy_from_slice(&text[from..to]);
+    end
 }
 
 fn put_joint(names: &mut [u8], named: usize) -> usize

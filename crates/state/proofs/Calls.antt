@@ -1,4 +1,5 @@
 -- Each call of the builder answers what the step's definition gives, by what its contract says. Assumes nothing.
+use Rattle.std.specs.Prelude.{Some, None}
 use mathlib.Core.Path.{◌≡◌, refl}
 use mathlib.Core.Logic.{◌⊎◌, inl, inr, ⊎_elim}
 use mathlib.Core.Option.{Option, none, some}
@@ -14,10 +15,10 @@ use Rattle.row_tables.specs.Rows.{stored}
 use Rattle.place.specs.declared.LocalId.{LocalId}
 use Rattle.mir.specs.declared.BasicBlockId.{BasicBlockId}
 use Rattle.mir.specs.declared.Counts.{Counts}
-use Rattle.mir.specs.declared.blocks.NewBlock.{NewBlock}
+use Rattle.mir.specs.Results.{NewBlock}
 use Rattle.mir.specs.declared.blocks.Terminator.{Terminator}
-use Rattle.mir.specs.declared.locals.NewLocal.{NewLocal}
-use Rattle.mir.specs.declared.scopes.Counted.{Counted}
+use Rattle.mir.specs.Results.{NewLocal}
+use Rattle.mir.specs.Results.{Counted}
 use Rattle.mir.specs.Blocks.{term_row, new_block, block_width}
 use Rattle.mir.specs.Statements.{new_statement, statements_after, statement_width}
 use Rattle.mir.specs.Locals.{new_local, locals_after}
@@ -30,37 +31,37 @@ use Rattle.state.proofs.Stepping.{term_answers, statement_answers, statement_ful
 
 -- the answers of the builder's calls, as the definitions have them
 abbrev pub counted_result : Counted → Body → Result State
-counted_result (Counted.Now c) b = done (decode b c)
-counted_result Counted.Full b = stopped MirLowerError.Limit
+counted_result (Some c) b = done (decode b c)
+counted_result None b = stopped MirLowerError.Limit
 
 abbrev pub counted_counts : Counted → Option Counts
-counted_counts (Counted.Now c) = some c
-counted_counts Counted.Full = none
+counted_counts (Some c) = some c
+counted_counts None = none
 
 abbrev pub block_result : NewBlock → Body → Result State
-block_result (NewBlock.Block c m) b = done (decode b c)
-block_result NewBlock.Full b = stopped MirLowerError.Limit
+block_result (Some (c, m)) b = done (decode b c)
+block_result None b = stopped MirLowerError.Limit
 
 abbrev pub block_counts : NewBlock → Option Counts
-block_counts (NewBlock.Block c m) = some c
-block_counts NewBlock.Full = none
+block_counts (Some (c, m)) = some c
+block_counts None = none
 
 abbrev pub local_result : NewLocal → Body → Result State
-local_result (NewLocal.Local c n) b = done (decode b c)
-local_result NewLocal.Full b = stopped MirLowerError.Limit
+local_result (Some (c, n)) b = done (decode b c)
+local_result None b = stopped MirLowerError.Limit
 
 abbrev pub local_counts : NewLocal → Option Counts
-local_counts (NewLocal.Local c n) = some c
-local_counts NewLocal.Full = none
+local_counts (Some (c, n)) = some c
+local_counts None = none
 
 -- the number of a new block and of a new local
 abbrev pub BlockNumber : Counts → NewBlock → Type 0
-BlockNumber c (NewBlock.Block c₁ m) = ◌≡◌ {A = BasicBlockId} m (record { 0 = c.blocks })
-BlockNumber c NewBlock.Full = Unit
+BlockNumber c (Some (c₁, m)) = ◌≡◌ {A = BasicBlockId} m (record { 0 = c.blocks })
+BlockNumber c None = Unit
 
 abbrev pub LocalNumber : Counts → NewLocal → Type 0
-LocalNumber c (NewLocal.Local c₁ n) = ◌≡◌ {A = LocalId} n (record { 0 = c.locals })
-LocalNumber c NewLocal.Full = Unit
+LocalNumber c (Some (c₁, n)) = ◌≡◌ {A = LocalId} n (record { 0 = c.locals })
+LocalNumber c None = Unit
 
 -- there is room, or there is none
 room : (n limit : ℕ) → (n < limit) ⊎ (limit ≤ n)

@@ -1,3 +1,4 @@
+pub mod Results
 pub mod State
 pub mod Steps
 pub mod Promises

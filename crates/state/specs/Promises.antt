@@ -1,4 +1,5 @@
 -- What the contracts of the lowering's functions say of tables and counts. Assumes nothing: these are definitions.
+use Rattle.std.specs.Prelude.{Ok, Err}
 use Rattle.std.specs.Prelude.{ℕ, ◌*◌, ◌-◌, ◌≤◌, ◌<◌, ◌≡◌, ◌⊎◌, List, length, take, drop}
 use Rattle.std.proofs.Math.Option.{Option, none, some}
 use Rattle.row_tables.specs.Rows.{zeros, row_at, Blank}
@@ -8,7 +9,7 @@ use Rattle.mir.specs.Blocks.{block_limit, block_words, block_width}
 use Rattle.mir.specs.Statements.{statement_limit, statement_words, statement_width}
 use Rattle.mir.specs.Locals.{local_limit}
 use Rattle.mir.specs.Scopes.{scope_limit, entry_limit}
-use Rattle.state.specs.declared.Stepped.{Stepped}
+use Rattle.state.specs.Results.{Stepped}
 use Rattle.state.specs.State.{Body, State, decode}
 
 -- past its first n words a table has zeros
@@ -67,9 +68,9 @@ pub record Answers {A : Type 0} (b : Body) (c : Counts) (current : ℕ) (b' : Bo
 
 -- the answer of a step, as the definitions have it
 abbrev pub stepped_result : Stepped → Body → Result State
-stepped_result (Stepped.Now c) b = done (decode b c)
-stepped_result (Stepped.Refused e) b = stopped e
+stepped_result (Ok c) b = done (decode b c)
+stepped_result (Err e) b = stopped e
 
 abbrev pub stepped_counts : Stepped → Option Counts
-stepped_counts (Stepped.Now c) = some c
-stepped_counts (Stepped.Refused e) = none
+stepped_counts (Ok c) = some c
+stepped_counts (Err e) = none

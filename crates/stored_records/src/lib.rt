@@ -8,14 +8,6 @@ ghost use Rattle.stored_records.specs.Entries.{Fits, ReadWithin};
 use image::word_at;
 use std::io::Read;
 
-#[derive(Clone, Copy)]
-pub enum Entry {
-    // An image of so many bytes, at the start of the buffer.
-    Image(usize),
-    // The list has ended, or its next image does not fit the buffer.
-    End,
-}
-
 // The sort of the next record, or 0 where the list has ended.
 pub fn next_sort(input: &mut impl Read) -> u8 {
     let mut sort = [0u8; 1];
@@ -32,44 +24,38 @@ pub fn next_number(input: &mut impl Read) -> u32 {
     high * 65536 + low
 }
 
-// The words of a record, read or not.
-#[derive(Clone, Copy)]
-pub enum Words {
-    // So many.
-    Some(usize),
-    // The list has ended, or there are more words than fit.
-    End,
-}
-
 // The first words that the bytes hold: so many.
 fn words_of(bytes: &[u8], words: &mut [u16], count: usize)
     requires { (count ≤ length words.old) × (2 * count ≤ length bytes.now) }
 {
-    let mut i = 0;
-    while i < count {
+    for i in 0..count {
         words[i] = word_at(bytes, 2 * i);
-        i += 1;
     }
 }
 
 // So many words, where they fit.
-fn read_words(input: &mut impl Read, bytes: &mut [u8], words: &mut [u16], count: usize) -> Words
+fn read_words(
+    input: &mut impl Read,
+    bytes: &mut [u8],
+    words: &mut [u16],
+    count: usize,
+) -> Option<usize>
     requires { 2 * length words.old ≤ length bytes.old }
     ensures { ReadWithin result (length words.old) }
 {
     if words.len() < count {
-        return Words::End;
+        return None;
     }
     let end = 2 * count;
     if input.read_exact(&mut bytes[..end]).is_err() {
-        return Words::End;
+        return None;
     }
     words_of(bytes, words, count);
-    Words::Some(count)
+    Some(count)
 }
 
 // A number of four bytes, big-endian, and as many words of two bytes, big-endian.
-pub fn next_words(input: &mut impl Read, words: &mut [u16]) -> Words
+pub fn next_words(input: &mut impl Read, words: &mut [u16]) -> Option<usize>
     requires { length words.old ≤ 4096 }
     ensures { ReadWithin result (length words.old) }
 {
@@ -78,32 +64,24 @@ pub fn next_words(input: &mut impl Read, words: &mut [u16]) -> Words
     read_words(input, &mut bytes, words, count)
 }
 
-fn clear(bytes: &mut [u8]) {
-    let mut i = 0;
-    while i < bytes.len() {
-        bytes[i] = 0;
-        i += 1;
-    }
-}
-
 // An image of n bytes and z zeros.
-fn read_entry(input: &mut impl Read, buffer: &mut [u8], n: usize, z: usize) -> Entry
+fn read_entry(input: &mut impl Read, buffer: &mut [u8], n: usize, z: usize) -> Option<usize>
     requires { (n < 4294967296) × (z < 4294967296) }
     ensures { Fits result (length buffer.old) }
 {
     let end = n + z;
     if buffer.len() < end {
-        return Entry::End;
+        return None;
     }
     if input.read_exact(&mut buffer[..n]).is_err() {
-        return Entry::End;
+        return None;
     }
-    clear(&mut buffer[n..end]);
-    Entry::Image(end)
+    buffer[n..end].fill(0);
+    Some(end)
 }
 
 // The image of the record whose sort was read.
-pub fn next_entry(input: &mut impl Read, buffer: &mut [u8]) -> Entry
+pub fn next_entry(input: &mut impl Read, buffer: &mut [u8]) -> Option<usize>
     ensures { Fits result (length buffer.old) }
 {
     let n = next_number(input) as usize;
@@ -112,7 +90,7 @@ pub fn next_entry(input: &mut impl Read, buffer: &mut [u8]) -> Entry
 }
 
 // A number of four bytes, big-endian, and as many bytes.
-pub fn next_bytes(input: &mut impl Read, buffer: &mut [u8]) -> Entry
+pub fn next_bytes(input: &mut impl Read, buffer: &mut [u8]) -> Option<usize>
     ensures { Fits result (length buffer.old) }
 {
     let n = next_number(input) as usize;

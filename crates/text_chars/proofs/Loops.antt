@@ -1,20 +1,21 @@
 -- The definitions that a loop computes, one byte further: from a position on, by the byte that stands there. Assumes nothing.
+use Rattle.std.specs.Prelude.{Some, None, Ok, Err}
 use Prim.Native.Nat.{ℕ, zero, suc, ◌+◌, ◌-◌, ◌<◌, ◌≤◌}
-use mathlib.Core.Path.{◌≡◌, refl}
+use mathlib.Core.Path.{◌≡◌, refl, sym, ap₂}
 use mathlib.Core.Bool.{Bool, true, false, cond, ◌&&◌, ◌||◌}
 use mathlib.Core.List.{List, [], ◌∷◌}
 use native.Mathlib.Omega.{arith}
 use native.Mathlib.Numerals.{add-one}
+use borrow.Author.Tests.{eq-eqb, ne_eqb, eqb-true, eqb-false}
 use lib.Dec.{eqb}
 use lib.ListN.{length, get_or, take, drop, length-drop, drop_of_length-le}
 use lib.Seq.{drop-cons, take_all}
+use Rattle.std.specs.List.{list_any}
 use Rattle.image.specs.Lists.{member}
 use Rattle.text_chars.specs.Bytes.{run}
 use Rattle.text_chars.specs.Scalars.{scalar_of, is_utf8}
 use Rattle.text_chars.specs.Gaps.{closes, opens, depth_behind, unpaired, block_from, gap_of, start_from}
-use Rattle.text_chars.specs.declared.Scalar.{Scalar}
 use Rattle.text_chars.specs.declared.Gap.{Gap}
-use Rattle.text_chars.specs.declared.Start.{Start}
 
 -- one byte further
 pub on : (bytes : List ℕ) (at : ℕ) → at < length bytes → drop at bytes ≡ get_or bytes at 0 ∷ drop (at + 1) bytes
@@ -41,14 +42,19 @@ module _ (test : ℕ → Bool) (bytes : List ℕ) (at : ℕ) where
   unfolding run
   run_over h = rw (over bytes at h)
 
-module _ (x : ℕ) (table : List ℕ) (i : ℕ) where
-  pub member_on : i < length table → member x (drop i table) ≡ (eqb x (get_or table i 0) || member x (drop (i + 1) table))
-  unfolding member
-  member_on h = rw (on table i h)
+-- a test says the same of two numbers in either order
+eqb_back : (a b : ℕ) → eqb a b ≡ eqb b a
+eqb_back a b = by (eqb b a) refl
+  where
+    by : (r : Bool) → eqb b a ≡ r → eqb a b ≡ r
+    by true e = eq-eqb a b (sym (eqb-true b a e))
+    by false e = ne_eqb a b (λ (q : a ≡ b). eqb-false b a e (sym q))
 
-  pub member_over : length table ≤ i → member x (drop i table) ≡ false
-  unfolding member
-  member_over h = rw (over table i h)
+-- a number of the list is one that equals it
+pub any_member : (x : ℕ) (table : List ℕ) → list_any (λ y. eqb y x) table ≡ member x table
+unfolding member
+any_member x [] = refl
+any_member x (y ∷ ys) = ap₂ (λ (a b : Bool). a || b) (eqb_back y x) (any_member x ys)
 
 module _ (bytes : List ℕ) (at : ℕ) where
   pub utf8_short : (left rest : ℕ) → (left ≡ 0 → ⊥) → length bytes ≤ at → is_utf8 left rest (drop at bytes) ≡ false
@@ -66,7 +72,7 @@ module _ (bytes : List ℕ) (at : ℕ) where
       let er : suc rest - 1 ≡ rest = omega arith in
       rw (on bytes at h, el, er)
 
-  pub utf8_next : (left v more : ℕ) → (left ≡ 0 → ⊥) → at < length bytes → scalar_of (drop at bytes) ≡ Scalar.Of v more → is_utf8 left 0 (drop at bytes) ≡ is_utf8 (left - 1) more (drop (at + 1) bytes)
+  pub utf8_next : (left v more : ℕ) → (left ≡ 0 → ⊥) → at < length bytes → scalar_of (drop at bytes) ≡ Some (v, more) → is_utf8 left 0 (drop at bytes) ≡ is_utf8 (left - 1) more (drop (at + 1) bytes)
   unfolding is_utf8
   utf8_next zero v more n h e = absurd (n refl)
   utf8_next (suc left) v more n h e =
@@ -74,12 +80,16 @@ module _ (bytes : List ℕ) (at : ℕ) where
       let s = rw (on bytes at h) at e in
       rw (on bytes at h, s, el)
 
-  pub utf8_broken : (left : ℕ) → (left ≡ 0 → ⊥) → at < length bytes → scalar_of (drop at bytes) ≡ Scalar.Nothing → is_utf8 left 0 (drop at bytes) ≡ false
+  pub utf8_broken : (left : ℕ) → (left ≡ 0 → ⊥) → at < length bytes → scalar_of (drop at bytes) ≡ None → is_utf8 left 0 (drop at bytes) ≡ false
   unfolding is_utf8
   utf8_broken zero n h e = absurd (n refl)
   utf8_broken (suc left) n h e =
       let s = rw (on bytes at h) at e in
       rw (on bytes at h, s)
+
+  pub utf8_end : (left rest : ℕ) → left ≡ 0 → is_utf8 left rest (drop at bytes) ≡ eqb rest 0
+  unfolding is_utf8
+  utf8_end left rest e = rw e
 
   pub block_on : (depth before : ℕ) → at < length bytes → block_from at depth before (drop at bytes)
       ≡ cond (closes before (get_or bytes at 0) && eqb depth 0) (Gap.Of at) (block_from (at + 1) (depth_behind depth before (get_or bytes at 0)) (unpaired before (get_or bytes at 0)) (drop (at + 1) bytes))
@@ -90,7 +100,7 @@ module _ (bytes : List ℕ) (at : ℕ) where
   unfolding block_from
   block_over depth before h = rw (over bytes at h)
 
-  pub start_over : (rest : ℕ) → length bytes ≤ at → start_from at rest (drop at bytes) ≡ Start.At at
+  pub start_over : (rest : ℕ) → length bytes ≤ at → start_from at rest (drop at bytes) ≡ Ok at
   unfolding start_from
   start_over zero h = rw (over bytes at h)
   start_over (suc rest) h = rw (over bytes at h)
@@ -108,13 +118,13 @@ module _ (bytes : List ℕ) (at : ℕ) where
       let s = rw (on bytes at h) at e in
       rw (on bytes at h, s, add-one at)
 
-  pub start_here : at < length bytes → gap_of (drop at bytes) ≡ Gap.Nothing → start_from at 0 (drop at bytes) ≡ Start.At at
+  pub start_here : at < length bytes → gap_of (drop at bytes) ≡ Gap.Nothing → start_from at 0 (drop at bytes) ≡ Ok at
   unfolding start_from
   start_here h e =
       let s = rw (on bytes at h) at e in
       rw (on bytes at h, s)
 
-  pub start_broken : at < length bytes → gap_of (drop at bytes) ≡ Gap.Broken → start_from at 0 (drop at bytes) ≡ Start.BrokenAt at
+  pub start_broken : at < length bytes → gap_of (drop at bytes) ≡ Gap.Broken → start_from at 0 (drop at bytes) ≡ Err at
   unfolding start_from
   start_broken h e =
       let s = rw (on bytes at h) at e in

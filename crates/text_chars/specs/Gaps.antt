@@ -1,5 +1,6 @@
 -- What stands between tokens: whitespace and comments. "Non-doc comments are interpreted as a form of whitespace" (comments.normal.tokenization).
 -- Assumes nothing: these are definitions.
+use Rattle.std.specs.Prelude.{Ok, Err}
 use Rattle.std.specs.Prelude.{ℕ, zero, suc, ◌-◌, Bool, cond, not, ◌&&◌, ◌||◌, List, [], ◌∷◌, eqb, drop}
 use Prim.Native.Char.{code}
 use Rattle.image.specs.Lists.{member}
@@ -7,8 +8,7 @@ use Rattle.text_chars.specs.Bytes.{byte_of, run}
 use Rattle.text_chars.specs.Scalars.{scalar_of, on_scalar, is_utf8}
 use Rattle.text_chars.specs.declared.Gap.{Gap}
 use Rattle.text_chars.specs.declared.Gap.TheVariants.{Of, Nothing, Broken}
-use Rattle.text_chars.specs.declared.Start.{Start}
-use Rattle.text_chars.specs.declared.Start.TheVariants.{At, BrokenAt}
+use Rattle.text_chars.specs.Results.{Start}
 
 -- WHITESPACE (whitespace.syntax)
 unfoldable pub whitespace : List ℕ
@@ -89,9 +89,9 @@ on_gap (Of more) none broken passed = passed more
 
 -- where the next token begins, or the doc comment or broken comment before it: at a position, of whose bytes the first so many belong to a gap
 unfoldable pub start_from : ℕ → ℕ → List ℕ → Start
-start_from at rest [] = At at
+start_from at rest [] = Ok at
 start_from at (suc rest) (b ∷ bytes) = start_from (suc at) rest bytes
-start_from at zero (b ∷ bytes) = on_gap (gap_of (b ∷ bytes)) (At at) (BrokenAt at) (λ more. start_from (suc at) more bytes)
+start_from at zero (b ∷ bytes) = on_gap (gap_of (b ∷ bytes)) (Ok at) (Err at) (λ more. start_from (suc at) more bytes)
 
 -- where the next token begins, from a position of a text on
 abbrev pub start_of : List ℕ → ℕ → Start

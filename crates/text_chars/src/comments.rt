@@ -10,14 +10,12 @@ use crate::{Gap, byte_of};
 fn line_run(bytes: &[u8]) -> usize
     ensures { result ≡ run in_line (drop 1 bytes.now) }
 {
-    let mut at: usize = 1;
-    while at < bytes.len() {
+    for at in 1..bytes.len() {
         if bytes[at] == b'\n' {
             return at - 1;
         }
-        at += 1;
     }
-    at - 1
+    bytes.len().saturating_sub(1)
 }
 
 fn is_line_doc(bytes: &[u8]) -> bool
@@ -104,17 +102,15 @@ fn unpaired_byte(b: u8, c: u8) -> u8
 fn block_end(bytes: &[u8]) -> Gap
     ensures { result ≡ block_from 2 0 0 (drop 2 bytes.now) }
 {
-    let mut at: usize = 2;
     let mut depth: usize = 0;
     let mut before: u8 = 0;
-    while at < bytes.len() {
+    for at in 2..bytes.len() {
         let b = bytes[at];
         if is_end(depth, before, b) {
             return Gap::Of(at);
         }
         depth = depth_behind(depth, before, b);
         before = unpaired_byte(before, b);
-        at += 1;
     }
     Gap::Broken
 }

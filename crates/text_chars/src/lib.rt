@@ -10,26 +10,12 @@ ghost use Rattle.text_chars.specs.Bytes.{byte_of};
 ghost use Rattle.text_chars.specs.Scalars.{scalar_of};
 ghost use Rattle.text_chars.specs.Gaps.{is_whitespace, gap_of, start_of};
 
-// A scalar value and how many bytes it has behind its first.
-#[derive(Clone, Copy)]
-pub enum Scalar {
-    Of(u32, usize),
-    Nothing,
-}
-
 // A whitespace character or a comment, by how many bytes it has behind its first; a broken one is a doc comment, not finished or not UTF-8.
 #[derive(Clone, Copy)]
 pub enum Gap {
     Of(usize),
     Nothing,
     Broken,
-}
-
-// Where the next token begins, or a broken comment before it.
-#[derive(Clone, Copy)]
-pub enum Start {
-    At(usize),
-    BrokenAt(usize),
 }
 
 const WHITESPACE: [u64; 11] = [
@@ -46,14 +32,7 @@ pub fn byte_of(bytes: &[u8], k: usize) -> u8
 pub fn is_in(x: u64, table: &[u64]) -> bool
     ensures { result ≡ member x table.now }
 {
-    let mut i = 0;
-    while i < table.len() {
-        if x == table[i] {
-            return true;
-        }
-        i += 1;
-    }
-    false
+    table.contains(&x)
 }
 
 fn is_whitespace(v: u32) -> bool
@@ -63,7 +42,7 @@ fn is_whitespace(v: u32) -> bool
 }
 
 // The scalar value with which the bytes begin.
-pub fn scalar_of(bytes: &[u8]) -> Scalar
+pub fn scalar_of(bytes: &[u8]) -> Option<(u32, usize)>
     ensures { result ≡ scalar_of bytes.now }
 {
     let a = scalars::wide(byte_of(bytes, 0));
@@ -78,36 +57,31 @@ fn gap_of(bytes: &[u8]) -> Gap
     ensures { result ≡ gap_of bytes.now }
 {
     match scalar_of(bytes) {
-        Scalar::Of(v, more) => {
+        Some((v, more)) => {
             if is_whitespace(v) {
                 return Gap::Of(more);
             }
             comments::comment_of(bytes)
         }
-        Scalar::Nothing => Gap::Nothing,
+        None => Gap::Nothing,
     }
 }
 
 // Where the next token begins.
-pub fn start_of(text: &[u8], at: usize) -> Start
+pub fn start_of(text: &[u8], at: usize) -> Result<usize, usize>
     ensures { result ≡ start_of text.now at }
 {
-    let mut i = at;
     let mut rest: usize = 0;
-    while i < text.len() {
+    for i in at..text.len() {
         if rest != 0 {
             rest -= 1;
-            i += 1;
             continue;
         }
         match gap_of(&text[i..]) {
-            Gap::Of(more) => {
-                rest = more;
-                i += 1;
-            }
-            Gap::Nothing => return Start::At(i),
-            Gap::Broken => return Start::BrokenAt(i),
+            Gap::Of(more) => rest = more,
+            Gap::Nothing => return Ok(i),
+            Gap::Broken => return Err(i),
         }
     }
-    Start::At(i)
+    Ok(at.max(text.len()))
 }

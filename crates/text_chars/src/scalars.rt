@@ -2,7 +2,7 @@
 ghost use Rattle.std.specs.Prelude.{◌≡◌, drop};
 ghost use Rattle.text_chars.specs.Scalars.{is_tail, shortest_form, scalar_from, is_utf8};
 
-use crate::{Scalar, scalar_of};
+use crate::scalar_of;
 use scalar_values::is_scalar_value;
 
 fn is_tail(b: u32) -> bool
@@ -15,42 +15,42 @@ fn is_tail(b: u32) -> bool
 }
 
 // A scalar value that has no shorter form.
-fn shortest_form(least: u32, v: u32, more: usize) -> Scalar
+fn shortest_form(least: u32, v: u32, more: usize) -> Option<(u32, usize)>
     ensures { result ≡ shortest_form least v more }
 {
     if v < least {
-        return Scalar::Nothing;
+        return None;
     }
     if is_scalar_value(v) {
-        return Scalar::Of(v, more);
+        return Some((v, more));
     }
-    Scalar::Nothing
+    None
 }
 
 // The scalar value with which four bytes begin.
-pub fn scalar_from(a: u32, b: u32, c: u32, d: u32) -> Scalar
+pub fn scalar_from(a: u32, b: u32, c: u32, d: u32) -> Option<(u32, usize)>
     ensures { result ≡ scalar_from a b c d }
 {
     if a < 0x80 {
-        return Scalar::Of(a, 0);
+        return Some((a, 0));
     }
     if a < 0xC0 {
-        return Scalar::Nothing;
+        return None;
     }
     if !is_tail(b) {
-        return Scalar::Nothing;
+        return None;
     }
     if a < 0xE0 {
         return shortest_form(0x80, a % 32 * 64 + b % 64, 1);
     }
     if !is_tail(c) {
-        return Scalar::Nothing;
+        return None;
     }
     if a < 0xF0 {
         return shortest_form(0x800, a % 16 * 4096 + b % 64 * 64 + c % 64, 2);
     }
     if !is_tail(d) {
-        return Scalar::Nothing;
+        return None;
     }
     if a < 0xF8 {
         return shortest_form(
@@ -59,7 +59,7 @@ pub fn scalar_from(a: u32, b: u32, c: u32, d: u32) -> Scalar
             3,
         );
     }
-    Scalar::Nothing
+    None
 }
 
 pub fn wide(b: u8) -> u32
@@ -72,26 +72,18 @@ pub fn wide(b: u8) -> u32
 pub fn is_utf8(bytes: &[u8], count: usize) -> bool
     ensures { result ≡ is_utf8 count 0 (drop 1 bytes.now) }
 {
-    let mut at: usize = 1;
-    let mut left = count;
     let mut rest: usize = 0;
-    while left != 0 {
+    for at in 1..=count {
         if bytes.len() <= at {
             return false;
         }
         if rest != 0 {
             rest -= 1;
-            at += 1;
-            left -= 1;
             continue;
         }
         match scalar_of(&bytes[at..]) {
-            Scalar::Of(_, more) => {
-                rest = more;
-                at += 1;
-                left -= 1;
-            }
-            Scalar::Nothing => return false,
+            Some((_, more)) => rest = more,
+            None => return false,
         }
     }
     rest == 0

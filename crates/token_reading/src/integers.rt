@@ -20,14 +20,12 @@ fn is_in_integer(b: u8) -> bool
 fn integer_run(bytes: &[u8]) -> usize
     ensures { result ≡ run in_integer bytes.now }
 {
-    let mut at: usize = 0;
-    while at < bytes.len() {
-        if !is_in_integer(bytes[at]) {
+    for (at, b) in bytes.iter().enumerate() {
+        if !is_in_integer(*b) {
             return at;
         }
-        at += 1;
     }
-    at
+    bytes.len()
 }
 
 // By the two bytes behind them, digits are a part of a longer literal.

@@ -10,7 +10,7 @@ use char_tokens::char_piece;
 use mark_tokens::mark_piece;
 use pattern_tokens::Token;
 use pattern_words::{Kind, Piece, words};
-use text_chars::{Start, byte_of, start_of};
+use text_chars::{byte_of, start_of};
 
 // The token with which the bytes begin, at a position.
 fn piece_of(bytes: &[u8], at: usize) -> Piece
@@ -48,7 +48,7 @@ pub fn token_at(text: &[u8], at: usize) -> Token
     ensures { result ≡ token_at text.now at }
 {
     match start_of(text, at) {
-        Start::At(from) => {
+        Ok(from) => {
             if text.len() <= from {
                 return Token {
                     kind: Kind::End,
@@ -58,7 +58,7 @@ pub fn token_at(text: &[u8], at: usize) -> Token
             }
             place(from, piece_of(&text[from..], from))
         }
-        Start::BrokenAt(from) => Token {
+        Err(from) => Token {
             kind: Kind::Fails,
             from,
             to: from,

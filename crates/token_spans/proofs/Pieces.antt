@@ -1,4 +1,5 @@
 -- A token has at least as many bytes as its kind says, a name begins in it, and `::` has two. Assumes nothing.
+use Rattle.std.specs.Prelude.{Some, None}
 use Prim.Native.Nat.{ℕ, zero, suc, ◌+◌, ◌<◌, ◌≤◌}
 use mathlib.Core.Path.{◌≡◌, refl, sym}
 use mathlib.Core.Bool.{Bool, true, false, not, cond, ◌&&◌, ◌||◌, false≢true}
@@ -7,7 +8,7 @@ use native.Mathlib.Omega.{arith}
 use lib.Dec.{eqb}
 use lib.ListN.{get_or, drop}
 use Rattle.image.proofs.Bools.{and_right}
-use Rattle.text_chars.specs.declared.Scalar.{Scalar}
+use Rattle.text_chars.specs.Results.{Scalar}
 use Rattle.text_chars.specs.Bytes.{run, ascii}
 use Rattle.text_chars.specs.Scalars.{on_scalar}
 use Rattle.pattern_words.specs.declared.Kind.{Kind}
@@ -117,10 +118,10 @@ unfolding char_piece closed_char lexeme_bytes of_kind own_from exactly
 chars_spanned at bytes = by (char_of (drop 1 bytes))
   where
     by : (s : Scalar) → Spanned at (on_scalar s failing (closed_char bytes))
-    by (Scalar.Of v more) =
+    by (Some (v, more)) =
         spanned_if (eqb (get_or bytes (more + 2) 0) 39 && not (is_suffix (get_or bytes (more + 3) 0) (get_or bytes (more + 4) 0)))
         (λ _. plain 1 (λ q. refl) (λ q. refl) (λ q. refl) (omega arith)) failing_spanned
-    by Scalar.Nothing = failing_spanned
+    by None = failing_spanned
 
 -- punctuation of one byte, and another
 module _ (at : ℕ) where

@@ -1,4 +1,5 @@
 -- The token at a position of a text stands behind the position, and in the text. Assumes nothing.
+use Rattle.std.specs.Prelude.{Ok, Err}
 use Prim.Native.Nat.{ℕ, zero, suc, ◌+◌, ◌<◌, ◌≤◌}
 use mathlib.Core.Path.{◌≡◌, refl, sym, ap, ◌∙◌}
 use mathlib.Core.Bool.{Bool, true, false, cond, ◌||◌, true≢false}
@@ -7,7 +8,7 @@ use native.Mathlib.Omega.{arith}
 use lib.Dec.{eqb}
 use lib.ListN.{length, drop, length-drop}
 use Rattle.text_chars.specs.declared.Gap.{Gap}
-use Rattle.text_chars.specs.declared.Start.{Start}
+use Rattle.text_chars.specs.Results.{Start}
 use Rattle.text_chars.specs.Gaps.{gap_of, on_gap, start_from, start_of}
 use Rattle.pattern_words.specs.declared.Kind.{Kind}
 use Rattle.pattern_words.specs.declared.Piece.{Piece}
@@ -22,12 +23,12 @@ use Rattle.token_spans.proofs.Pieces.{own_from, exactly, Spanned, piece_spanned}
 
 -- between two positions
 abbrev Within : ℕ → ℕ → Start → Type 0
-Within low high (Start.At from) = (low ≤ from) × (from ≤ high)
-Within low high (Start.BrokenAt from) = (low ≤ from) × (from ≤ high)
+Within low high (Ok from) = (low ≤ from) × (from ≤ high)
+Within low high (Err from) = (low ≤ from) × (from ≤ high)
 
 within_more : {low high low' high' : ℕ} (s : Start) → low' ≤ low → high ≤ high' → Within low high s → Within low' high' s
-within_more (Start.At from) h g w = let a = w.0 in let b = w.1 in (omega arith, omega arith)
-within_more (Start.BrokenAt from) h g w = let a = w.0 in let b = w.1 in (omega arith, omega arith)
+within_more (Ok from) h g w = let a = w.0 in let b = w.1 in (omega arith, omega arith)
+within_more (Err from) h g w = let a = w.0 in let b = w.1 in (omega arith, omega arith)
 
 -- the next token begins behind the position, and not behind the text
 start_within : (bytes : List ℕ) (at rest : ℕ) → Within at (at + length bytes) (start_from at rest bytes)
@@ -39,7 +40,7 @@ start_within (b ∷ bytes) at zero = by (gap_of (b ∷ bytes)) (λ more. start_w
   where
     by :
         (g : Gap) → ((more : ℕ) → Within (suc at) (suc at + length bytes) (start_from (suc at) more bytes))
-        → Within at (at + length (b ∷ bytes)) (on_gap g (Start.At at) (Start.BrokenAt at) (λ more. start_from (suc at) more bytes))
+        → Within at (at + length (b ∷ bytes)) (on_gap g (Ok at) (Err at) (λ more. start_from (suc at) more bytes))
     by (Gap.Of more) down = within_more (start_from (suc at) more bytes) (omega arith) (omega arith) (down more)
     by Gap.Nothing down = (omega arith, omega arith)
     by Gap.Broken down = (omega arith, omega arith)
@@ -132,8 +133,8 @@ token_spans text at h = by (start_of text at) inside
         }
 
     by : (s : Start) → Within at (length text) s → Spans text at (lexeme (token_behind text s))
-    by (Start.At from) w = here from w.0 w.1 (drop from text) refl
-    by (Start.BrokenAt from) w = record { behind = w.0; lies = bare_lies (length text) from fails_mark w.1 refl refl }
+    by (Ok from) w = here from w.0 w.1 (drop from text) refl
+    by (Err from) w = record { behind = w.0; lies = bare_lies (length text) from fails_mark w.1 refl refl }
 
 -- a token behind which there are others has a byte
 pub not_last_long : (t : Lexeme) → is_last t ≡ false → 1 ≤ lexeme_bytes t

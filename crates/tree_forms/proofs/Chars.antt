@@ -1,4 +1,5 @@
 -- The chars among a text's tokens are scalar values. Assumes nothing.
+use Rattle.std.specs.Prelude.{Some, None, Ok, Err}
 use Prim.Native.Nat.{ℕ, zero, suc, ◌+◌, ◌*◌, ◌<◌}
 use Prim.Native.Char.{code}
 use mathlib.Core.Path.{◌≡◌, refl}
@@ -10,8 +11,8 @@ use lib.Dec.{eqb, leb, ltb}
 use lib.ListN.{length, take, drop}
 use Rattle.image.specs.Lists.{member}
 use Rattle.image.proofs.Bools.{and_left, and_right}
-use Rattle.text_chars.specs.declared.Scalar.{Scalar}
-use Rattle.text_chars.specs.declared.Start.{Start}
+use Rattle.text_chars.specs.Results.{Scalar}
+use Rattle.text_chars.specs.Results.{Start}
 use Rattle.text_chars.specs.Bytes.{byte_of, ascii, run}
 use Rattle.image.specs.Operands.{is_scalar_value}
 use Rattle.text_chars.specs.Scalars.{is_tail, shortest_form, scalar_from, scalar_of, on_scalar}
@@ -27,8 +28,8 @@ use Rattle.tree_forms.specs.Forms.{LexemeOk, AllOk}
 
 -- what is read is a scalar value, where it is one
 abbrev ScalarOk : Scalar → Type 0
-ScalarOk (Scalar.Of v more) = is_scalar_value v ≡ true
-ScalarOk Scalar.Nothing = Unit
+ScalarOk (Some (v, more)) = is_scalar_value v ≡ true
+ScalarOk None = Unit
 
 either : (p : Bool) (x y : Scalar) → (p ≡ true → ScalarOk x) → ScalarOk y → ScalarOk (cond p x y)
 either true x y h g = h refl
@@ -41,7 +42,7 @@ small v h = rw (lt-ltb v 0xD800 h)
 
 shortest_ok : (least v more : ℕ) → ScalarOk (shortest_form least v more)
 unfolding shortest_form
-shortest_ok least v more = either (leb least v && is_scalar_value v) (Scalar.Of v more) Scalar.Nothing (λ e. and_right (leb least v) (is_scalar_value v) e) tt
+shortest_ok least v more = either (leb least v && is_scalar_value v) (Some (v, more)) None (λ e. and_right (leb least v) (is_scalar_value v) e) tt
 
 from_ok : (a b c d : ℕ) → ScalarOk (scalar_from a b c d)
 unfolding scalar_from
@@ -60,8 +61,8 @@ of_ok bytes = from_ok _ _ _ _
 
 plain_ok_lem : (s : Scalar) → ScalarOk s → ScalarOk (plain_char s)
 unfolding plain_char
-plain_ok_lem (Scalar.Of v more) h = either (member v _) Scalar.Nothing (Scalar.Of v more) (λ _. tt) h
-plain_ok_lem Scalar.Nothing h = tt
+plain_ok_lem (Some (v, more)) h = either (member v _) None (Some (v, more)) (λ _. tt) h
+plain_ok_lem None h = tt
 
 simple_ok : (b : ℕ) → ScalarOk (simple_escape b)
 unfolding simple_escape is_scalar_value
@@ -96,7 +97,7 @@ byte_ok b c =
 
 escaped_ok : (v more : ℕ) → ScalarOk (escaped v more)
 unfolding escaped
-escaped_ok v more = either (is_scalar_value v) (Scalar.Of v more) Scalar.Nothing (λ e. e) tt
+escaped_ok v more = either (is_scalar_value v) (Some (v, more)) None (λ e. e) tt
 
 unicode_ok : (bytes : List ℕ) (read digits v : ℕ) → ScalarOk (unicode_from read digits v bytes)
 unfolding unicode_from
@@ -170,8 +171,8 @@ unfolding char_piece closed_char
 char_piece_ok bytes = by (char_of (drop 1 bytes)) (char_ok (drop 1 bytes))
   where
     by : (s : Scalar) → ScalarOk s → KindOk (on_scalar s failing (closed_char bytes)).kind
-    by (Scalar.Of v more) h = chosen (eqb (byte_of bytes (more + 2)) (code "'") && not (is_suffix (byte_of bytes (more + 3)) (byte_of bytes (more + 4)))) _ _ h tt
-    by Scalar.Nothing h = tt
+    by (Some (v, more)) h = chosen (eqb (byte_of bytes (more + 2)) (code "'") && not (is_suffix (byte_of bytes (more + 3)) (byte_of bytes (more + 4)))) _ _ h tt
+    by None h = tt
 
 -- punctuation is no char
 abbrev MarksOk : List Mark → Type 0
@@ -204,8 +205,8 @@ unfolding token_at token_behind
 token_ok text at = by (start_of text at)
   where
     by : (s : Start) → KindOk (token_behind text s).kind
-    by (Start.At from) = from_token from (drop from text)
-    by (Start.BrokenAt from) = tt
+    by (Ok from) = from_token from (drop from text)
+    by (Err from) = tt
 
 -- the token of a kind
 kind_lexeme : (k : Kind) (q : Spot) → KindOk k → LexemeOk (of_kind k q)

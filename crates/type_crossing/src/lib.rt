@@ -31,23 +31,21 @@ pub fn cross(sheet: &[u8], tables: Tables, t: u16, mode: u16) -> CrossedType
 {
     let mut ty = t;
     let mut behind = mode;
-    let mut derefs: u16 = 0;
-    while derefs < 257 {
+    for derefs in 0..257 {
         let row = type_in(sheet, tables, ty);
         if row.kind != 7 {
             return CrossedType {
-                ty: ty,
-                derefs: derefs,
+                ty,
+                derefs,
                 mode: behind,
             };
         }
         behind = behind_reference(row.copy, behind);
         ty = row.a;
-        derefs += 1;
     }
     CrossedType {
-        ty: ty,
-        derefs: derefs,
+        ty,
+        derefs: 257,
         mode: behind,
     }
 }

@@ -6,7 +6,7 @@ ghost use Rattle.image.specs.Tables.{Whole, list_count};
 ghost use Rattle.image.specs.Rules.{is_flag, in_table, types_listed, is_integer_size, adt_may_have, type_shape_holds, type_holds, variant_holds, binding_holds};
 ghost use Rattle.type_rules.specs.Runs.{Runs};
 
-use image::kinds::{AdtKind, TypeKind, adt_kind, type_kind};
+use image::kinds::{AdtKind, TypeKind};
 use image::rows::{TypeRow, binding_at, list_at, type_at, variant_at};
 use image::{BindingId, Tables};
 
@@ -68,9 +68,7 @@ pub fn type_runs(image: &[u8], tables: Tables, runs: &mut [u16])
     ensures { Runs image.now runs.new }
 {
     let types = tables.types.count;
-    let mut i = tables.list.count;
-    while 0 < i {
-        i -= 1;
+    for i in (0..tables.list.count).rev() {
         let word = list_at(image, tables, i);
         let at = i as usize;
         runs[at] = longer(word < types, runs[at + 1]);
@@ -113,7 +111,7 @@ fn type_shape_holds(
             if !in_table(row.a, row.b as usize, tables.variants.count) {
                 return false;
             }
-            adt_may_have(adt_kind(row.c), row.b)
+            adt_may_have(AdtKind::from(row.c), row.b)
         }
         TypeKind::Reference => row.a < tables.types.count,
         TypeKind::Array => {
@@ -136,7 +134,7 @@ pub fn type_holds(image: &[u8], tables: Tables, runs: &[u16], t: u16) -> bool
     if !is_flag(row.copy) {
         return false;
     }
-    type_shape_holds(image, tables, runs, row, type_kind(row.kind))
+    type_shape_holds(image, tables, runs, row, TypeKind::from(row.kind))
 }
 
 // The variant v.

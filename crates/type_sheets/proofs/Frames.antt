@@ -1,4 +1,5 @@
 -- The ways through the test of a sheet's frame. Assumes nothing.
+use Rattle.std.specs.Prelude.{Some, None}
 use Prim.Native.Nat.{ℕ, ◌+◌, ◌*◌, ◌-◌, ◌≤◌, ◌<◌}
 use mathlib.Core.Path.{◌≡◌, refl}
 use mathlib.Core.Bool.{Bool, true, false, cond, ◌&&◌}
@@ -14,7 +15,6 @@ use Rattle.image.specs.Lists.{all_true}
 use Rattle.image.specs.Rules.{counts_what_follows, version_is_one, tables_fill_the_rest}
 use Rattle.image.proofs.Bools.{and_left, and_right, and_false_right, all_true_at, one_false}
 use Rattle.read_image.specs.Parts.{Begun}
-use Rattle.type_sheets.specs.declared.Sheet.{Sheet}
 use Rattle.type_sheets.specs.Sheets.{within_sheet_limits}
 use Rattle.type_sheets.specs.Reading.{sheet_limits, sheet_framed, sheet_frame_of}
 
@@ -23,39 +23,39 @@ abbrev pub frame_rules : List ℕ → List Bool
 frame_rules sheet = counts_what_follows sheet ∷ version_is_one sheet ∷ tables_fill_the_rest sheet ∷ within_sheet_limits sheet ∷ []
 
 module _ (sheet : List ℕ) where
-  refused : sheet_framed sheet ≡ false → Sheet.Refused ≡ sheet_frame_of sheet
+  refused : sheet_framed sheet ≡ false → None ≡ sheet_frame_of sheet
   unfolding sheet_frame_of
   refused e = rw e
 
-  unfilled : (length sheet ≡ tables_end sheet → ⊥) → Sheet.Refused ≡ sheet_frame_of sheet
+  unfilled : (length sheet ≡ tables_end sheet → ⊥) → None ≡ sheet_frame_of sheet
   unfolding sheet_framed tables_fill_the_rest
   unfilled ne = refused (one_false (frame_rules sheet) 2 (ne_eqb _ _ ne))
 
-  pub short : length sheet < 17 → Sheet.Refused ≡ sheet_frame_of sheet
+  pub short : length sheet < 17 → None ≡ sheet_frame_of sheet
   short h = unfilled (λ e. omega arith)
 
-  pub miscounted : (length sheet ≡ 4 + (word_at sheet 0 * 65536 + word_at sheet 2) → ⊥) → Sheet.Refused ≡ sheet_frame_of sheet
+  pub miscounted : (length sheet ≡ 4 + (word_at sheet 0 * 65536 + word_at sheet 2) → ⊥) → None ≡ sheet_frame_of sheet
   unfolding sheet_framed counts_what_follows
   miscounted ne = refused (one_false (frame_rules sheet) 0 (and_false_right (leb 4 (length sheet)) (eqb (length sheet) (4 + long_at sheet 0)) (ne_eqb _ _ ne)))
 
-  pub other_version : (byte_at sheet 4 ≡ 1 → ⊥) → Sheet.Refused ≡ sheet_frame_of sheet
+  pub other_version : (byte_at sheet 4 ≡ 1 → ⊥) → None ≡ sheet_frame_of sheet
   unfolding sheet_framed version_is_one
   other_version ne = refused (one_false (frame_rules sheet) 1 (ne_eqb _ _ ne))
 
-  pub cut : length sheet < data_at sheet → Sheet.Refused ≡ sheet_frame_of sheet
+  pub cut : length sheet < data_at sheet → None ≡ sheet_frame_of sheet
   cut h = unfilled (λ e. omega arith)
 
-  pub loose : data_at sheet ≤ length sheet → (length sheet - data_at sheet ≡ data_count sheet → ⊥) → Sheet.Refused ≡ sheet_frame_of sheet
+  pub loose : data_at sheet ≤ length sheet → (length sheet - data_at sheet ≡ data_count sheet → ⊥) → None ≡ sheet_frame_of sheet
   loose h ne = unfilled (λ e. ne (omega arith))
 
   abbrev counts_hold : Bool
   counts_hold = sheet_limits (type_count sheet) (variant_count sheet) (pattern_count sheet) (binding_count sheet) (list_count sheet) (data_count sheet)
 
-  pub over_a_limit : counts_hold ≡ false → Sheet.Refused ≡ sheet_frame_of sheet
+  pub over_a_limit : counts_hold ≡ false → None ≡ sheet_frame_of sheet
   unfolding sheet_framed within_sheet_limits
   over_a_limit e = refused (one_false (frame_rules sheet) 3 e)
 
-  pub whole_frame : Begun sheet → data_at sheet ≤ length sheet → length sheet - data_at sheet ≡ data_count sheet → counts_hold ≡ true → Sheet.Tables (tables_of sheet) ≡ sheet_frame_of sheet
+  pub whole_frame : Begun sheet → data_at sheet ≤ length sheet → length sheet - data_at sheet ≡ data_count sheet → counts_hold ≡ true → Some (tables_of sheet) ≡ sheet_frame_of sheet
   unfolding sheet_frame_of sheet_framed within_sheet_limits tables_fill_the_rest all_true
   whole_frame B h e l = rw (B.counted, B.version, eq-eqb (length sheet) (tables_end sheet) (omega arith), l)
 
@@ -111,11 +111,11 @@ module _ (sheet : List ℕ) where
         leb-true _ _ (and_right (t && v && p && b) l first5),
       )
 
-  pub known : (tables : Tables) → Sheet.Tables tables ≡ sheet_frame_of sheet → Framed tables
+  pub known : (tables : Tables) → Some tables ≡ sheet_frame_of sheet → Framed tables
   unfolding sheet_frame_of
   known tables e = go (sheet_framed sheet) refl e
     where
-      go : (b : Bool) → sheet_framed sheet ≡ b → Sheet.Tables tables ≡ cond b (Sheet.Tables (tables_of sheet)) Sheet.Refused → Framed tables
+      go : (b : Bool) → sheet_framed sheet ≡ b → Some tables ≡ cond b (Some (tables_of sheet)) None → Framed tables
       go true f q =
           let same : tables ≡ tables_of sheet = cc in
           record {
@@ -129,10 +129,10 @@ module _ (sheet : List ℕ) where
           }
       go false f q = absurd (let z : ◌≡◌ {A = ℕ} 0 1 = cc in omega arith)
 
-  pub unknown : Sheet.Refused ≡ sheet_frame_of sheet → sheet_framed sheet ≡ false
+  pub unknown : None ≡ sheet_frame_of sheet → sheet_framed sheet ≡ false
   unfolding sheet_frame_of
   unknown e = go (sheet_framed sheet) e
     where
-      go : (b : Bool) → Sheet.Refused ≡ cond b (Sheet.Tables (tables_of sheet)) Sheet.Refused → b ≡ false
+      go : (b : Bool) → None ≡ cond b (Some (tables_of sheet)) None → b ≡ false
       go true q = absurd (let z : ◌≡◌ {A = ℕ} 0 1 = cc in omega arith)
       go false q = refl

@@ -1,4 +1,5 @@
 -- What is known of the tables and the rows of a sheet that keeps its rules. Assumes nothing.
+use Rattle.std.specs.Prelude.{Some, None}
 use Prim.Native.Nat.{ℕ, zero, suc, ◌+◌, ◌≤◌, ◌<◌}
 use mathlib.Core.Path.{◌≡◌, refl}
 use mathlib.Core.Bool.{Bool, true, false, cond, not}
@@ -14,7 +15,6 @@ use Rattle.image.specs.Lists.{all_in, all_true}
 use Rattle.image.specs.Rules.{in_table, names_type, listed, types_listed, adt_may_have, type_shape_holds, type_holds, variant_holds}
 use Rattle.image.proofs.Bools.{and_left, and_right, all_true_at, below_at}
 use Rattle.image.proofs.Known.{type_shape}
-use Rattle.type_sheets.specs.declared.Sheet.{Sheet}
 use Rattle.type_sheets.specs.Sheets.{sheet_rules, sheet_holds}
 use Rattle.type_sheets.specs.Reading.{sheet_of, sheet_framed}
 use Rattle.type_sheets.proofs.Frames.{whole_of, fills, within}
@@ -25,21 +25,21 @@ module _ (sheet : List ℕ) where
   frame_known v = rw (all_true_at (sheet_rules sheet) 0 v, all_true_at (sheet_rules sheet) 1 v, all_true_at (sheet_rules sheet) 2 v, all_true_at (sheet_rules sheet) 10 v)
 
   -- the places that reading a sheet answers
-  pub sheet_read : (tables : Tables) → Sheet.Tables tables ≡ sheet_of sheet → (sheet_holds sheet ≡ true) × Whole sheet tables
+  pub sheet_read : (tables : Tables) → Some tables ≡ sheet_of sheet → (sheet_holds sheet ≡ true) × Whole sheet tables
   unfolding sheet_of
   sheet_read tables e = go (sheet_holds sheet) refl e
     where
-      go : (b : Bool) → sheet_holds sheet ≡ b → Sheet.Tables tables ≡ cond b (Sheet.Tables (tables_of sheet)) Sheet.Refused → (sheet_holds sheet ≡ true) × Whole sheet tables
+      go : (b : Bool) → sheet_holds sheet ≡ b → Some tables ≡ cond b (Some (tables_of sheet)) None → (sheet_holds sheet ≡ true) × Whole sheet tables
       go true f q =
           let same : tables ≡ tables_of sheet = cc in
           (f, rw same (whole_of sheet (fills sheet (frame_known f))))
       go false f q = absurd (let z : ◌≡◌ {A = ℕ} 0 1 = cc in omega arith)
 
-  pub sheet_refused : Sheet.Refused ≡ sheet_of sheet → sheet_holds sheet ≡ false
+  pub sheet_refused : None ≡ sheet_of sheet → sheet_holds sheet ≡ false
   unfolding sheet_of
   sheet_refused e = go (sheet_holds sheet) e
     where
-      go : (b : Bool) → Sheet.Refused ≡ cond b (Sheet.Tables (tables_of sheet)) Sheet.Refused → b ≡ false
+      go : (b : Bool) → None ≡ cond b (Some (tables_of sheet)) None → b ≡ false
       go true q = absurd (let z : ◌≡◌ {A = ℕ} 0 1 = cc in omega arith)
       go false q = refl
 

@@ -1,4 +1,5 @@
 -- The ways through `read_sheet`, over the parts of the test. Assumes nothing.
+use Rattle.std.specs.Prelude.{Some, None}
 use Prim.Native.Nat.{ℕ}
 use mathlib.Core.Path.{◌≡◌, refl, sym, ap, ◌∙◌}
 use mathlib.Core.Bool.{Bool, true, false, ◌&&◌, true≢false}
@@ -10,7 +11,6 @@ use Rattle.image.specs.Rules.{type_holds, variant_holds, binding_holds, adts_sha
 use Rattle.image.specs.Patterns.{pattern_holds, subpatterns_below, used_once}
 use Rattle.image.proofs.Bools.{and_left, and_right, and_true, all_true_at}
 use Rattle.image_tables.specs.Parts.{rows_hold}
-use Rattle.type_sheets.specs.declared.Sheet.{Sheet}
 use Rattle.type_sheets.specs.Sheets.{sheet_rules, sheet_holds}
 use Rattle.type_sheets.specs.Reading.{sheet_of, sheet_framed}
 use Rattle.type_sheets.proofs.Frames.{frame_rules}
@@ -32,7 +32,7 @@ module _ (sheet : List ℕ) where
   uses = all_below (subpatterns_below sheet) (pattern_count sheet) && used_once sheet
 
   -- a part of the test that fails, and that holds of every sheet that keeps its rules
-  fails : (part : Bool) → (sheet_holds sheet ≡ true → part ≡ true) → part ≡ false → Sheet.Refused ≡ sheet_of sheet
+  fails : (part : Bool) → (sheet_holds sheet ≡ true → part ≡ true) → part ≡ false → None ≡ sheet_of sheet
   unfolding sheet_of
   fails part follows e = rw (go (sheet_holds sheet) refl)
     where
@@ -40,19 +40,19 @@ module _ (sheet : List ℕ) where
       go true q = absurd (true≢false (sym (follows q) ∙ e))
       go false q = refl
 
-  pub no_frame : sheet_framed sheet ≡ false → Sheet.Refused ≡ sheet_of sheet
+  pub no_frame : sheet_framed sheet ≡ false → None ≡ sheet_of sheet
   unfolding sheet_holds sheet_framed all_true
   no_frame e = fails (sheet_framed sheet) (λ v. rw (all_true_at (sheet_rules sheet) 0 v, all_true_at (sheet_rules sheet) 1 v, all_true_at (sheet_rules sheet) 2 v, all_true_at (sheet_rules sheet) 10 v)) e
 
-  pub no_rows : rows_hold sheet ≡ false → Sheet.Refused ≡ sheet_of sheet
+  pub no_rows : rows_hold sheet ≡ false → None ≡ sheet_of sheet
   unfolding sheet_holds rows_hold all_true
   no_rows e = fails (rows_hold sheet) (λ v. rw (all_true_at (sheet_rules sheet) 3 v, all_true_at (sheet_rules sheet) 4 v, all_true_at (sheet_rules sheet) 7 v)) e
 
-  pub shared_variant : adts_share_no_variant sheet ≡ false → Sheet.Refused ≡ sheet_of sheet
+  pub shared_variant : adts_share_no_variant sheet ≡ false → None ≡ sheet_of sheet
   unfolding sheet_holds
   shared_variant e = fails (adts_share_no_variant sheet) (λ v. all_true_at (sheet_rules sheet) 5 v) e
 
-  pub no_patterns : shapes && uses ≡ false → Sheet.Refused ≡ sheet_of sheet
+  pub no_patterns : shapes && uses ≡ false → None ≡ sheet_of sheet
   unfolding sheet_holds
   no_patterns e = fails (shapes && uses) (λ v. and_true shapes uses (all_true_at (sheet_rules sheet) 6 v) (and_true (all_below (subpatterns_below sheet) (pattern_count sheet)) (used_once sheet) (all_true_at (sheet_rules sheet) 8 v) (all_true_at (sheet_rules sheet) 9 v))) e
 
@@ -78,6 +78,6 @@ module _ (sheet : List ℕ) where
         and_right (all_below (subpatterns_below sheet) (pattern_count sheet)) (used_once sheet) (and_right shapes uses p),
       )
 
-  pub read : (tables : Tables) → tables ≡ tables_of sheet → sheet_framed sheet ≡ true → rows_hold sheet ≡ true → adts_share_no_variant sheet ≡ true → shapes && uses ≡ true → Sheet.Tables tables ≡ sheet_of sheet
+  pub read : (tables : Tables) → tables ≡ tables_of sheet → sheet_framed sheet ≡ true → rows_hold sheet ≡ true → adts_share_no_variant sheet ≡ true → shapes && uses ≡ true → Some tables ≡ sheet_of sheet
   unfolding sheet_of
-  read tables same f r a p = let v = all_rules f r a p in ap Sheet.Tables same ∙ rw v
+  read tables same f r a p = let v = all_rules f r a p in ap Some same ∙ rw v

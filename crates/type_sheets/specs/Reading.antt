@@ -1,14 +1,15 @@
 -- What reading a sheet answers, and the first part of the test. Assumes nothing: these are definitions.
+use Rattle.std.specs.Prelude.{Some, None}
 use Rattle.std.specs.Prelude.{ℕ, Bool, cond, ◌&&◌, List, [], ◌∷◌, leb}
 use Rattle.image.specs.Tables.{tables_of}
 use Rattle.image.specs.Lists.{all_true}
 use Rattle.image.specs.Rules.{counts_what_follows, version_is_one, tables_fill_the_rest}
-use Rattle.type_sheets.specs.declared.Sheet.{Sheet}
+use Rattle.type_sheets.specs.Results.{Sheet}
 use Rattle.type_sheets.specs.Sheets.{within_sheet_limits, sheet_holds}
 
 -- a sheet that keeps its rules is read as the places of its tables, and any other is refused
 unfoldable pub sheet_of : List ℕ → Sheet
-sheet_of sheet = cond (sheet_holds sheet) (Sheet.Tables (tables_of sheet)) Sheet.Refused
+sheet_of sheet = cond (sheet_holds sheet) (Some (tables_of sheet)) None
 
 -- the six counts are within their limits
 abbrev pub sheet_limits : ℕ → ℕ → ℕ → ℕ → ℕ → ℕ → Bool
@@ -20,4 +21,4 @@ sheet_framed sheet = all_true (counts_what_follows sheet ∷ version_is_one shee
 
 -- the tables' places, where the frame holds
 unfoldable pub sheet_frame_of : List ℕ → Sheet
-sheet_frame_of sheet = cond (sheet_framed sheet) (Sheet.Tables (tables_of sheet)) Sheet.Refused
+sheet_frame_of sheet = cond (sheet_framed sheet) (Some (tables_of sheet)) None

@@ -3,8 +3,7 @@ ghost use Rattle.std.specs.Prelude.{◌≡◌};
 ghost use Rattle.read_image.specs.Parts.{Begun};
 ghost use Rattle.type_sheets.specs.Reading.{sheet_limits, sheet_frame_of};
 
-use super::Sheet;
-use image::{tables_of, word_at};
+use image::{Tables, tables_of, word_at};
 
 fn within_sheet_limits(
     types: u16,
@@ -35,35 +34,35 @@ fn within_sheet_limits(
 }
 
 // The places of the tables, where the frame is whole and the tables fill the rest of it.
-pub fn read_sheet_frame(sheet: &[u8]) -> Sheet
+pub fn read_sheet_frame(sheet: &[u8]) -> Option<Tables>
     ensures { result ≡ sheet_frame_of sheet.now }
 {
     if sheet.len() < 17 {
-        return Sheet::Refused;
+        return None;
     }
     let high = word_at(sheet, 0) as usize;
     let low = word_at(sheet, 2) as usize;
     if sheet.len() != 4 + (high * 65536 + low) {
-        return Sheet::Refused;
+        return None;
     }
     if sheet[4] != 1 {
-        return Sheet::Refused;
+        return None;
     }
     read_sheet_tables(sheet)
 }
 
 // The tables, behind the version.
-fn read_sheet_tables(sheet: &[u8]) -> Sheet
+fn read_sheet_tables(sheet: &[u8]) -> Option<Tables>
     requires { Begun sheet.now }
     ensures { result ≡ sheet_frame_of sheet.now }
 {
     let tables = tables_of(sheet);
     let end = tables.bytes.at as usize;
     if sheet.len() < end {
-        return Sheet::Refused;
+        return None;
     }
     if sheet.len() - end != (tables.bytes.count as usize) {
-        return Sheet::Refused;
+        return None;
     }
     if !within_sheet_limits(
         tables.types.count,
@@ -73,7 +72,7 @@ fn read_sheet_tables(sheet: &[u8]) -> Sheet
         tables.list.count,
         tables.bytes.count,
     ) {
-        return Sheet::Refused;
+        return None;
     }
-    Sheet::Tables(tables)
+    Some(tables)
 }

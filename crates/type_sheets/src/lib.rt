@@ -13,28 +13,19 @@ use image_marks::adts_apart;
 use image_tables::patterns::patterns_hold;
 use image_tables::tables_hold::rows_hold;
 
-// The places of the tables; or the sheet breaks a rule.
-#[derive(Clone, Copy)]
-pub enum Sheet {
-    Tables(Tables),
-    Refused,
-}
-
 // The places of a sheet's tables, for every byte string: or it breaks a rule, and is refused.
-pub fn read_sheet(sheet: &[u8]) -> Sheet
+pub fn read_sheet(sheet: &[u8]) -> Option<Tables>
     ensures { result ≡ sheet_of sheet.now }
 {
-    let Sheet::Tables(tables) = read_sheet_frame(sheet) else {
-        return Sheet::Refused;
-    };
+    let tables = read_sheet_frame(sheet)?;
     if !rows_hold(sheet, tables) {
-        return Sheet::Refused;
+        return None;
     }
     if !adts_apart(sheet, tables) {
-        return Sheet::Refused;
+        return None;
     }
     if !patterns_hold(sheet, tables) {
-        return Sheet::Refused;
+        return None;
     }
-    Sheet::Tables(tables)
+    Some(tables)
 }

@@ -12,6 +12,3 @@ pub loop-i-preserved : goal.loop-i-preserved
 unfolding filled
 loop-i-preserved c =
     (rw add-one (ap₂ (λ (xs : List Block) (r : Block). set xs c.loop-i.i r) c.loop-i.invariant.0 c.block_at.ensures), omega arith)
-
-pub returns : goal.returns
-returns c = let e : c.loop-i.i ≡ c.args.count = omega arith in rw e at (c.loop-i.invariant.0)

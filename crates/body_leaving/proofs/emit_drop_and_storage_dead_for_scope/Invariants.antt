@@ -7,6 +7,3 @@ use Rattle.body_leaving.proofs.emit_drop_and_storage_dead_for_scope.Given as goa
 
 abbrev pub invariant-loop-i : goal.invariant-loop-i
 invariant-loop-i l = Departed l.image l.start l.end (body_of l.initial.body) l.initial.c l.initial.at (body_of l.body) l.c l.at l.i
-
-abbrev pub decreases-loop-i : goal.decreases-loop-i
-decreases-loop-i l = l.i - l.start

@@ -1,3 +1,4 @@
+use Rattle.std.specs.Prelude.{Ok, Err}
 use borrow.Author.Rules.{rules}
 use native.Mathlib.Omega.{arith}
 use Rattle.drop_scopes_spec.specs.Dropping.{pop_and_drop}
@@ -24,14 +25,14 @@ pop_and_drop-requires c =
 pub put_back-requires : goal.put_back-requires
 put_back-requires c = (search rules, omega (arith, c.requires.whole.2, c.requires.whole.1.block_count_lem))
 
-pub clear_above-requires-in-Refused : goal.clear_above-requires-in-Refused
-clear_above-requires-in-Refused c = few_counts _ _ c.requires.whole.1
+pub clear_above-requires-in-Err : goal.clear_above-requires-in-Err
+clear_above-requires-in-Err c = few_counts _ _ c.requires.whole.1
 
-pub returns-in-At : goal.returns-in-At
-returns-in-At c = dropped (λ st. pop_and_drop _ st _) (clears c.requires.whole.1 c.clear_above.ensures) (rw c.in-At.is at c.pop_and_drop.ensures)
+pub returns-in-Ok : goal.returns-in-Ok
+returns-in-Ok c = dropped (λ st. pop_and_drop _ st _) (clears c.requires.whole.1 c.clear_above.ensures) (rw c.in-Ok.is at c.pop_and_drop.ensures)
 
-pub returns-in-Refused : goal.returns-in-Refused
-returns-in-Refused c =
+pub returns-in-Err : goal.returns-in-Err
+returns-in-Err c =
     let start = c in
     let S = c.requires.whole.1 in
-    not_dropped (λ st. pop_and_drop _ st _) (clears S c.clear_above.ensures) S (rw c.in-Refused.is at c.pop_and_drop.ensures) c.requires.whole.2 c.block_row-row.ensures c.put_back.ensures c.clear_above-in-Refused.ensures (lengths_of _ (search rules)).blocks
+    not_dropped (λ st. pop_and_drop _ st _) (clears S c.clear_above.ensures) S (rw c.in-Err.is at c.pop_and_drop.ensures) c.requires.whole.2 c.block_row-row.ensures c.put_back.ensures c.clear_above-in-Err.ensures (lengths_of _ (search rules)).blocks

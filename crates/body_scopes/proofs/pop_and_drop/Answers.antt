@@ -1,3 +1,5 @@
+use Rattle.refusals.proofs.Passing.{passed}
+use Rattle.std.specs.Prelude.{Ok, Err}
 use borrow.Author.Rules.{rules}
 use Prim.Native.Nat.{◌-◌}
 use native.Mathlib.Omega.{arith}
@@ -19,17 +21,16 @@ pub pop_scope-requires : goal.pop_scope-requires
 pop_scope-requires c =
     let first = c in
     let emitted = c.emit_drop_and_storage_dead_for_scope.ensures in
-    let L = rw c.in-At.is at emitted.left in
+    let L = rw c.in_ok-c1.was at emitted.left in
     (omega (arith, L.4, c.if-counts-eq0.false), omega (arith, L.4, c.requires.whole.2), omega (arith, L.5, c.requires.whole.3), λ i h. omega (arith, scope_same emitted.beside i, c.requires.entries_named.1 i (omega (arith, L.4)), L.5))
 
-pub returns-in-Refused : goal.returns-in-Refused
-returns-in-Refused c =
-    let first = c in
+pub returns-in_err-c1 : goal.returns-in_err-c1
+returns-in_err-c1 c = rw (passed _ _ c.from_residual.ensures.1) (let first = c in
     let named = c.requires.entries_named.1 (c.args.counts.scopes - 1) (omega (arith, c.if-counts-eq0.false)) in
-    pop_refused _ _ _ _ _ (omega (arith, c.if-counts-eq0.false)) c.scope_word-start.ensures (omega (arith, named, c.scope_word-start.ensures)) (rw c.in-Refused.is at c.emit_drop_and_storage_dead_for_scope.ensures)
+    pop_refused _ _ _ _ _ (omega (arith, c.if-counts-eq0.false)) c.scope_word-start.ensures (omega (arith, named, c.scope_word-start.ensures)) (rw c.in_err-c1.was at c.emit_drop_and_storage_dead_for_scope.ensures))
 
-pub returns-in-At : goal.returns-in-At
-returns-in-At c =
+pub returns : goal.returns
+returns c =
     let first = c in
     let named = c.requires.entries_named.1 (c.args.counts.scopes - 1) (omega (arith, c.if-counts-eq0.false)) in
-    pop_drops _ _ _ _ _ (omega (arith, c.if-counts-eq0.false)) c.scope_word-start.ensures (omega (arith, named, c.scope_word-start.ensures)) (rw c.in-At.is at c.emit_drop_and_storage_dead_for_scope.ensures) c.pop_scope.ensures
+    pop_drops _ _ _ _ _ (omega (arith, c.if-counts-eq0.false)) c.scope_word-start.ensures (omega (arith, named, c.scope_word-start.ensures)) (rw c.in_ok-c1.was at c.emit_drop_and_storage_dead_for_scope.ensures) c.pop_scope.ensures

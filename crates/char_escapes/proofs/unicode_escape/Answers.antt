@@ -8,9 +8,6 @@ use Rattle.pattern_tokens.specs.Literals.{unicode_from}
 use Rattle.char_escapes.proofs.Escapes.{unicode_on, unicode_over, digits_on, digits_fit}
 use Rattle.char_escapes.proofs.unicode_escape.Goals as goal
 
-pub loop-at-init : goal.loop-at-init
-loop-at-init c = ((omega arith, omega arith), refl)
-
 pub returns-then-digits-ge6 : goal.returns-then-digits-ge6
 returns-then-digits-ge6 c = sym (sym c.loop-at.invariant.1 ∙ (unicode_on _ _ _ _ c.loop-at-test.true ∙ simp (← c.hex_digit-digit.ensures, lt-ltb _ _ c.if-digit-lt16.true, le-ltb _ _ c.if-digits-ge6.true)))
 
@@ -19,9 +16,6 @@ overflow_mul-v c = omega (arith, digits_fit c.loop-at.v c.loop-at.digits c.loop-
 
 pub overflow_add-v : goal.overflow_add-v
 overflow_add-v c = omega (arith, c.if-digit-lt16.true, digits_fit c.loop-at.v c.loop-at.digits c.loop-at.invariant.0.1 c.loop-at.invariant.0.0)
-
-pub overflow_add-digits : goal.overflow_add-digits
-overflow_add-digits c = omega (arith, c.if-digits-ge6.false)
 
 pub loop-at-preserved-then-digit-lt16 : goal.loop-at-preserved-then-digit-lt16
 loop-at-preserved-then-digit-lt16 c = ((omega (arith, c.if-digits-ge6.false), digits_on c.loop-at.v c.loop-at.digits c.hex_digit-digit.result c.loop-at.invariant.0.1 c.if-digit-lt16.true), sym (unicode_on _ _ _ _ c.loop-at-test.true ∙ simp (← c.hex_digit-digit.ensures, lt-ltb _ _ c.if-digit-lt16.true, lt-ltb _ _ c.if-digits-ge6.false)) ∙ c.loop-at.invariant.1)

@@ -1,16 +1,11 @@
-use mathlib.Core.Path.{◌≡◌, refl, sym, ◌∙◌, ap}
+use mathlib.Core.Path.{sym, ◌∙◌, ap}
 use native.Mathlib.Omega.{arith}
-use borrow.Author.Rules.{rules}
-use borrow.Author.Tests.{not-true, not-false}
-use Prim.Native.Nat.{ℕ, ◌<◌, ◌+◌, ◌-◌, ◌*◌, ◌^◌}
+use Prim.Native.Nat.{ℕ, ◌+◌, ◌-◌, ◌*◌, ◌^◌}
 use lib.ListN.{take, drop, get_or}
 use Rattle.pattern_words.proofs.Spelling.{digit_true}
 use Rattle.decimal_values.specs.Values.{decimal_from, integer_value}
 use Rattle.decimal_values.proofs.Digits.{decimal_on, decimal_over, decimal_end, halves, too_long, carried}
 use Rattle.decimal_values.proofs.integer_value.Goals as goal
-
-pub loop-at-init : goal.loop-at-init
-loop-at-init c = ((omega arith, omega arith), refl)
 
 pub returns-then-text-at : goal.returns-then-text-at
 unfolding integer_value
@@ -27,9 +22,6 @@ overflow_cast-b c = omega (arith, (digit_true (get_or c.args.text.now c.loop-at.
 
 pub times_ten-lower-requires : goal.times_ten-lower-requires
 times_ten-lower-requires c = omega (arith, (digit_true (get_or c.args.text.now c.loop-at.at 0) (sym c.is_digit.ensures ∙ c.if-not-is_digit.false)).1)
-
-pub times_ten-upper-requires : goal.times_ten-upper-requires
-times_ten-upper-requires c = c.times_ten-lower.ensures.1.0
 
 pub returns-then-upper-ne0 : goal.returns-then-upper-ne0
 unfolding integer_value

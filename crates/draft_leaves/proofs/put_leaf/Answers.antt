@@ -1,3 +1,4 @@
+use Rattle.std.specs.Prelude.{Some}
 use borrow.Author.Rules.{rules}
 use mathlib.Core.Path.{◌≡◌, refl}
 use mathlib.Core.List.{[]}
@@ -5,7 +6,6 @@ use native.Mathlib.Omega.{arith}
 use Rattle.pattern_typing.specs.Making.{not_made, row_made, literal_made, operand_made, operand_named, pattern_row}
 use Rattle.node_rows.specs.Nodes.{literal_in}
 use Rattle.draft_stack.specs.Stack.{words_each}
-use Rattle.draft_tables.specs.declared.DraftStep.TheVariants.{On}
 use Rattle.draft_makings.proofs.RowKinds.{kind_none, kind_row, kind_literal, kind_operand, kind_constant}
 use Rattle.draft_leaves.proofs.Leaves.{none_stepped}
 use Rattle.draft_makings.proofs.Ways.{parts_within, row_stepped, literal_fits_lem}
@@ -23,7 +23,7 @@ returns-then-row-eq0 c =
     let s = c.args in
     let p = c.requires in
     let enough = parts_within s.tables s.c s.text.now [] s.row not_made (kind_none s.text.now [] s.row c.if-row-eq0.true) refl p.1 in
-    λ sheet names whole. row_stepped sheet s.text.now names s.tables s.draft.now s.c s.row not_made (kind_none s.text.now names s.row c.if-row-eq0.true) (On c.at_height.result) s.draft.now whole
+    λ sheet names whole. row_stepped sheet s.text.now names s.tables s.draft.now s.c s.row not_made (kind_none s.text.now names s.row c.if-row-eq0.true) (Some c.at_height.result) s.draft.now whole
     (λ other _. none_stepped s.tables s.draft.now p.0.0 s.c p.1.room s.row.parts enough other c.at_height.result c.at_height.ensures)
 
 pub put_row-requires : goal.put_row-requires

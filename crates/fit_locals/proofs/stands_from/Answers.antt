@@ -1,30 +1,18 @@
-use Prim.Native.Nat.{◌-◌}
-use mathlib.Core.Path.{◌≡◌, refl, sym, ◌∙◌}
-use native.Mathlib.Omega.{arith}
-use borrow.Author.Rules.{rules}
-use lib.ListN.{length, drop}
-use Rattle.image.specs.Lists.{member}
-use Rattle.meaning.specs.Fit.{present}
-use Rattle.fit_locals.proofs.Apart.{no_local, stands_here, stands_next, stands_end}
+use mathlib.Core.Path.{ap, ◌∙◌}
+use mathlib.Core.Bool.{not}
+use borrow.Author.Tests.{eq-eqb}
+use lib.Dec.{eqb}
+use Rattle.std.proofs.Common.{rules, tests}
+use Rattle.std.proofs.lemmas.Iterator.{YieldsList-from_slice}
+use Rattle.std.proofs.lemmas.Iterator.Adapters.{YieldsList-from_skip}
+use Rattle.std.proofs.lemmas.Iterator.Search.{any_from_yields_List}
+use Rattle.fit_locals.proofs.Apart.{no_local, stands}
 use Rattle.fit_locals.proofs.stands_from.Goals as goal
 
-pub returns-then-l-eq65535 : goal.returns-then-l-eq65535
-returns-then-l-eq65535 c = no_local _ c.if-l-eq65535.true _
+pub returns-then-l : goal.returns-then-l
+returns-then-l c =
+    any_from_yields_List (λ y. eqb y c.args.l.0) _ _ _ c.any.ensures.ran (YieldsList-from_skip c.args.from (YieldsList-from_slice c.args.bindings.now cc) c.skip.ensures.count) (λ x b q k. search (rules, tests))
+    ∙ stands c.args.l.0 c.if-l.true _
 
-pub loop-i-init : goal.loop-i-init
-loop-i-init c = refl
-
-pub returns-then-bindings-i : goal.returns-then-bindings-i
-returns-then-bindings-i c = stands_here c.args.bindings.now _ c.loop-i-test.true _ c.if-l-eq65535.false c.if-bindings-i.true ∙ sym c.loop-i.invariant
-
-pub overflow_add-i : goal.overflow_add-i
-overflow_add-i c = omega (arith, c.loop-i-test.true, c.well_formed)
-
-pub loop-i-smaller : goal.loop-i-smaller
-loop-i-smaller c = omega (arith, c.loop-i-test.true)
-
-pub loop-i-preserved : goal.loop-i-preserved
-loop-i-preserved c = c.loop-i.invariant ∙ stands_next c.args.bindings.now _ c.loop-i-test.true _ c.if-bindings-i.false
-
-pub returns : goal.returns
-returns c = stands_end c.args.bindings.now _ _ c.loop-i-test.false ∙ sym c.loop-i.invariant
+pub returns-else-l : goal.returns-else-l
+returns-else-l c = ap not (eq-eqb c.args.l.0 65535 c.if-l.false) ∙ no_local _ c.if-l.false _

@@ -1,4 +1,3 @@
-use borrow.Author.Rules.{rules}
 use Rattle.fit_own.specs.declared.Reached.{Reached}
 use Rattle.fit_own.proofs.Deciding.{decided}
 use Rattle.fit_reached.proofs.nothing_refused.Goals as goal

@@ -1,6 +1,5 @@
-use borrow.Author.Rules.{rules}
 use mathlib.Core.Bool.{and-true}
-use borrow.Author.Tests.{not-true, not-false, lt-ltb, le-ltb}
+use borrow.Author.Tests.{lt-ltb, le-ltb}
 use Rattle.image.specs.Lists.{all_true}
 use Rattle.handed.specs.Handed.{self_holds}
 use Rattle.handed_tests.proofs.self_holds.Goals as goal

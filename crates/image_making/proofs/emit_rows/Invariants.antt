@@ -8,6 +8,3 @@ use Rattle.image_making.proofs.emit_rows.Given as goal
 
 abbrev pub invariant-loop-i : goal.invariant-loop-i
 invariant-loop-i l = Done l.text l.spelled l.makings l.sheet l.tables l.n l.i l.counts l.draft
-
-abbrev pub decreases-loop-i : goal.decreases-loop-i
-decreases-loop-i l = l.n - l.i

@@ -1,16 +1,14 @@
-use Prim.Native.Nat.{◌-◌, ◌≤◌, ◌<◌}
-use mathlib.Core.Path.{◌≡◌, refl, ap}
+use Prim.Native.Nat.{◌<◌}
+use mathlib.Core.Path.{ap}
 use native.Mathlib.Omega.{arith}
 use lib.ListN.{length}
-use borrow.Author.Rules.{rules}
-use borrow.Author.Tests.{not-true, not-false}
 use Rattle.image.specs.Tables.{type_count}
 use Rattle.image.proofs.Bools.{below_at}
-use Rattle.image_marks.proofs.Adts.{AdtsLeft, adts_start, adts_more, adts_refused, adts_end}
+use Rattle.image_marks.proofs.Adts.{adts_start, adts_more, adts_refused, adts_end}
 use Rattle.image_marks.proofs.take_adts.Goals as goal
 
 pub loop-t-init : goal.loop-t-init
-loop-t-init c = (adts_start _ c.requires.1 c.requires.2 c.requires.3, refl, omega arith)
+loop-t-init c = adts_start _ c.requires.1 c.requires.2 c.requires.3
 
 pub take_variants-requires : goal.take_variants-requires
 take_variants-requires c =
@@ -20,23 +18,10 @@ take_variants-requires c =
     (known.0, lt, omega arith, known.2, below_at _ _ _ known.3 lt)
 
 pub returns-then-not-take_variants : goal.returns-then-not-take_variants
-returns-then-not-take_variants c =
-    let count = c.requires.0.type_count_lem in
-    adts_refused _ _ _ c.loop-t.invariant.0 (omega arith) (c.if-not-take_variants.true) c.take_variants.ensures
-
-pub overflow_add-t : goal.overflow_add-t
-overflow_add-t c = omega arith
-
-pub loop-t-smaller : goal.loop-t-smaller
-loop-t-smaller c = omega (arith, c.requires.0.type_count_lem)
+returns-then-not-take_variants c = adts_refused _ _ _ c.loop-t.invariant (omega (arith, c.requires.0.type_count_lem)) c.if-not-take_variants.true c.take_variants.ensures
 
 pub loop-t-preserved : goal.loop-t-preserved
-loop-t-preserved c =
-    let count = c.requires.0.type_count_lem in (
-      adts_more _ _ _ c.loop-t.invariant.0 (omega arith) (c.if-not-take_variants.false) c.take_variants.ensures,
-      search rules,
-      omega arith,
-    )
+loop-t-preserved c = adts_more _ _ _ c.loop-t.invariant (omega (arith, c.requires.0.type_count_lem)) c.if-not-take_variants.false c.take_variants.ensures
 
 pub returns : goal.returns
-returns c = adts_end _ _ _ c.loop-t.invariant.0 (omega (arith, c.requires.0.type_count_lem))
+returns c = adts_end _ _ _ c.loop-t.invariant (omega (arith, c.requires.0.type_count_lem))

@@ -1,23 +1,13 @@
 use Prim.Native.Nat.{◌+◌, ◌-◌}
-use mathlib.Core.Path.{refl}
+use mathlib.Core.Path.{◌≡◌, refl}
 use native.Mathlib.Omega.{arith}
 use lib.ListN.{take, drop}
-use borrow.Author.Rules.{rules}
-use Rattle.row_tables.proofs.Loops.{Storing, store_start}
-use Rattle.image_pieces.proofs.Storing.{bytes_more_lem, bytes_end}
+use Rattle.image_pieces.proofs.Storing.{length_chosen, part_stored}
 use Rattle.image_pieces.proofs.write_bytes.Goals as goal
-
-pub loop-i-init : goal.loop-i-init
-loop-i-init c = store_start
-
-pub loop-i-preserved : goal.loop-i-preserved
-loop-i-preserved c =
-    let s = c.args in
-    let pre = c.requires in
-    bytes_more_lem s.source.now s.from s.many pre.1 s.image.now s.at c.loop-i.i c.loop-i.image pre.0 c.loop-i.invariant (omega arith)
 
 pub returns : goal.returns
 returns c =
     let s = c.args in
-    let pre = c.requires in
-    (refl, bytes_end s.source.now s.from s.many pre.1 s.image.now s.at c.loop-i.i c.loop-i.image c.loop-i.invariant (omega arith))
+    let chosen : s.from + s.many - s.from ≡ s.many = omega arith in
+    let long = length_chosen s.source.now s.from s.many c.requires.1 in
+    (refl, part_stored s.image.now s.at _ (take s.many (drop s.from s.source.now)) _ (rw chosen at c.copy_from_slice.ensures.after) (omega (arith, long)))

@@ -2,7 +2,7 @@ use Prim.Native.Nat.{◌-◌}
 use mathlib.Core.Path.{sym, ap, ◌∙◌}
 use native.Mathlib.Omega.{arith}
 use Rattle.listing_start.proofs.Limits.{limits}
-use Rattle.listing_start.proofs.Leading.{Trying, try_start, try_more, try_found, try_end}
+use Rattle.listing_start.proofs.Leading.{try_start, try_more, try_found, try_end}
 use Rattle.listing_start.proofs.start_type.Goals as goal
 
 pub overflow_sub-tables : goal.overflow_sub-tables
@@ -14,17 +14,8 @@ pat_at-row-requires c = (c.requires.1, omega (arith, c.requires.1.pattern_count_
 pub loop-t-init : goal.loop-t-init
 loop-t-init c = try_start c.pat_at-row.ensures (ap (λ (n : Prim.Native.Nat.ℕ). n - 1) c.requires.1.pattern_count_lem)
 
-pub leads_to-requires : goal.leads_to-requires
-leads_to-requires c = (c.requires.0, c.requires.1, omega (arith, c.loop-t-test.true, c.requires.1.type_count_lem))
-
 pub returns-then-leads_to : goal.returns-then-leads_to
 returns-then-leads_to c = (try_found c.loop-t.invariant (omega (arith, c.loop-t-test.true, c.requires.1.type_count_lem)) (sym c.if-leads_to.true ∙ c.leads_to.ensures), omega (arith, c.loop-t-test.true, c.requires.1.type_count_lem))
-
-pub overflow_add-t : goal.overflow_add-t
-overflow_add-t c = omega (arith, c.loop-t-test.true, c.well_formed)
-
-pub loop-t-smaller : goal.loop-t-smaller
-loop-t-smaller c = omega (arith, c.loop-t-test.true)
 
 pub loop-t-preserved : goal.loop-t-preserved
 loop-t-preserved c = try_more c.loop-t.invariant (omega (arith, c.loop-t-test.true, c.requires.1.type_count_lem)) (sym c.if-leads_to.false ∙ c.leads_to.ensures)

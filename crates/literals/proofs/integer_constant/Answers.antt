@@ -17,13 +17,13 @@ type_at-row-requires c = (c.requires.1, omega (arith, c.requires.1.type_count_le
 
 pub constant_of-requires : goal.constant_of-requires
 constant_of-requires c =
-    let holds = rw (← c.type_at-row.ensures, ← c.type_kind.ensures) at (shape_holds _ _ c.requires.0 c.requires.2) in
+    let holds = rw (← c.type_at-row.ensures, ← c.from.ensures) at (shape_holds _ _ c.requires.0 c.requires.2) in
     let few = integer_size _ _ c.in-Integer.is holds in
     (omega (arith, c.requires.3), omega arith)
 
 pub returns-in-Integer : goal.returns-in-Integer
 unfolding integer_constant shape_by
-returns-in-Integer c = ap done c.constant_of.ensures ∙ integer_by _ _ _ TypeKind.Integer c.type_at-row.ensures c.type_kind.ensures c.in-Integer.is
+returns-in-Integer c = ap done c.constant_of.ensures ∙ integer_by _ _ _ TypeKind.Integer c.type_at-row.ensures c.from.ensures c.in-Integer.is
 
 pub returns-in_default : goal.returns-in_default
-returns-in_default c = no_integer _ _ _ _ _ (opened c.in_default.in_default-own.keys2) ∙ integer_by _ _ _ _ c.type_at-row.ensures c.type_kind.ensures refl
+returns-in_default c = no_integer _ _ _ _ _ (opened c.in_default.in_default-own.keys2) ∙ integer_by _ _ _ _ c.type_at-row.ensures c.from.ensures refl

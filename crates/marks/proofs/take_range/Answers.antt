@@ -1,34 +1,19 @@
-use Prim.Native.Nat.{◌+◌}
-use mathlib.Core.Path.{◌≡◌, refl}
-use lib.ListN.{length}
+use Prim.Native.Nat.{◌+◌, ◌-◌}
+use mathlib.Core.Path.{◌≡◌}
 use native.Mathlib.Omega.{arith}
-use borrow.Author.Rules.{rules}
-use borrow.Author.Tests.{not-true, not-false}
-use Rattle.image.specs.Lists.{up_from}
-use Rattle.marks.proofs.Takes.{Continues, continues_more, continues_refused, continues_end, up_from_next, up_from_none}
+use Rattle.marks.proofs.Takes.{continues_more, continues_refused, continues_end, up_from_before, up_from_none}
 use Rattle.marks.proofs.take_range.Goals as goal
 
-pub loop-left-init : goal.loop-left-init
-loop-left-init c = ((λ after r t. t), refl, refl)
+pub loop-x-init : goal.loop-x-init
+loop-x-init c =
+    let all : c.args.from + c.args.count - c.args.from ≡ c.args.count = omega arith in
+    rw all (λ after r t. t)
 
 pub returns-then-not-take : goal.returns-then-not-take
-returns-then-not-take c = continues_refused _ (up_from_next _ _ c.loop-left-test.true) c.loop-left.invariant.0 (c.if-not-take.true) c.take.ensures
+returns-then-not-take c = continues_refused _ (up_from_before _ _ (omega (arith, c.loop-x-test.true))) c.loop-x.invariant c.if-not-take.true c.take.ensures
 
-pub overflow_add-x : goal.overflow_add-x
-overflow_add-x c = omega arith
-
-pub overflow_sub-left : goal.overflow_sub-left
-overflow_sub-left c = omega arith
-
-pub loop-left-smaller : goal.loop-left-smaller
-loop-left-smaller c = omega arith
-
-pub loop-left-preserved : goal.loop-left-preserved
-loop-left-preserved c = (
-  continues_more (up_from_next _ _ c.loop-left-test.true) c.loop-left.invariant.0 (c.if-not-take.false) c.take.ensures,
-  search rules,
-  omega arith,
-)
+pub loop-x-preserved : goal.loop-x-preserved
+loop-x-preserved c = continues_more (up_from_before _ _ (omega (arith, c.loop-x-test.true))) c.loop-x.invariant c.if-not-take.false c.take.ensures
 
 pub returns : goal.returns
-returns c = continues_end (up_from_none _ _ c.loop-left-test.false) c.loop-left.invariant.0
+returns c = continues_end (up_from_none _ _ (omega (arith, c.loop-x-test.false))) c.loop-x.invariant

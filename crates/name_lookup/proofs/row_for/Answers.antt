@@ -1,13 +1,9 @@
 use native.Mathlib.Omega.{arith}
-use Prim.Native.Nat.{◌-◌}
 use mathlib.Core.Path.{sym, ◌∙◌}
-use Rattle.name_tables.specs.Names.{is_named, row_count, row_for}
-use Rattle.name_tables.specs.Tested.{use_of, found_in}
-use Rattle.name_tables.proofs.Found.{Trying, try_first, hit, miss, no_more_lem}
+use Rattle.name_tables.specs.Names.{row_for}
+use Rattle.name_tables.specs.Tested.{found_in}
+use Rattle.name_tables.proofs.Found.{try_first, hit, miss, no_more_lem}
 use Rattle.name_lookup.proofs.row_for.Goals as goal
-
-pub word_at-count-requires : goal.word_at-count-requires
-word_at-count-requires c = omega (arith, c.requires.frame)
 
 pub loop-i-init : goal.loop-i-init
 loop-i-init c = try_first _ _
@@ -18,12 +14,6 @@ row_is_named-requires c = (c.requires, omega (arith, c.loop-i-test.true, c.word_
 pub returns-then-row_is_named : goal.returns-then-row_is_named
 unfolding found_in row_for
 returns-then-row_is_named c = hit _ _ c.loop-i.invariant (omega (arith, c.loop-i-test.true, c.word_at-count.ensures)) (sym c.row_is_named.ensures ∙ c.if-row_is_named.true)
-
-pub overflow_add-i : goal.overflow_add-i
-overflow_add-i c = omega (arith, c.loop-i-test.true)
-
-pub loop-i-smaller : goal.loop-i-smaller
-loop-i-smaller c = omega (arith, c.loop-i-test.true)
 
 pub loop-i-preserved : goal.loop-i-preserved
 loop-i-preserved c = miss _ _ c.loop-i.invariant (omega (arith, c.loop-i-test.true, c.word_at-count.ensures)) (sym c.row_is_named.ensures ∙ c.if-row_is_named.false)

@@ -1,9 +1,8 @@
 use native.Mathlib.Omega.{arith}
-use Prim.Native.Nat.{ℕ, ◌-◌, ◌≤◌}
+use Prim.Native.Nat.{ℕ}
 use mathlib.Core.Path.{◌≡◌, refl, sym, ap, ◌∙◌}
-use mathlib.Core.Bool.{Bool, true}
+use mathlib.Core.Bool.{Bool}
 use mathlib.Core.List.{List}
-use borrow.Author.Tests.{not-true, not-false}
 use Rattle.image.specs.Lists.{all_below}
 use Rattle.image.proofs.Bools.{below_false, below_next}
 use Rattle.name_tables.specs.Names.{name_row_at, name_row_holds, row_count}
@@ -13,21 +12,12 @@ use Rattle.name_rules.proofs.name_rows_hold.Goals as goal
 abbrev tried : List ℕ → List ℕ → ℕ → Bool
 tried sheet names i = name_row_holds sheet names (name_row_at names i)
 
-pub word_at-count-requires : goal.word_at-count-requires
-word_at-count-requires c = omega (arith, c.requires.1)
-
-pub word_at-bytes-requires : goal.word_at-bytes-requires
-word_at-bytes-requires c = omega (arith, c.requires.1)
-
 pub loop-i-init : goal.loop-i-init
 unfolding all_below
 loop-i-init c = (omega arith, refl)
 
 pub name_row_at-requires : goal.name_row_at-requires
 name_row_at-requires c = omega (arith, c.loop-i-test.true, c.word_at-count.ensures, c.requires.2)
-
-pub name_row_holds-requires : goal.name_row_holds-requires
-name_row_holds-requires c = c.requires.0
 
 pub returns-then-not-name_row_holds : goal.returns-then-not-name_row_holds
 unfolding name_row_holds
@@ -36,12 +26,6 @@ returns-then-not-name_row_holds c =
     let names = c.args.names.now in
     let told = rw (c.word_at-bytes.ensures, c.name_row_at.ensures) at c.name_row_holds.ensures in
     sym (below_false (tried sheet names) (row_count names) c.loop-i.i (omega (arith, c.loop-i-test.true, c.word_at-count.ensures)) (sym told ∙ c.if-not-name_row_holds.true))
-
-pub overflow_add-i : goal.overflow_add-i
-overflow_add-i c = omega (arith, c.loop-i-test.true)
-
-pub loop-i-smaller : goal.loop-i-smaller
-loop-i-smaller c = omega (arith, c.loop-i-test.true)
 
 pub loop-i-preserved : goal.loop-i-preserved
 unfolding name_row_holds

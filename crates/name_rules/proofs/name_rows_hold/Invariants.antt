@@ -1,12 +1,9 @@
-use native.Mathlib.Omega.{arith}
-use Prim.Native.Nat.{ℕ, ◌-◌, ◌≤◌}
-use mathlib.Core.Path.{◌≡◌, refl, sym, ap, ◌∙◌}
+use Prim.Native.Nat.{ℕ, ◌≤◌}
+use mathlib.Core.Path.{◌≡◌}
 use mathlib.Core.Bool.{Bool, true}
 use mathlib.Core.List.{List}
-use borrow.Author.Tests.{not-true, not-false}
 use Rattle.image.specs.Lists.{all_below}
-use Rattle.image.proofs.Bools.{below_false, below_next}
-use Rattle.name_tables.specs.Names.{name_row_at, name_row_holds, row_count}
+use Rattle.name_tables.specs.Names.{name_row_at, name_row_holds}
 use Rattle.name_rules.proofs.name_rows_hold.Given as goal
 
 -- the row i holds
@@ -15,6 +12,3 @@ tried sheet names i = name_row_holds sheet names (name_row_at names i)
 
 abbrev pub invariant-loop-i : goal.invariant-loop-i
 invariant-loop-i l = (l.i ≤ l.count) × (all_below (tried l.sheet l.names) l.i ≡ true)
-
-abbrev pub decreases-loop-i : goal.decreases-loop-i
-decreases-loop-i l = l.count - l.i

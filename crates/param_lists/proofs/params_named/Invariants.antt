@@ -1,9 +1,7 @@
-use native.Mathlib.Omega.{arith}
-use Rattle.param_lists.proofs.Looking.{Left, names_begin, names_end, in_list, no_pattern_lem, no_type_lem, names_again}
+use Prim.Native.Nat.{◌*◌, ◌-◌}
+use Rattle.params_spec.specs.Calls.{param_count}
+use Rattle.param_lists.proofs.Looking.{Left}
 use Rattle.param_lists.proofs.params_named.Given as goal
 
-abbrev pub invariant-loop-left : goal.invariant-loop-left
-invariant-loop-left l = Left l.image l.words l.k l.left
-
-abbrev pub decreases-loop-left : goal.decreases-loop-left
-decreases-loop-left l = l.left
+abbrev pub invariant-loop-i : goal.invariant-loop-i
+invariant-loop-i l = Left l.image l.words (2 * l.i) (param_count l.words - l.i)

@@ -1,4 +1,3 @@
-use borrow.Author.Rules.{rules}
 use borrow.Author.Tests.{eq-eqb, ne_eqb}
 use Rattle.listing_text.specs.Words.{space, dash}
 use Rattle.params_words.specs.Words.{word_text}

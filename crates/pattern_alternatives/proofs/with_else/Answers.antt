@@ -1,12 +1,14 @@
+use Rattle.refusals.proofs.Passing.{passed}
+use Rattle.std.specs.Prelude.{Ok, Err}
 use borrow.Author.Rules.{rules}
 use mathlib.Core.Path.{refl}
 use Rattle.pattern_alternatives.specs.Alternatives.{with_else}
 use Rattle.pattern_alternatives.proofs.with_else.Goals as goal
 
-pub returns-in-Refused : goal.returns-in-Refused
+pub returns-in_err-c : goal.returns-in_err-c
 unfolding with_else
-returns-in-Refused c = rw c.in-Refused.is refl
+returns-in_err-c c = rw (passed _ _ c.from_residual.ensures.1) (rw c.in_err-c.was refl)
 
-pub returns-in-Done : goal.returns-in-Done
+pub returns : goal.returns
 unfolding with_else
-returns-in-Done c = rw c.in-Done.is refl
+returns c = rw c.in_ok-c.was refl

@@ -1,7 +1,7 @@
+use Rattle.std.specs.Prelude.{None, Ok, Err}
 use borrow.Author.Rules.{rules}
 use Rattle.image.specs.Tree.{tree}
 use Rattle.pattern_matching.specs.Patterns.{pattern_match_assignment}
-use Rattle.lower_spec.specs.declared.merging.OptBlock.{OptBlock}
 use Rattle.body_calls_spec.proofs.Prologue.{taken_sized}
 use Rattle.body_rules.proofs.Lengths.{lengths_of}
 use Rattle.body_opening.proofs.Replying.{few_counts}
@@ -12,7 +12,7 @@ pub block_row-row-requires : goal.block_row-row-requires
 block_row-row-requires c =
     let start = c in
     let a = c.args in
-    (search rules, row_asked a.bindings.now a.p.0 a.current OptBlock.None a.place c.requires.0 c.requires.1)
+    (search rules, row_asked a.bindings.now a.p.0 a.current None a.place c.requires.0 c.requires.1)
 
 pub clear_above-requires : goal.clear_above-requires
 clear_above-requires c = few_counts _ _ (taken_sized _ _ _ c.requires.0)
@@ -21,27 +21,27 @@ pub pattern_match_inner-requires : goal.pattern_match_inner-requires
 pattern_match_inner-requires c =
     let start = c in
     let a = c.args in
-    let r = walk_asked a.bindings.now a.p.0 a.current OptBlock.None a.place c.requires.0 c.requires.1 c.clear_above.ensures in record { walkable = r.0; p_bound = r.1 }
+    let r = walk_asked a.bindings.now a.p.0 a.current None a.place c.requires.0 c.requires.1 c.clear_above.ensures in record { walkable = r.0; p_bound = r.1 }
 
 pub put_back-requires : goal.put_back-requires
 put_back-requires c =
     let start = c in
     let a = c.args in
-    (search rules, row_asked a.bindings.now a.p.0 a.current OptBlock.None a.place c.requires.0 c.requires.1)
+    (search rules, row_asked a.bindings.now a.p.0 a.current None a.place c.requires.0 c.requires.1)
 
-pub clear_above-requires-in-Refused : goal.clear_above-requires-in-Refused
-clear_above-requires-in-Refused c = few_counts _ _ (taken_sized _ _ _ c.requires.0)
+pub clear_above-requires-in-Err : goal.clear_above-requires-in-Err
+clear_above-requires-in-Err c = few_counts _ _ (taken_sized _ _ _ c.requires.0)
 
-pub returns-in-Done : goal.returns-in-Done
+pub returns-in-Ok : goal.returns-in-Ok
 unfolding pattern_match_assignment
-returns-in-Done c =
+returns-in-Ok c =
     let start = c in
     let a = c.args in
-    matched a.bindings.now a.p.0 a.current OptBlock.None a.place c.requires.0 c.requires.1 c.clear_above.ensures a.visits.now (search (rules, c.clear_from-arg-1.given)) c.clear_from.ensures (λ ctx. pattern_match_assignment a.image.now a.bindings.now (tree a.image.now a.p.0) ctx a.current a.place) (rw c.in-Done.is at c.pattern_match_inner.ensures)
+    matched a.bindings.now a.p.0 a.current None a.place c.requires.0 c.requires.1 c.clear_above.ensures a.visits.now (search (rules, c.clear_from-arg-1.given)) c.clear_from.ensures (λ ctx. pattern_match_assignment a.image.now a.bindings.now (tree a.image.now a.p.0) ctx a.current a.place) (rw c.in-Ok.is at c.pattern_match_inner.ensures)
 
-pub returns-in-Refused : goal.returns-in-Refused
+pub returns-in-Err : goal.returns-in-Err
 unfolding pattern_match_assignment
-returns-in-Refused c =
+returns-in-Err c =
     let start = c in
     let a = c.args in
-    not_matched a.bindings.now a.p.0 a.current OptBlock.None a.place c.requires.0 c.requires.1 c.clear_above.ensures a.visits.now (search (rules, c.clear_from-arg-1.given)) c.clear_from.ensures (λ ctx. pattern_match_assignment a.image.now a.bindings.now (tree a.image.now a.p.0) ctx a.current a.place) (rw c.in-Refused.is at c.pattern_match_inner.ensures) (lengths_of _ (search rules)).blocks (search rules) c.block_row-row.ensures c.put_back.ensures c.clear_above-in-Refused.ensures c.clear_from-in-Refused.ensures
+    not_matched a.bindings.now a.p.0 a.current None a.place c.requires.0 c.requires.1 c.clear_above.ensures a.visits.now (search (rules, c.clear_from-arg-1.given)) c.clear_from.ensures (λ ctx. pattern_match_assignment a.image.now a.bindings.now (tree a.image.now a.p.0) ctx a.current a.place) (rw c.in-Err.is at c.pattern_match_inner.ensures) (lengths_of _ (search rules)).blocks (search rules) c.block_row-row.ensures c.put_back.ensures c.clear_above-in-Err.ensures c.clear_from-in-Err.ensures

@@ -1,4 +1,3 @@
-use borrow.Author.Rules.{rules}
 use Rattle.pattern_entering.proofs.Visiting.{visit_counted, visit_full}
 use Rattle.pattern_entering.proofs.visit.Goals as goal
 

@@ -12,20 +12,14 @@ returns-then-row-ne0 c = rw (sym c.pat_at-row.ensures) (derefs_left _ _ c.pat_at
 pub is_check-requires : goal.is_check-requires
 is_check-requires c = tt
 
-pub pat_kind-requires : goal.pat_kind-requires
-pat_kind-requires c = tt
-
 pub idle_in_check-requires : goal.idle_in_check-requires
 idle_in_check-requires c = tt
 
 pub returns-then-is_check : goal.returns-then-is_check
-returns-then-is_check c = rw (sym c.pat_at-row.ensures) (told_in_check _ _ c.pat_at-row.result c.if-row-ne0.false c.pat_kind.ensures (sym c.is_check.ensures ∙ c.if-is_check.true) c.idle_in_check.ensures)
-
-pub pat_kind-requires-2 : goal.pat_kind-requires-2
-pat_kind-requires-2 c = tt
+returns-then-is_check c = rw (sym c.pat_at-row.ensures) (told_in_check _ _ c.pat_at-row.result c.if-row-ne0.false c.from.ensures (sym c.is_check.ensures ∙ c.if-is_check.true) c.idle_in_check.ensures)
 
 pub idle_beyond_check-requires : goal.idle_beyond_check-requires
-idle_beyond_check-requires c = (c.requires.1, rw c.pat_kind-2.ensures (row_shape _ _ c.pat_at-row.result c.requires.0 c.requires.2 c.pat_at-row.ensures))
+idle_beyond_check-requires c = (c.requires.1, rw c.from-2.ensures (row_shape _ _ c.pat_at-row.result c.requires.0 c.requires.2 c.pat_at-row.ensures))
 
 pub returns : goal.returns
-returns c = rw (sym c.pat_at-row.ensures) (told_beyond _ _ c.pat_at-row.result c.if-row-ne0.false c.pat_kind-2.ensures (sym c.is_check.ensures ∙ c.if-is_check.false) c.idle_beyond_check.ensures)
+returns c = rw (sym c.pat_at-row.ensures) (told_beyond _ _ c.pat_at-row.result c.if-row-ne0.false c.from-2.ensures (sym c.is_check.ensures ∙ c.if-is_check.false) c.idle_beyond_check.ensures)

@@ -1,3 +1,4 @@
+use Rattle.std.specs.Prelude.{Ok, Err}
 use borrow.Author.Rules.{rules}
 use native.Mathlib.Omega.{arith}
 use Rattle.image.specs.Tree.{tree}
@@ -29,17 +30,17 @@ put_back-requires c =
     let a = c.args in
     (search rules, omega (arith, row_asked a.bindings.now a.p.0 a.current a.els a.place c.requires.0 c.requires.1))
 
-pub clear_above-requires-in-Refused : goal.clear_above-requires-in-Refused
-clear_above-requires-in-Refused c = few_counts _ _ (taken_sized _ _ _ c.requires.0)
+pub clear_above-requires-in-Err : goal.clear_above-requires-in-Err
+clear_above-requires-in-Err c = few_counts _ _ (taken_sized _ _ _ c.requires.0)
 
-pub returns-in-Done : goal.returns-in-Done
-returns-in-Done c =
+pub returns-in-Ok : goal.returns-in-Ok
+returns-in-Ok c =
     let start = c in
     let a = c.args in
-    matched a.bindings.now a.p.0 a.current a.els a.place c.requires.0 c.requires.1 c.clear_above.ensures a.visits.now (search (rules, c.clear_from-arg-1.given)) c.clear_from.ensures (λ ctx. pattern_match a.image.now a.bindings.now (tree a.image.now a.p.0) ctx a.current a.els a.place) (rw c.in-Done.is at c.check_and_bind.ensures)
+    matched a.bindings.now a.p.0 a.current a.els a.place c.requires.0 c.requires.1 c.clear_above.ensures a.visits.now (search (rules, c.clear_from-arg-1.given)) c.clear_from.ensures (λ ctx. pattern_match a.image.now a.bindings.now (tree a.image.now a.p.0) ctx a.current a.els a.place) (rw c.in-Ok.is at c.check_and_bind.ensures)
 
-pub returns-in-Refused : goal.returns-in-Refused
-returns-in-Refused c =
+pub returns-in-Err : goal.returns-in-Err
+returns-in-Err c =
     let start = c in
     let a = c.args in
-    not_matched a.bindings.now a.p.0 a.current a.els a.place c.requires.0 c.requires.1 c.clear_above.ensures a.visits.now (search (rules, c.clear_from-arg-1.given)) c.clear_from.ensures (λ ctx. pattern_match a.image.now a.bindings.now (tree a.image.now a.p.0) ctx a.current a.els a.place) (rw c.in-Refused.is at c.check_and_bind.ensures) (lengths_of _ (search rules)).blocks (search rules) c.block_row-row.ensures c.put_back.ensures c.clear_above-in-Refused.ensures c.clear_from-in-Refused.ensures
+    not_matched a.bindings.now a.p.0 a.current a.els a.place c.requires.0 c.requires.1 c.clear_above.ensures a.visits.now (search (rules, c.clear_from-arg-1.given)) c.clear_from.ensures (λ ctx. pattern_match a.image.now a.bindings.now (tree a.image.now a.p.0) ctx a.current a.els a.place) (rw c.in-Err.is at c.check_and_bind.ensures) (lengths_of _ (search rules)).blocks (search rules) c.block_row-row.ensures c.put_back.ensures c.clear_above-in-Err.ensures c.clear_from-in-Err.ensures

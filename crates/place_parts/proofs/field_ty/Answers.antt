@@ -21,7 +21,7 @@ returns-in-Tuple c = rw c.in-Tuple.is c.field_of.ensures
 
 pub returns-in-Adt : goal.returns-in-Adt
 unfolding field_ty shape_by
-returns-in-Adt c = rw (c.in-Adt.is, ← c.adt_kind.ensures) (c.adt_field_ty.ensures _ (adt_variants_lem _ _ c.in-Adt.is c.requires.2).0)
+returns-in-Adt c = rw (c.in-Adt.is, ← c.from.ensures) (c.adt_field_ty.ensures _ (adt_variants_lem _ _ c.in-Adt.is c.requires.2).0)
 
 pub returns-in_default : goal.returns-in_default
 returns-in_default c = no_field_lem _ _ _ _ (opened c.in_default.in_default-own.keys3)

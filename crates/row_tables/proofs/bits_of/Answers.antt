@@ -1,18 +1,13 @@
-use Prim.Native.Nat.{ℕ, ◌-◌, ◌≤◌}
-use mathlib.Core.Path.{◌≡◌, subst}
+use Prim.Native.Nat.{◌+◌}
 use native.Mathlib.Omega.{arith}
-use borrow.Author.Rules.{rules}
-use Rattle.row_tables.specs.Rows.{AtMost}
-use Rattle.row_tables.proofs.Loops.{bits_more}
+use borrow.Rule.Slice.PartMut.{mid_len}
+use Rattle.row_tables.proofs.Loops.{number_of, bits_more}
 use Rattle.row_tables.proofs.bits_of.Goals as goal
 
-pub loop-k-init : goal.loop-k-init
-loop-k-init c = ((λ k h. absurd (omega (arith, h))), omega arith)
-
-pub loop-k-preserved : goal.loop-k-preserved
-loop-k-preserved c = (bits_more c.args.table.now c.args.at c.loop-k.k c.loop-k.invariant.0, omega arith)
+pub loop-number-preserved : goal.loop-number-preserved
+loop-number-preserved c =
+    rw (number_of c.args.table.now c.args.at (c.args.at + 512) c.requires c.loop-number.number-index c.loop-number-test.true)
+    (bits_more c.args.table.now c.args.at c.loop-number.number-index c.loop-number.invariant)
 
 pub returns : goal.returns
-returns c =
-    let all : c.loop-k.k ≡ 512 = omega (arith, c.loop-k.invariant.1) in
-    subst (λ (n : ℕ). AtMost c.loop-k.bits c.args.table.now c.args.at n) all c.loop-k.invariant.0
+returns c = λ k h. c.loop-number.invariant k (omega (arith, h, c.loop-number-test.false, mid_len c.args.at (c.args.at + 512) c.args.table.now c.requires))

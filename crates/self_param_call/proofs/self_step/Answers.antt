@@ -1,3 +1,4 @@
+use Rattle.std.specs.Prelude.{Ok, Err}
 use borrow.Author.Rules.{rules}
 use native.Mathlib.Omega.{arith}
 use Rattle.body_calls_spec.proofs.Clearing.{clears}
@@ -19,13 +20,13 @@ pattern_match_binding-requires c = (c.requires.1, (clears c.requires.0 c.clear_a
 pub put_back-requires : goal.put_back-requires
 put_back-requires c = (search rules, omega (arith, c.requires.2, c.requires.0.block_count_lem))
 
-pub clear_above-requires-in-Refused : goal.clear_above-requires-in-Refused
-clear_above-requires-in-Refused c = few_counts _ _ c.requires.0
+pub clear_above-requires-in-Err : goal.clear_above-requires-in-Err
+clear_above-requires-in-Err c = few_counts _ _ c.requires.0
 
-pub returns-in-Done : goal.returns-in-Done
+pub returns-in-Ok : goal.returns-in-Ok
 unfolding local_place
-returns-in-Done c = self_matched c.args.bindings.now c.args.b.0 c.args.current c.args.l (clears c.requires.0 c.clear_above.ensures) (rw c.in-Done.is at c.pattern_match_binding.ensures)
+returns-in-Ok c = self_matched c.args.bindings.now c.args.b.0 c.args.current c.args.l (clears c.requires.0 c.clear_above.ensures) (rw c.in-Ok.is at c.pattern_match_binding.ensures)
 
-pub returns-in-Refused : goal.returns-in-Refused
+pub returns-in-Err : goal.returns-in-Err
 unfolding local_place
-returns-in-Refused c = self_not_matched c.args.bindings.now c.args.b.0 c.args.current c.args.l (clears c.requires.0 c.clear_above.ensures) c.requires.0 (rw c.in-Refused.is at c.pattern_match_binding.ensures) c.requires.2 c.block_row-row.ensures c.put_back.ensures c.clear_above-in-Refused.ensures (lengths_of _ (search rules)).blocks
+returns-in-Err c = self_not_matched c.args.bindings.now c.args.b.0 c.args.current c.args.l (clears c.requires.0 c.clear_above.ensures) c.requires.0 (rw c.in-Err.is at c.pattern_match_binding.ensures) c.requires.2 c.block_row-row.ensures c.put_back.ensures c.clear_above-in-Err.ensures (lengths_of _ (search rules)).blocks

@@ -1,6 +1,6 @@
-use borrow.Author.Rules.{rules}
-use Prim.Native.Nat.{◌-◌}
-use Rattle.type_crossing.proofs.Crossings.{Crossings, none_crossed, no_reference, reference_crossed, all_crossed}
+use mathlib.Core.Path.{◌≡◌}
+use native.Mathlib.Omega.{arith}
+use Rattle.type_crossing.proofs.Crossings.{none_crossed, no_reference, reference_crossed, all_crossed}
 use Rattle.type_crossing.proofs.cross.Goals as goal
 
 pub loop-derefs-init : goal.loop-derefs-init
@@ -13,4 +13,6 @@ pub loop-derefs-preserved : goal.loop-derefs-preserved
 loop-derefs-preserved c = reference_crossed _ _ _ c.loop-derefs.invariant c.loop-derefs-test.true c.type_in-row.ensures c.if-row-ne7.false c.behind_reference-behind.ensures
 
 pub returns : goal.returns
-returns c = all_crossed _ _ _ c.loop-derefs.invariant c.loop-derefs-test.false
+returns c =
+    let all : c.loop-derefs.derefs ≡ 257 = omega (arith, c.loop-derefs.invariant.within, c.loop-derefs-test.false) in
+    rw all at (all_crossed _ _ _ c.loop-derefs.invariant c.loop-derefs-test.false)

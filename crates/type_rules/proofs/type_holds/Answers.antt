@@ -9,4 +9,4 @@ returns-then-not-is_flag c = rw (← c.type_at-row.ensures, ← c.is_flag.ensure
 
 pub returns : goal.returns
 unfolding type_holds
-returns c = rw (← c.type_at-row.ensures, ← c.is_flag.ensures, c.if-not-is_flag.false, ← c.type_kind.ensures) c.type_shape_holds.ensures
+returns c = rw (← c.type_at-row.ensures, ← c.is_flag.ensures, c.if-not-is_flag.false, ← c.from.ensures) c.type_shape_holds.ensures

@@ -14,26 +14,11 @@ loop-i-init c = runs_begin _ _ _ c.requires.0.list_count_lem c.requires.1 c.requ
 pub list_at-word-requires : goal.list_at-word-requires
 list_at-word-requires c = (c.requires.0, omega (arith, c.loop-i.invariant.place, c.requires.0.list_count_lem))
 
-pub overflow_cast-at : goal.overflow_cast-at
-overflow_cast-at c = omega (arith, c.loop-i.invariant.place, c.requires.1)
-
-pub overflow_add-at : goal.overflow_add-at
-overflow_add-at c = omega (arith, c.loop-i.invariant.place, c.requires.1)
-
-pub bounds-runs-at : goal.bounds-runs-at
-bounds-runs-at c = omega (arith, c.loop-i.invariant.place, c.loop-i.invariant.size, c.requires.1)
-
 pub longer-requires : goal.longer-requires
 longer-requires c = run_short _ _ _ c.loop-i.invariant c.loop-i-test.true c.requires.1
 
-pub bounds-runs-at-in-loop-i : goal.bounds-runs-at-in-loop-i
-bounds-runs-at-in-loop-i c = omega (arith, c.loop-i.invariant.place, c.loop-i.invariant.size, c.requires.1)
-
 pub loop-i-preserved : goal.loop-i-preserved
 loop-i-preserved c = rw (c.longer.ensures, c.list_at-word.ensures, c.requires.0.type_count_lem) (runs_more _ _ _ c.loop-i.invariant c.loop-i-test.true c.requires.1)
-
-pub shape_of-runs : goal.shape_of-runs
-shape_of-runs c = c.loop-i.invariant.size ∙ sym (ap length c.requires.2 ∙ length-replicate {A = ℕ} 2049 0)
 
 pub returns : goal.returns
 returns c = runs_end _ _ _ c.loop-i.invariant (omega arith) c.requires.1

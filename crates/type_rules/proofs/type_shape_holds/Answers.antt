@@ -38,7 +38,7 @@ returns-in-Tuple c = rw c.in-Tuple.is c.types_listed.ensures
 
 pub returns-else-not-in_table : goal.returns-else-not-in_table
 unfolding type_shape_holds
-returns-else-not-in_table c = rw (c.in-Adt.is, ← c.requires.0.variant_count_lem, ← c.in_table.ensures, c.if-not-in_table.false, ← c.adt_kind.ensures) c.adt_may_have.ensures
+returns-else-not-in_table c = rw (c.in-Adt.is, ← c.requires.0.variant_count_lem, ← c.in_table.ensures, c.if-not-in_table.false, ← c.from.ensures) c.adt_may_have.ensures
 
 pub returns-in-Reference : goal.returns-in-Reference
 unfolding type_shape_holds

@@ -15,4 +15,4 @@ pub operand_bytes-requires : goal.operand_bytes-requires
 operand_bytes-requires c = (c.requires.0, omega (arith, c.requires.0.data_count_lem, operand_lies_lem _ _ c.requires.2 c.operand_at-operand.ensures))
 
 pub returns : goal.returns
-returns c = c.bytes_fit.ensures ∙ constant_at_lem _ _ c.type_at-row.ensures c.type_kind.ensures _ ∙ constant_by_lem _ _ c.operand_at-operand.ensures _ c.operand_bytes.ensures
+returns c = c.bytes_fit.ensures ∙ constant_at_lem _ _ c.type_at-row.ensures c.from.ensures _ ∙ constant_by_lem _ _ c.operand_at-operand.ensures _ c.operand_bytes.ensures

@@ -25,18 +25,18 @@ constant_end_fits-requires c = c.requires
 
 pub returns-in-Int : goal.returns-in-Int
 unfolding literal_fits end_fits
-returns-in-Int c = c.literal_fits.ensures ∙ sym (literal_of _ _ c.operand_at-operand.ensures OperandKind.Int c.operand_kind.ensures c.in-Int.is _) ∙ end_by _ _ c.operand_at-operand.ensures OperandKind.Int c.operand_kind.ensures c.in-Int.is _
+returns-in-Int c = c.literal_fits.ensures ∙ sym (literal_of _ _ c.operand_at-operand.ensures OperandKind.Int c.from.ensures c.in-Int.is _) ∙ end_by _ _ c.operand_at-operand.ensures OperandKind.Int c.from.ensures c.in-Int.is _
 
 pub returns-in-Uint : goal.returns-in-Uint
 unfolding literal_fits end_fits
-returns-in-Uint c = c.literal_fits-in-Uint.ensures ∙ sym (literal_of _ _ c.operand_at-operand.ensures OperandKind.Uint c.operand_kind.ensures c.in-Uint.is _) ∙ end_by _ _ c.operand_at-operand.ensures OperandKind.Uint c.operand_kind.ensures c.in-Uint.is _
+returns-in-Uint c = c.literal_fits-in-Uint.ensures ∙ sym (literal_of _ _ c.operand_at-operand.ensures OperandKind.Uint c.from.ensures c.in-Uint.is _) ∙ end_by _ _ c.operand_at-operand.ensures OperandKind.Uint c.from.ensures c.in-Uint.is _
 
 pub returns-in-Char : goal.returns-in-Char
 unfolding literal_fits end_fits
-returns-in-Char c = c.literal_fits-in-Char.ensures ∙ sym (literal_of _ _ c.operand_at-operand.ensures OperandKind.Char c.operand_kind.ensures c.in-Char.is _) ∙ end_by _ _ c.operand_at-operand.ensures OperandKind.Char c.operand_kind.ensures c.in-Char.is _
+returns-in-Char c = c.literal_fits-in-Char.ensures ∙ sym (literal_of _ _ c.operand_at-operand.ensures OperandKind.Char c.from.ensures c.in-Char.is _) ∙ end_by _ _ c.operand_at-operand.ensures OperandKind.Char c.from.ensures c.in-Char.is _
 
 pub returns-in-Constant : goal.returns-in-Constant
-returns-in-Constant c = c.constant_end_fits.ensures ∙ end_by _ _ c.operand_at-operand.ensures OperandKind.Constant c.operand_kind.ensures c.in-Constant.is _
+returns-in-Constant c = c.constant_end_fits.ensures ∙ end_by _ _ c.operand_at-operand.ensures OperandKind.Constant c.from.ensures c.in-Constant.is _
 
 pub returns-in_default : goal.returns-in_default
-returns-in_default c = no_end _ _ _ (opened c.in_default.in_default-own.keys5) ∙ end_by _ _ c.operand_at-operand.ensures _ c.operand_kind.ensures refl _
+returns-in_default c = no_end _ _ _ (opened c.in_default.in_default-own.keys5) ∙ end_by _ _ c.operand_at-operand.ensures _ c.from.ensures refl _

@@ -55,7 +55,7 @@ returns-in-Slice c = rw c.in-Slice.is c.slice_taken.ensures
 
 pub returns-in-Path : goal.returns-in-Path
 unfolding own_taken
-returns-in-Path c = rw (c.in-Path.is, ← c.path_kind.ensures) c.path_taken.ensures
+returns-in-Path c = rw (c.in-Path.is, ← c.from.ensures) c.path_taken.ensures
 
 pub returns-in-Lit : goal.returns-in-Lit
 unfolding own_taken

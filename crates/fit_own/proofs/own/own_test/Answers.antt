@@ -33,7 +33,7 @@ returns-in-Slice c = rw c.in-Slice.is (slice_tested _ c.kind_of.ensures)
 
 pub returns-in-Path : goal.returns-in-Path
 unfolding own_test
-returns-in-Path c = rw (c.in-Path.is, ← c.path_kind.ensures) c.path_fails.ensures
+returns-in-Path c = rw (c.in-Path.is, ← c.from.ensures) c.path_fails.ensures
 
 pub returns-in-Lit : goal.returns-in-Lit
 unfolding own_test

@@ -10,4 +10,4 @@ pub returns-then-row-ne6 : goal.returns-then-row-ne6
 returns-then-row-ne6 c = no_adt _ _ c.type_at-row.ensures c.requires.0 c.requires.2 c.if-row-ne6.true
 
 pub returns : goal.returns
-returns c = enum_by _ _ c.type_at-row.ensures c.if-row-ne6.false c.adt_kind.ensures c.is_enum_kind.ensures
+returns c = enum_by _ _ c.type_at-row.ensures c.if-row-ne6.false c.from.ensures c.is_enum_kind.ensures

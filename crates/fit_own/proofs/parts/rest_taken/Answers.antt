@@ -11,7 +11,7 @@ pub pat_at-row-requires : goal.pat_at-row-requires
 pat_at-row-requires c = (c.requires.1, omega (arith, c.requires.1.pattern_count_lem, pattern_inside _ _ c.if-rest-eq65535.false c.requires.2))
 
 pub rest_kind_taken-requires : goal.rest_kind_taken-requires
-rest_kind_taken-requires c = binding_inside _ c.args.bindings.now _ c.pat_at-row.ensures c.pat_kind.ensures c.requires.0 (pattern_inside _ _ c.if-rest-eq65535.false c.requires.2) c.requires.3
+rest_kind_taken-requires c = binding_inside _ c.args.bindings.now _ c.pat_at-row.ensures c.from.ensures c.requires.0 (pattern_inside _ _ c.if-rest-eq65535.false c.requires.2) c.requires.3
 
 pub returns : goal.returns
-returns c = rest_by_lem _ _ _ c.if-rest-eq65535.false c.requires.0 (pattern_inside _ _ c.if-rest-eq65535.false c.requires.2) c.pat_at-row.ensures c.pat_kind.ensures c.rest_kind_taken.ensures
+returns c = rest_by_lem _ _ _ c.if-rest-eq65535.false c.requires.0 (pattern_inside _ _ c.if-rest-eq65535.false c.requires.2) c.pat_at-row.ensures c.from.ensures c.rest_kind_taken.ensures

@@ -1,45 +1,54 @@
-use Prim.Native.Nat.{ℕ, ◌<◌}
-use Prim.Native.Nat.{◌-◌}
+use Rattle.std.proofs.Math.Nat.{sub-eq-zero_of_le}
 use native.Mathlib.Omega.{arith}
-use borrow.Author.Rules.{rules}
-use Rattle.fit_rows.specs.Bound.{meets}
-use Rattle.fit_rows.proofs.Rows.{rest_small}
+use Rattle.fit_rows.proofs.Rows.{row_start, behind_small, some_there, next_at}
 use Rattle.fit_rows.proofs.Known.{limits}
 use Rattle.fit_rows.proofs.Walks.{at_pattern, node_telling_lies, node_telling_below}
-use Rattle.fit_rows.proofs.Loops.{Finding, finding_start, finding_none, finding_own, finding_under, finding_more}
+use Rattle.fit_rows.proofs.Loops.{finding_start, finding_at, finding_none, finding_own, finding_under, finding_more}
 use Rattle.fit_rows.proofs.found.+found.Goals as goal
+use Rattle.fit_rows.proofs.found.+found.Goals.{then-wants-via-then-wants, then-wants-via-else-wants+then-found}
 
-pub loop-left-init : goal.loop-left-init
-loop-left-init t c = finding_start c.requires.2
+pub loop-k-init : goal.loop-k-init
+loop-k-init t c = finding_at (row_start c.args.row) (finding_start c.requires.2)
+
+pub behind-requires : goal.behind-requires
+behind-requires t c =
+    let small = limits _ c.requires.0 in
+    behind_small c.args.row c.loop-k.k c.loop-k.invariant.walk.lies c.loop-k-test.true small.patterns small.list
 
 pub first-p-requires : goal.first-p-requires
-first-p-requires t c = (c.requires.1, c.loop-left.invariant.walk.lies, omega (arith, c.loop-left-test.true))
+first-p-requires t c =
+    let F = finding_at c.behind.ensures c.loop-k.invariant in
+    let ne = some_there c.args.row c.loop-k.k c.behind.ensures c.loop-k-test.true in
+    (c.requires.1, F.walk.lies, omega (arith, ne))
 
 pub node_at-node-requires : goal.node_at-node-requires
-node_at-node-requires t c = (c.requires.0, c.requires.1, at_pattern c.loop-left.invariant.walk c.loop-left-test.true c.first-p.ensures)
+node_at-node-requires t c =
+    let F = finding_at c.behind.ensures c.loop-k.invariant in
+    let ne = some_there c.args.row c.loop-k.k c.behind.ensures c.loop-k-test.true in
+    (c.requires.0, c.requires.1, at_pattern F.walk ne c.first-p.ensures)
 
 pub returns-then-wants : goal.returns-then-wants
-returns-then-wants t c = finding_own c.loop-left.invariant c.loop-left-test.true c.requires.0 c.first-p.ensures c.node_at-node.ensures c.wants.ensures c.if-wants.true
+returns-then-wants t c =
+    let F = finding_at c.behind.ensures c.loop-k.invariant in
+    let ne = some_there c.args.row c.loop-k.k c.behind.ensures c.loop-k-test.true in
+    elim c.then-wants.branch [
+      | then-wants-via-then-wants w ↦ finding_own F ne c.requires.0 c.first-p.ensures c.node_at-node.ensures c.wants.ensures w.if-wants.true
+      | then-wants-via-else-wants+then-found w ↦ finding_under F ne c.requires.0 c.first-p.ensures c.node_at-node.ensures c.wants.ensures w.telling.ensures w.found.ensures w.if-found.true
+    ]
 
 pub found-requires : goal.found-requires
 found-requires t c =
+    let F = finding_at c.behind.ensures c.loop-k.invariant in
+    let ne = some_there c.args.row c.loop-k.k c.behind.ensures c.loop-k-test.true in
     let v = c.requires.0 in
-    let low = node_telling_below c.loop-left.invariant.walk c.loop-left-test.true c.first-p.ensures v c.node_at-node.ensures c.telling.ensures in
-    (omega (arith, c.decreases, low), (v, c.requires.1, node_telling_lies c.loop-left.invariant.walk c.loop-left-test.true c.first-p.ensures v c.node_at-node.ensures c.telling.ensures))
+    let low = node_telling_below F.walk ne c.first-p.ensures v c.node_at-node.ensures c.telling.ensures in
+    (omega (arith, c.decreases, low), (v, c.requires.1, node_telling_lies F.walk ne c.first-p.ensures v c.node_at-node.ensures c.telling.ensures))
 
-pub returns-then-found : goal.returns-then-found
-returns-then-found t c = finding_under c.loop-left.invariant c.loop-left-test.true c.requires.0 c.first-p.ensures c.node_at-node.ensures c.wants.ensures c.telling.ensures c.found.ensures c.if-found.true
-
-pub rest-left-requires : goal.rest-left-requires
-rest-left-requires t c =
-    let small = limits _ c.requires.0 in
-    (rest_small c.loop-left.invariant.walk.lies c.loop-left-test.true small.patterns small.list, omega (arith, c.loop-left-test.true))
-
-pub loop-left-smaller : goal.loop-left-smaller
-loop-left-smaller t c = rw c.rest-left.ensures (omega (arith, c.loop-left-test.true))
-
-pub loop-left-preserved : goal.loop-left-preserved
-loop-left-preserved t c = finding_more c.loop-left.invariant c.loop-left-test.true c.requires.0 c.first-p.ensures c.node_at-node.ensures c.wants.ensures c.telling.ensures c.found.ensures c.if-wants.false c.if-found.false c.rest-left.ensures
+pub loop-k-preserved : goal.loop-k-preserved
+loop-k-preserved t c =
+    let F = finding_at c.behind.ensures c.loop-k.invariant in
+    let ne = some_there c.args.row c.loop-k.k c.behind.ensures c.loop-k-test.true in
+    finding_more F ne c.requires.0 c.first-p.ensures c.node_at-node.ensures c.wants.ensures c.telling.ensures c.found.ensures c.if-wants.false c.if-found.false (next_at c.args.row c.loop-k.k c.behind.ensures)
 
 pub returns : goal.returns
-returns t c = finding_none c.loop-left.invariant c.loop-left-test.false
+returns t c = finding_none c.loop-k.invariant (sub-eq-zero_of_le c.loop-k-test.false)

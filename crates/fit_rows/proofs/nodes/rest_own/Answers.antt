@@ -17,4 +17,4 @@ pub rest_by_kind-requires : goal.rest_by_kind-requires
 rest_by_kind-requires c = (c.requires.0, c.requires.1)
 
 pub returns : goal.returns
-returns c = c.rest_by_kind.ensures ∙ rest_is_lem _ _ _ _ c.if-d-eq65535.false c.pat_at-row.ensures c.pat_kind.ensures
+returns c = c.rest_by_kind.ensures ∙ rest_is_lem _ _ _ _ c.if-d-eq65535.false c.pat_at-row.ensures c.from.ensures

@@ -1,17 +1,11 @@
-use Prim.Native.Nat.{◌+◌, ◌*◌, ◌≤◌}
-use mathlib.Core.Path.{◌≡◌, refl, sym, ◌∙◌}
+use Prim.Native.Nat.{◌+◌, ◌*◌, ◌-◌}
+use mathlib.Core.Path.{◌≡◌}
 use mathlib.Core.List.{map}
-use native.Mathlib.Omega.{arith}
-use Rattle.image.specs.Tables.{list_count}
 use Rattle.image.specs.Lists.{distinct}
 use Rattle.image.specs.Rules.{listed}
 use Rattle.image.specs.Tree.{word?}
 use Rattle.meaning.specs.Fit.{field_numbers}
-use Rattle.fit_shapes.proofs.Fielding.{differ_again, differ_next, differ_end}
 use Rattle.fit_shapes.proofs.fields.record_fields_differ.Given as goal
 
-abbrev pub invariant-loop-left : goal.invariant-loop-left
-invariant-loop-left l = (distinct (field_numbers (map word? (listed l.image 2 l.from l.count))) ≡ distinct (field_numbers (map word? (listed l.image 2 l.i l.left)))) × (l.i + 2 * l.left ≤ list_count l.image)
-
-abbrev pub decreases-loop-left : goal.decreases-loop-left
-decreases-loop-left l = l.left
+abbrev pub invariant-loop-k : goal.invariant-loop-k
+invariant-loop-k l = distinct (field_numbers (map word? (listed l.image 2 l.from l.count))) ≡ distinct (field_numbers (map word? (listed l.image 2 (l.from + 2 * l.k) (l.count - l.k))))

@@ -1,5 +1,4 @@
 use native.Mathlib.Omega.{arith}
-use borrow.Author.Tests.{not-true, not-false}
 use Rattle.fit_shapes.proofs.Fielding.{variant_absent, variant_foreign, variant_inside, variant_own}
 use Rattle.fit_shapes.proofs.fields.variant_fields.Goals as goal
 

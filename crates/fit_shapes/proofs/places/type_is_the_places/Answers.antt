@@ -1,4 +1,3 @@
-use borrow.Author.Rules.{rules}
 use Rattle.fit_shapes.proofs.Numbering.{is_none_lem, is_some}
 use Rattle.fit_shapes.proofs.places.type_is_the_places.Goals as goal
 

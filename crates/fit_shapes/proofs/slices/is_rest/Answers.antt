@@ -1,4 +1,3 @@
-use borrow.Author.Rules.{rules}
 use mathlib.Core.Path.{◌∙◌}
 use native.Mathlib.Omega.{arith}
 use Rattle.fit_shapes.proofs.Resting.{pattern_inside, rest_none, rest_there}
@@ -11,4 +10,4 @@ pub pat_at-requires : goal.pat_at-requires
 pat_at-requires c = (c.requires.1, omega (arith, c.requires.1.pattern_count_lem, pattern_inside _ _ c.if-q-eq65535.false c.requires.2))
 
 pub returns : goal.returns
-returns c = c.is_rest_kind.ensures ∙ rest_there _ _ c.if-q-eq65535.false c.requires.0 (pattern_inside _ _ c.if-q-eq65535.false c.requires.2) c.pat_at.ensures c.pat_kind.ensures
+returns c = c.is_rest_kind.ensures ∙ rest_there _ _ c.if-q-eq65535.false c.requires.0 (pattern_inside _ _ c.if-q-eq65535.false c.requires.2) c.pat_at.ensures c.from.ensures

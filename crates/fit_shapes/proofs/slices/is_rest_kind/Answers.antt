@@ -1,5 +1,4 @@
 use borrow.Enum.Refused.{opened}
-use borrow.Author.Rules.{rules}
 use Rattle.fit_shapes.proofs.Defaults.{no_rest_kind}
 use Rattle.fit_shapes.proofs.slices.is_rest_kind.Goals as goal
 

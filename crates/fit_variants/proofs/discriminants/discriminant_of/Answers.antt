@@ -1,4 +1,3 @@
-use borrow.Author.Rules.{rules}
 use native.Mathlib.Omega.{arith}
 use Rattle.fit_variants.proofs.Apart.{discriminant_lies, halves_are}
 use Rattle.fit_variants.proofs.discriminants.discriminant_of.Goals as goal

@@ -1,5 +1,4 @@
 use borrow.Enum.Refused.{opened}
-use borrow.Author.Rules.{rules}
 use mathlib.Core.Path.{refl, sym, ◌∙◌}
 use native.Mathlib.Omega.{arith}
 use Rattle.image.specs.declared.kinds.AdtKind.{AdtKind}
@@ -21,7 +20,7 @@ discriminants_apart-requires c = (c.requires.0, c.requires.1, adt_inside _ _ c.t
 
 pub returns-in-Enum : goal.returns-in-Enum
 unfolding discriminants_differ discriminants
-returns-in-Enum c = c.discriminants_apart.ensures ∙ differ_by _ _ AdtKind.Enum c.type_at-row.ensures c.if-row-ne6.false c.adt_kind.ensures c.in-Enum.is
+returns-in-Enum c = c.discriminants_apart.ensures ∙ differ_by _ _ AdtKind.Enum c.type_at-row.ensures c.if-row-ne6.false c.from.ensures c.in-Enum.is
 
 pub returns-in_default : goal.returns-in_default
-returns-in_default c = no_discriminants _ _ _ (opened c.in_default.in_default-own.keys2) ∙ differ_by _ _ _ c.type_at-row.ensures c.if-row-ne6.false c.adt_kind.ensures refl
+returns-in_default c = no_discriminants _ _ _ (opened c.in_default.in_default-own.keys2) ∙ differ_by _ _ _ c.type_at-row.ensures c.if-row-ne6.false c.from.ensures refl

@@ -1,5 +1,4 @@
 use borrow.Enum.Refused.{opened}
-use borrow.Author.Rules.{rules}
 use Rattle.image.specs.Tree.{target}
 use Rattle.meaning.specs.Fit.{path_fits}
 use Rattle.fit_shapes.proofs.Nodes.{constant_holds_lem}

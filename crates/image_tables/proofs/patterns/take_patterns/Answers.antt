@@ -1,15 +1,12 @@
-use Prim.Native.Nat.{◌-◌, ◌≤◌, ◌<◌}
-use mathlib.Core.Path.{◌≡◌, refl, sym, ap, ◌∙◌}
-use mathlib.Core.Bool.{true}
+use Prim.Native.Nat.{◌<◌}
+use mathlib.Core.Path.{refl, sym, ap, ◌∙◌}
 use native.Mathlib.Omega.{arith}
 use lib.ListN.{length}
 use borrow.Author.Rules.{rules}
-use borrow.Author.Tests.{not-true, not-false}
 use Rattle.image.specs.Tables.{pattern_count}
 use Rattle.image.specs.Lists.{all_below}
-use Rattle.image.specs.Patterns.{pattern_holds}
 use Rattle.image.proofs.Bools.{below_next}
-use Rattle.image_marks.proofs.Uses.{UsesLeft, uses_start, uses_more, uses_refused, uses_end}
+use Rattle.image_marks.proofs.Uses.{uses_start, uses_more, uses_refused, uses_end}
 use Rattle.image_tables.proofs.Walking.{shape_fails, use_fails, patterns_end}
 use Rattle.image_tables.proofs.patterns.take_patterns.Goals as goal
 
@@ -36,12 +33,6 @@ pub returns-then-not-take_subpatterns : goal.returns-then-not-take_subpatterns
 returns-then-not-take_subpatterns c =
     let count = c.requires.0.pattern_count_lem in
     use_fails _ (uses_refused _ _ _ c.loop-p.invariant.0 (omega (arith, c.loop-p-test.true)) (c.if-not-take_subpatterns.true) c.take_subpatterns.ensures)
-
-pub overflow_add-p : goal.overflow_add-p
-overflow_add-p c = omega (arith, c.loop-p-test.true)
-
-pub loop-p-smaller : goal.loop-p-smaller
-loop-p-smaller c = omega (arith, c.loop-p-test.true, c.requires.0.pattern_count_lem)
 
 pub loop-p-preserved : goal.loop-p-preserved
 loop-p-preserved c =

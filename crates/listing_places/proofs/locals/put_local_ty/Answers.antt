@@ -1,4 +1,3 @@
-use borrow.Author.Rules.{rules}
 use borrow.Author.Tests.{eq-eqb, ne_eqb}
 use Rattle.listing_text.specs.Words.{bool_word, usize_word, i128_word, type_word}
 use Rattle.listing_text.specs.Listing.{local_ty_text}

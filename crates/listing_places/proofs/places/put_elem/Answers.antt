@@ -1,4 +1,3 @@
-use borrow.Author.Rules.{rules}
 use Rattle.listing_text.specs.Words.{deref_word, field_word, index_word, from_end_word, subslice_word, dash, downcast_word}
 use Rattle.listing_text.specs.Listing.{elem_text}
 use Rattle.listing_text.proofs.Pieces.{two_then}

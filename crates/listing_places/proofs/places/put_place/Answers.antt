@@ -1,31 +1,16 @@
-use Prim.Native.Nat.{◌-◌}
-use native.Mathlib.Omega.{arith}
 use lib.ListN.{get_or}
-use borrow.Author.Rules.{rules}
-use Rattle.views.specs.Views.{elems_at, path_of}
-use Rattle.listing_text.specs.Listing.{elems_text, place_text}
+use Rattle.views.specs.Views.{path_of}
+use Rattle.listing_text.specs.Listing.{place_text}
 use Rattle.listing_text.proofs.Pieces.{and_then_lem}
-use Rattle.listing_text.proofs.Loops.{Going, going_start, going_more, going_end}
-use Rattle.listing_places.proofs.Texts.{elems_from, elems_begin, elems_more, elems_end}
+use Rattle.listing_text.proofs.Loops.{going_start, going_more, going_end}
+use Rattle.listing_places.proofs.Texts.{elems_begin, elems_more, elems_end}
 use Rattle.listing_places.proofs.places.put_place.Goals as goal
 
 pub loop-j-init : goal.loop-j-init
 loop-j-init c = going_start c.put_decimal-written.ensures (elems_begin c.args.row.now (get_or c.args.row.now 16 0))
 
-pub elem_at-requires : goal.elem_at-requires
-elem_at-requires c = c.requires
-
-pub overflow_add-j : goal.overflow_add-j
-overflow_add-j c = omega (arith, c.loop-j-test.true, c.shared_slice_known-2-1.given 16)
-
-pub loop-j-smaller : goal.loop-j-smaller
-loop-j-smaller c = omega (arith, c.loop-j-test.true)
-
 pub loop-j-preserved : goal.loop-j-preserved
 loop-j-preserved c = going_more c.loop-j.invariant c.put_elem-written.ensures c.put_elem-written.auto.out (elems_more c.args.row.now (get_or c.args.row.now 16 0) c.loop-j.j c.elem_at.result c.loop-j-test.true c.elem_at.ensures)
-
-pub shape_of-out : goal.shape_of-out
-shape_of-out c = omega (arith, c.loop-j.invariant.long, c.put_decimal-written.auto.out)
 
 pub returns : goal.returns
 unfolding place_text path_of

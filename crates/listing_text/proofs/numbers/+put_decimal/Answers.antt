@@ -1,7 +1,4 @@
-use Prim.Native.Nat.{ℕ, ◌<◌}
-use Prim.Native.Nat.{◌+◌}
 use native.Mathlib.Omega.{arith}
-use borrow.Author.Rules.{rules}
 use Rattle.listing_text.proofs.Digits.{one_decimal, more_decimal}
 use Rattle.listing_text.proofs.numbers.+put_decimal.Goals as goal
 

@@ -1,7 +1,4 @@
-use Prim.Native.Nat.{ℕ, ◌<◌}
-use Prim.Native.Nat.{◌+◌}
 use native.Mathlib.Omega.{arith}
-use borrow.Author.Rules.{rules}
 use Rattle.listing_text.proofs.Digits.{one_hex, more_hex}
 use Rattle.listing_text.proofs.numbers.+put_hex.Goals as goal
 

@@ -1,7 +1,4 @@
-use Prim.Native.Nat.{ℕ, ◌<◌}
-use Prim.Native.Nat.{◌+◌}
 use native.Mathlib.Omega.{arith}
-use borrow.Author.Rules.{rules}
 use Rattle.listing_text.proofs.Digits.{no_hex_digits, more_hex_digits}
 use Rattle.listing_text.proofs.numbers.+put_hex_digits.Goals as goal
 

@@ -1,4 +1,3 @@
-use borrow.Author.Rules.{rules}
 use borrow.Author.Tests.{lt-ltb, le-ltb}
 use Rattle.listing_text.specs.Numbers.{hex_digit}
 use Rattle.listing_text.proofs.numbers.hex_digit.Goals as goal

@@ -1,4 +1,3 @@
-use borrow.Author.Rules.{rules}
 use borrow.Author.Tests.{le-leb, lt-leb}
 use Rattle.listing_text.specs.Numbers.{constant_bytes}
 use Rattle.listing_text.proofs.Pieces.{and_then_lem}

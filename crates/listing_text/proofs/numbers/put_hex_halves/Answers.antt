@@ -1,4 +1,3 @@
-use borrow.Author.Rules.{rules}
 use borrow.Author.Tests.{eq-eqb, ne_eqb}
 use Rattle.listing_text.specs.Numbers.{hex_halves}
 use Rattle.listing_text.proofs.Pieces.{and_then_lem}

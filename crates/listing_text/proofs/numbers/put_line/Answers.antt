@@ -1,4 +1,3 @@
-use borrow.Author.Rules.{rules}
 use mathlib.Core.List.{append_assoc}
 use Rattle.listing_text.specs.Words.{newline}
 use Rattle.listing_text.proofs.Pieces.{and_then_lem}

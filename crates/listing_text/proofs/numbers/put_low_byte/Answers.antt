@@ -1,4 +1,3 @@
-use borrow.Author.Rules.{rules}
 use Prim.Native.Nat.{◌/◌, ◌%◌}
 use Rattle.listing_text.proofs.Digits.{two_digits}
 use Rattle.listing_text.proofs.numbers.put_low_byte.Goals as goal

@@ -1,4 +1,3 @@
-use borrow.Author.Rules.{rules}
 use Rattle.listing_text.proofs.Pieces.{and_then_lem}
 use Rattle.listing_text.proofs.numbers.put_numbered.Goals as goal
 

@@ -1,6 +1,5 @@
 use mathlib.Core.Bool.{not}
 use mathlib.Core.Path.{ap}
-use borrow.Author.Rules.{rules}
 use native.Mathlib.Omega.{arith}
 use Rattle.listing_text.proofs.Pieces.{no_room, room, written, stored_one}
 use Rattle.listing_text.proofs.pen.put_byte.Goals as goal

@@ -10,4 +10,4 @@ returns-in_default c = refused_gives _ _ _ _ c.refused_here.ensures (λ text. pa
 
 pub returns : goal.returns
 unfolding use_of name_in
-returns c = gives_as _ (λ text. path_found _ _ _ _ (rw c.in-As.is at c.look_up.ensures)) (rw (← c.cross.ensures) (path_gives _ _ _ _ _ c.path_made.ensures))
+returns c = gives_as _ (λ text. path_found _ _ _ _ (rw c.in-Some.is at c.look_up.ensures)) (rw (← c.cross.ensures) (path_gives _ _ _ _ _ c.path_made.ensures))

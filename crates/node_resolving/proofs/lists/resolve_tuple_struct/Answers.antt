@@ -15,4 +15,4 @@ returns-in_default c = refused_gives _ _ _ _ c.refused_here.ensures (λ text. wh
 
 pub returns : goal.returns
 unfolding use_of name_in resolved_of refused_of making_of parts_of tuple_struct_as
-returns c = gives_as _ (λ text. where_found _ _ _ _ (rw c.in-As.is at c.look_up.ensures)) (rw (← c.cross-c.ensures, ← c.variant_fields-fields.ensures, or_absent_lem c.args.node.more, c.made-making.ensures, c.argument_parts-reads.ensures) (record { same = λ text. refl; parts = refl }))
+returns c = gives_as _ (λ text. where_found _ _ _ _ (rw c.in-Some.is at c.look_up.ensures)) (rw (← c.cross-c.ensures, ← c.variant_fields-fields.ensures, or_absent_lem c.args.node.more, c.made-making.ensures, c.argument_parts-reads.ensures) (record { same = λ text. refl; parts = refl }))

@@ -1,3 +1,5 @@
+use Rattle.refusals.proofs.Passing.{passed}
+use Rattle.std.specs.Prelude.{Err}
 use borrow.Author.Rules.{rules}
 use native.Mathlib.Omega.{arith}
 use Rattle.param_locals.proofs.Making.{self_there, still_declarable, all_no_self, all_no_param, all_declared}
@@ -12,11 +14,11 @@ declare_params-requires c = (still_declarable c.requires.0 (omega (arith, c.decl
 pub declare_bindings-requires : goal.declare_bindings-requires
 declare_bindings-requires c = (c.requires.0.whole, omega (arith, c.declare_params.auto, c.declare_self.auto, c.requires.0.bindings))
 
-pub returns-in-Refused : goal.returns-in-Refused
-returns-in-Refused c = all_no_self _ _ _ (rw c.in-Refused.is at c.declare_self.ensures)
+pub returns-in_err-c1 : goal.returns-in_err-c1
+returns-in_err-c1 c = rw (passed _ _ c.from_residual.ensures.1) (all_no_self _ _ _ (rw c.in_err-c1.was at c.declare_self.ensures))
 
-pub returns-in-Refused-declare_params : goal.returns-in-Refused-declare_params
-returns-in-Refused-declare_params c = all_no_param _ _ _ (rw c.in-Now.is at c.declare_self.ensures) (rw c.in-Refused-declare_params.is at c.declare_params.ensures)
+pub returns-in_err-c2 : goal.returns-in_err-c2
+returns-in_err-c2 c = rw (passed _ _ c.from_residual-in_err-c2.ensures.1) (all_no_param _ _ _ (rw c.in_ok-c1.was at c.declare_self.ensures) (rw c.in_err-c2.was at c.declare_params.ensures))
 
-pub returns-in-Now-declare_params : goal.returns-in-Now-declare_params
-returns-in-Now-declare_params c = all_declared _ _ _ (rw c.in-Now.is at c.declare_self.ensures) (rw c.in-Now-declare_params.is at c.declare_params.ensures) c.declare_bindings.ensures
+pub returns : goal.returns
+returns c = all_declared _ _ _ (rw c.in_ok-c1.was at c.declare_self.ensures) (rw c.in_ok-c2.was at c.declare_params.ensures) c.declare_bindings.ensures

@@ -1,35 +1,31 @@
+use Rattle.refusals.proofs.Passing.{passed}
+use Rattle.std.specs.Prelude.{Err}
+use native.Mathlib.Nat.{sub-zero}
 use native.Mathlib.Omega.{arith}
+use Rattle.std.proofs.Math.Nat.{sub-add-eq, sub-eq-zero_of_le}
+use Rattle.param_locals.proofs.Making.{turns_left}
 use borrow.Author.Rules.{rules}
 use Rattle.body_tables.specs.Layout.{body_of}
 use Rattle.param_locals.proofs.Picking.{BindingsGoing, bindings_begin, bindings_end, binding_there, binding_stops, bindings_again}
 use Rattle.param_locals.proofs.declaring.declare_bindings.Goals as goal
 
-pub loop-left-init : goal.loop-left-init
-loop-left-init c = bindings_begin _ c.requires.0.binding_count_lem c.requires.1
+pub loop-b-init : goal.loop-b-init
+loop-b-init c = rw sub-zero (bindings_begin _ c.requires.0.binding_count_lem c.requires.1)
 
 pub declare_binding-requires : goal.declare_binding-requires
-declare_binding-requires c = (c.requires.0, c.loop-left.invariant.words, binding_there c.loop-left.invariant c.loop-left-test.true)
+declare_binding-requires c = (c.requires.0, c.loop-b.invariant.words, binding_there c.loop-b.invariant (turns_left c.loop-b-test.true))
 
-pub shape_of-bindings-in-Refused : goal.shape_of-bindings-in-Refused
-shape_of-bindings-in-Refused c = omega (arith, c.declare_binding.auto, c.loop-left.invariant.words, c.requires.1)
+pub shape_of-bindings-in_err-c : goal.shape_of-bindings-in_err-c
+shape_of-bindings-in_err-c c = omega (arith, c.declare_binding.auto, c.loop-b.invariant.words, c.requires.1)
 
-pub returns-in-Refused : goal.returns-in-Refused
-returns-in-Refused c = binding_stops c.loop-left.invariant c.loop-left-test.true (rw c.in-Refused.is at c.declare_binding.ensures)
+pub returns-in_err-c : goal.returns-in_err-c
+returns-in_err-c c = rw (passed _ _ c.from_residual.ensures.1) (binding_stops c.loop-b.invariant (turns_left c.loop-b-test.true) c.in_err-c.ensures)
 
-pub overflow_add-b : goal.overflow_add-b
-overflow_add-b c = omega (arith, c.loop-left.invariant.ends, c.loop-left-test.true, c.requires.0.binding_count_lem, c.well_formed)
-
-pub overflow_sub-left : goal.overflow_sub-left
-overflow_sub-left c = omega (arith, c.loop-left-test.true)
-
-pub loop-left-smaller : goal.loop-left-smaller
-loop-left-smaller c = omega (arith, c.loop-left-test.true)
-
-pub loop-left-preserved : goal.loop-left-preserved
-loop-left-preserved c = bindings_again c.loop-left.invariant c.loop-left-test.true (omega (arith, c.declare_binding.auto)) (rw c.in-Now.is at c.declare_binding.ensures)
+pub loop-b-preserved : goal.loop-b-preserved
+loop-b-preserved c = rw sub-add-eq (bindings_again c.loop-b.invariant (turns_left c.loop-b-test.true) (omega (arith, c.declare_binding.auto)) c.in_ok-c.ensures)
 
 pub shape_of-bindings : goal.shape_of-bindings
-shape_of-bindings c = omega (arith, c.loop-left.invariant.words, c.requires.1)
+shape_of-bindings c = omega (arith, c.loop-b.invariant.words, c.requires.1)
 
 pub returns : goal.returns
-returns c = bindings_end c.loop-left.invariant c.loop-left-test.false
+returns c = bindings_end c.loop-b.invariant (sub-eq-zero_of_le c.loop-b-test.false)

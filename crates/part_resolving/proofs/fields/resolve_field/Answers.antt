@@ -17,4 +17,4 @@ returns-in_default c = refused_gives _ _ _ _ c.refused_here.ensures (λ text. rw
 
 pub returns : goal.returns
 unfolding use_of name_in resolved_field resolved_of refused_of making_of parts_of
-returns c = gives_as _ (λ text. field_found _ _ c.args.spelled.now text c.args.node _ _ _ c.field_row-key.ensures (rw c.in-As.is at c.look_up.ensures)) (rw (← c.variant_fields-fields.ensures, c.made-making.ensures) (record { same = λ text. refl; parts = refl }))
+returns c = gives_as _ (λ text. field_found _ _ c.args.spelled.now text c.args.node _ _ _ c.field_row-key.ensures (rw c.in-Some.is at c.look_up.ensures)) (rw (← c.variant_fields-fields.ensures, c.made-making.ensures) (record { same = λ text. refl; parts = refl }))

@@ -12,4 +12,4 @@ returns-in_default c = rw (none_named _ _ (rw c.in_default.is at c.look_up.ensur
 
 pub returns : goal.returns
 unfolding use_of name_in
-returns c = refused_gives _ _ _ _ c.refused_here.ensures (λ text. rest_found _ _ _ _ _ _ (rw c.in-As.is at c.look_up.ensures))
+returns c = refused_gives _ _ _ _ c.refused_here.ensures (λ text. rest_found _ _ _ _ _ _ (rw c.in-Some.is at c.look_up.ensures))

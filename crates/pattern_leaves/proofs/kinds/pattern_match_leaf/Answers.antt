@@ -8,41 +8,41 @@ use Rattle.pattern_leaves.proofs.kinds.pattern_match_leaf.Goals as goal
 
 pub pattern_match_range-requires : goal.pattern_match_range-requires
 pattern_match_range-requires c =
-    let ends = range_holds c.args.image.now c.args.row (sym c.in-Range.is ∙ c.pat_kind.ensures) c.requires.image_value.3 refl in
+    let ends = range_holds c.args.image.now c.args.row (sym c.in-Range.is ∙ c.from.ensures) c.requires.image_value.3 refl in
     record { image_value = (c.requires.image_value.0, c.requires.image_value.1, c.requires.image_value.2, ends.0, ends.1); ready = c.requires.ready }
 
 pub path_leaf-requires : goal.path_leaf-requires
-path_leaf-requires c = record { whole = (c.requires.image_value.1, path_holds_lem c.args.image.now c.args.row (sym c.in-Path.is ∙ c.pat_kind.ensures) c.requires.image_value.3 refl c.path_kind.ensures, c.requires.image_value.4); ready = c.requires.ready }
+path_leaf-requires c = record { whole = (c.requires.image_value.1, path_holds_lem c.args.image.now c.args.row (sym c.in-Path.is ∙ c.from.ensures) c.requires.image_value.3 refl c.from-in-Path.ensures, c.requires.image_value.4); ready = c.requires.ready }
 
 pub pattern_match_lit-requires : goal.pattern_match_lit-requires
-pattern_match_lit-requires c = record { image_value = (c.requires.image_value.0, c.requires.image_value.1, c.requires.image_value.2, literal_holds c.args.image.now c.args.row (sym c.in-Lit.is ∙ c.pat_kind.ensures) c.requires.image_value.3 refl); ready = c.requires.ready }
+pattern_match_lit-requires c = record { image_value = (c.requires.image_value.0, c.requires.image_value.1, c.requires.image_value.2, literal_holds c.args.image.now c.args.row (sym c.in-Lit.is ∙ c.from.ensures) c.requires.image_value.3 refl); ready = c.requires.ready }
 
 pub returns-in-Wild : goal.returns-in-Wild
 unfolding leaf_pattern
-returns-in-Wild c = leaf_passed c.args.image.now c.args.bindings.now _ _ c.args.mode c.args.p c.args.row _ _ c.args.place (sym c.in-Wild.is ∙ c.pat_kind.ensures) refl c.requires.ready.1
+returns-in-Wild c = leaf_passed c.args.image.now c.args.bindings.now _ _ c.args.mode c.args.p c.args.row _ _ c.args.place (sym c.in-Wild.is ∙ c.from.ensures) refl c.requires.ready.1
 
 pub returns-in-Range : goal.returns-in-Range
 unfolding leaf_pattern
-returns-in-Range c = leaf_lowers c.args.image.now c.args.bindings.now _ _ c.args.mode c.args.p c.args.row _ _ c.args.place (sym c.in-Range.is ∙ c.pat_kind.ensures) _ refl c.pattern_match_range.ensures
+returns-in-Range c = leaf_lowers c.args.image.now c.args.bindings.now _ _ c.args.mode c.args.p c.args.row _ _ c.args.place (sym c.in-Range.is ∙ c.from.ensures) _ refl c.pattern_match_range.ensures
 
 pub returns-in-Path : goal.returns-in-Path
-returns-in-Path c = leaf_path c.args.image.now c.args.bindings.now _ _ c.args.mode c.args.p c.args.row _ _ c.args.place (sym c.in-Path.is ∙ c.pat_kind.ensures) refl c.path_kind.ensures c.path_leaf.ensures
+returns-in-Path c = leaf_path c.args.image.now c.args.bindings.now _ _ c.args.mode c.args.p c.args.row _ _ c.args.place (sym c.in-Path.is ∙ c.from.ensures) refl c.from-in-Path.ensures c.path_leaf.ensures
 
 pub returns-in-Lit : goal.returns-in-Lit
 unfolding leaf_pattern
-returns-in-Lit c = leaf_lowers c.args.image.now c.args.bindings.now _ _ c.args.mode c.args.p c.args.row _ _ c.args.place (sym c.in-Lit.is ∙ c.pat_kind.ensures) _ refl c.pattern_match_lit.ensures
+returns-in-Lit c = leaf_lowers c.args.image.now c.args.bindings.now _ _ c.args.mode c.args.p c.args.row _ _ c.args.place (sym c.in-Lit.is ∙ c.from.ensures) _ refl c.pattern_match_lit.ensures
 
 pub returns-in-Expr : goal.returns-in-Expr
 unfolding leaf_pattern
-returns-in-Expr c = leaf_refused c.args.image.now c.args.bindings.now _ _ c.args.mode c.args.p c.args.row _ _ c.args.place (sym c.in-Expr.is ∙ c.pat_kind.ensures) refl
+returns-in-Expr c = leaf_refused c.args.image.now c.args.bindings.now _ _ c.args.mode c.args.p c.args.row _ _ c.args.place (sym c.in-Expr.is ∙ c.from.ensures) refl
 
 pub returns-in-Box : goal.returns-in-Box
 unfolding leaf_pattern
-returns-in-Box c = leaf_refused c.args.image.now c.args.bindings.now _ _ c.args.mode c.args.p c.args.row _ _ c.args.place (sym c.in-Box.is ∙ c.pat_kind.ensures) refl
+returns-in-Box c = leaf_refused c.args.image.now c.args.bindings.now _ _ c.args.mode c.args.p c.args.row _ _ c.args.place (sym c.in-Box.is ∙ c.from.ensures) refl
 
 pub returns-in-Deref : goal.returns-in-Deref
 unfolding leaf_pattern
-returns-in-Deref c = leaf_refused c.args.image.now c.args.bindings.now _ _ c.args.mode c.args.p c.args.row _ _ c.args.place (sym c.in-Deref.is ∙ c.pat_kind.ensures) refl
+returns-in-Deref c = leaf_refused c.args.image.now c.args.bindings.now _ _ c.args.mode c.args.p c.args.row _ _ c.args.place (sym c.in-Deref.is ∙ c.from.ensures) refl
 
 pub returns-in_default : goal.returns-in_default
-returns-in_default c = leaf_refused c.args.image.now c.args.bindings.now _ _ c.args.mode c.args.p c.args.row _ _ c.args.place c.pat_kind.ensures (incomplete _ _ _ _ _ (opened c.in_default.in_default-own.keys8))
+returns-in_default c = leaf_refused c.args.image.now c.args.bindings.now _ _ c.args.mode c.args.p c.args.row _ _ c.args.place c.from.ensures (incomplete _ _ _ _ _ (opened c.in_default.in_default-own.keys8))

@@ -1,30 +1,16 @@
-use mathlib.Core.Path.{◌≡◌, sym, ◌∙◌}
+use mathlib.Core.Path.{sym, ◌∙◌}
 use native.Mathlib.Omega.{arith}
-use Prim.Native.Nat.{◌-◌, ◌≤◌}
-use Rattle.pattern_parts.specs.Parts.{fields_there}
-use Rattle.pattern_parts.proofs.Typing.{fields_left, fields_start, fields_missing, fields_more, fields_end}
+use Rattle.pattern_parts.proofs.Typing.{fields_start, fields_missing, fields_more, fields_end}
 use Rattle.pattern_parts.proofs.adts.fields_there.Goals as goal
 
 pub loop-i-init : goal.loop-i-init
 loop-i-init c = (fields_start _ _ _ _, omega arith)
-
-pub overflow_mul-i : goal.overflow_mul-i
-overflow_mul-i c = omega (arith, c.requires.2, c.loop-i-test.true)
-
-pub overflow_add-from : goal.overflow_add-from
-overflow_add-from c = omega (arith, c.requires.2, c.loop-i-test.true)
 
 pub list_at-requires : goal.list_at-requires
 list_at-requires c = (c.requires.1, omega (arith, c.requires.2, c.loop-i-test.true))
 
 pub returns-then-fields-list_at : goal.returns-then-fields-list_at
 returns-then-fields-list_at c = sym (c.loop-i.invariant.0 ∙ fields_missing _ _ _ _ _ c.loop-i-test.true (omega (arith, c.list_at.ensures, c.if-fields-list_at.true)))
-
-pub overflow_add-i : goal.overflow_add-i
-overflow_add-i c = omega (arith, c.loop-i-test.true)
-
-pub loop-i-smaller : goal.loop-i-smaller
-loop-i-smaller c = omega (arith, c.loop-i-test.true)
 
 pub loop-i-preserved : goal.loop-i-preserved
 loop-i-preserved c = (c.loop-i.invariant.0 ∙ fields_more _ _ _ _ _ c.loop-i-test.true (omega (arith, c.list_at.ensures, c.if-fields-list_at.false)), omega (arith, c.loop-i-test.true))

@@ -13,4 +13,4 @@ returns-then-tables-row c = rw (← c.requires.list_count_lem, ← c.requires.da
 
 pub returns : goal.returns
 unfolding operand_holds
-returns c = rw (← c.requires.list_count_lem, ← c.requires.data_count_lem, le-leb _ _ c.if-tables-o.false, ← c.operand_at-row.ensures, le-leb _ _ c.if-tables-row.false, ← c.operand_kind.ensures, ← c.operand_bytes.ensures) c.operand_value_holds.ensures
+returns c = rw (← c.requires.list_count_lem, ← c.requires.data_count_lem, le-leb _ _ c.if-tables-o.false, ← c.operand_at-row.ensures, le-leb _ _ c.if-tables-row.false, ← c.from.ensures, ← c.operand_bytes.ensures) c.operand_value_holds.ensures

@@ -13,4 +13,4 @@ returns-then-row-gt16 c = rw (← c.pat_at-row.ensures, ← c.requires.0.type_co
 
 pub returns : goal.returns
 unfolding pattern_holds
-returns c = rw (← c.pat_at-row.ensures, ← c.requires.0.type_count_lem, lt-ltb _ _ c.if-tables-row.false, le-leb _ 16 c.if-row-gt16.false, ← c.pat_kind.ensures) c.pattern_shape_holds.ensures
+returns c = rw (← c.pat_at-row.ensures, ← c.requires.0.type_count_lem, lt-ltb _ _ c.if-tables-row.false, le-leb _ 16 c.if-row-gt16.false, ← c.from.ensures) c.pattern_shape_holds.ensures

@@ -24,7 +24,7 @@ returns-in-Slice c = rw (c.in-Slice.is, ← c.requires.list_count_lem) c.in_tabl
 
 pub returns-in-Path : goal.returns-in-Path
 unfolding pattern_shape_holds
-returns-in-Path c = rw (c.in-Path.is, ← c.path_kind.ensures) c.path_holds.ensures
+returns-in-Path c = rw (c.in-Path.is, ← c.from.ensures) c.path_holds.ensures
 
 pub returns-in-Lit : goal.returns-in-Lit
 unfolding pattern_shape_holds

@@ -1,23 +1,24 @@
+use Rattle.refusals.proofs.Passing.{passed_none}
+use Rattle.std.specs.Prelude.{Ok, Err}
 use borrow.Author.Rules.{rules}
 use mathlib.Core.Path.{sym, ◌∙◌}
-use Rattle.state.specs.declared.Stepped.{Stepped}
 use Rattle.pattern_switching.proofs.Branching.{else_then_made}
 use Rattle.pattern_tests.proofs.Measuring.{length_full, length_then_full, length_ends}
 use Rattle.pattern_tests.proofs.lengths.length_switch.Goals as goal
 
-pub returns-in_default : goal.returns-in_default
-returns-in_default c = length_full _ _ _ _ _ _ _ _ _ (sym c.in_default.is ∙ c.else_block.ensures)
+pub returns-in_err-c1 : goal.returns-in_err-c1
+returns-in_err-c1 c = rw (passed_none _ _ _ _ c.from_residual.ensures.1 c.in_err-c1.ensures.ok_part c.in_err-c1.ensures.value) (length_full _ _ _ _ _ _ _ _ _ (sym c.in_err-c1.ensures.ok_part ∙ c.else_block.ensures))
 
-pub returns-in_default-new_basic_block : goal.returns-in_default-new_basic_block
-returns-in_default-new_basic_block c = length_then_full _ _ _ _ _ _ _ _ _ (sym c.in-Block.is ∙ c.else_block.ensures) (sym c.in_default-new_basic_block.is ∙ c.new_basic_block.ensures)
+pub returns-in_err-c2 : goal.returns-in_err-c2
+returns-in_err-c2 c = rw (passed_none _ _ _ _ c.from_residual-in_err-c2.ensures.1 c.in_err-c2.ensures.ok_part c.in_err-c2.ensures.value) (length_then_full _ _ _ _ _ _ _ _ _ (sym c.in_ok-c1.ensures.ok_part ∙ c.else_block.ensures) (sym c.in_err-c2.ensures.ok_part ∙ c.new_basic_block.ensures))
 
 pub length_end-requires : goal.length_end-requires
 length_end-requires c =
-    let M = else_then_made (sym c.in-Block.is ∙ c.else_block.ensures) (sym c.in-Block-new_basic_block.is ∙ c.new_basic_block.ensures) c.requires.1 c.requires.2 in
+    let M = else_then_made (sym c.in_ok-c1.ensures.ok_part ∙ c.else_block.ensures) (sym c.in_ok-c2.ensures.ok_part ∙ c.new_basic_block.ensures) c.requires.1 c.requires.2 in
     (c.requires.0, M.0, M.1)
 
-pub returns-in-Refused : goal.returns-in-Refused
-returns-in-Refused c = length_ends _ _ _ _ _ _ _ _ _ (sym c.in-Block.is ∙ c.else_block.ensures) (Stepped.Refused _) (sym c.in-Block-new_basic_block.is ∙ c.new_basic_block.ensures) c.requires.1 c.requires.2 (rw c.in-Refused.is at c.length_end.ensures)
+pub returns-in-Err : goal.returns-in-Err
+returns-in-Err c = length_ends _ _ _ _ _ _ _ _ _ (sym c.in_ok-c1.ensures.ok_part ∙ c.else_block.ensures) (Err _) (sym c.in_ok-c2.ensures.ok_part ∙ c.new_basic_block.ensures) c.requires.1 c.requires.2 (rw c.in-Err.is at c.length_end.ensures)
 
-pub returns-in-Now : goal.returns-in-Now
-returns-in-Now c = length_ends _ _ _ _ _ _ _ _ _ (sym c.in-Block.is ∙ c.else_block.ensures) (Stepped.Now _) (sym c.in-Block-new_basic_block.is ∙ c.new_basic_block.ensures) c.requires.1 c.requires.2 (rw c.in-Now.is at c.length_end.ensures)
+pub returns-in-Ok : goal.returns-in-Ok
+returns-in-Ok c = length_ends _ _ _ _ _ _ _ _ _ (sym c.in_ok-c1.ensures.ok_part ∙ c.else_block.ensures) (Ok _) (sym c.in_ok-c2.ensures.ok_part ∙ c.new_basic_block.ensures) c.requires.1 c.requires.2 (rw c.in-Ok.is at c.length_end.ensures)

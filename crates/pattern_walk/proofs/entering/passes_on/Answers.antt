@@ -11,4 +11,4 @@ pub returns-then-row-eq65535 : goal.returns-then-row-eq65535
 returns-then-row-eq65535 c = passes_absent _ _ c.if-row-eq65535.true
 
 pub returns : goal.returns
-returns c = passes_by_lem _ _ (sym c.is_check.ensures ∙ c.if-not-is_check.false) c.if-row-eq65535.false c.pat_kind.ensures c.is_bind.ensures
+returns c = passes_by_lem _ _ (sym c.is_check.ensures ∙ c.if-not-is_check.false) c.if-row-eq65535.false c.from.ensures c.is_bind.ensures

@@ -1,9 +1,9 @@
+use Rattle.std.specs.Prelude.{Some}
 use borrow.Author.Rules.{rules}
 use native.Mathlib.Omega.{arith}
 use mathlib.Core.Path.{ap, sym, ◌∙◌}
 use borrow.Author.Tests.{not-true, not-false}
 use Rattle.image.specs.Tables.{tables_of}
-use Rattle.read_image.specs.declared.Read.{Read}
 use Rattle.read_image.proofs.Frames.{cut, loose, over_a_limit, whole_frame}
 use Rattle.read_image.proofs.frame.read_tables.Goals as goal
 
@@ -25,4 +25,4 @@ pub returns : goal.returns
 unfolding tables_of
 returns c =
     let limits = rw c.tables_of-tables.ensures at c.within_limits.ensures in
-    ap Read.Image c.tables_of-tables.ensures ∙ whole_frame _ c.requires (rw c.tables_of-tables.ensures at c.if-image-end.false) (rw c.tables_of-tables.ensures at c.if-image-end-2.false) (sym limits ∙ c.if-not-within_limits.false)
+    ap Some c.tables_of-tables.ensures ∙ whole_frame _ c.requires (rw c.tables_of-tables.ensures at c.if-image-end.false) (rw c.tables_of-tables.ensures at c.if-image-end-2.false) (sym limits ∙ c.if-not-within_limits.false)

@@ -1,14 +1,8 @@
-use mathlib.Core.Path.{◌≡◌, refl, sym, ◌∙◌}
+use mathlib.Core.Path.{sym, ◌∙◌}
 use native.Mathlib.Omega.{arith}
-use borrow.Author.Rules.{rules}
-use Prim.Native.Nat.{◌≤◌, ◌-◌}
-use lib.ListN.{length, drop, get_or}
-use Rattle.text_chars.specs.Gaps.{block_from}
+use lib.ListN.{get_or}
 use Rattle.text_chars.proofs.Loops.{block_on, block_over, depth_grows}
 use Rattle.text_chars.proofs.comments.block_end.Goals as goal
-
-pub loop-at-init : goal.loop-at-init
-loop-at-init c = (omega arith, refl)
 
 pub returns-then-is_end : goal.returns-then-is_end
 returns-then-is_end c = sym (sym c.loop-at.invariant.1 ∙ (block_on _ _ _ _ c.loop-at-test.true ∙ rw (sym c.is_end.ensures ∙ c.if-is_end.true)))

@@ -1,16 +1,8 @@
-use mathlib.Core.Path.{◌≡◌, sym, ◌∙◌}
+use mathlib.Core.Path.{sym, ◌∙◌}
 use native.Mathlib.Omega.{arith}
-use borrow.Author.Rules.{rules}
-use borrow.Author.Tests.{not-true, not-false}
-use Prim.Native.Nat.{◌+◌, ◌-◌}
-use lib.ListN.{length, drop}
-use Rattle.text_chars.specs.Bytes.{run}
 use Rattle.pattern_tokens.specs.Literals.{in_integer}
 use Rattle.text_chars.proofs.Loops.{run_on, run_stops, run_over}
 use Rattle.token_reading.proofs.integers.integer_run.Goals as goal
-
-pub loop-at-init : goal.loop-at-init
-loop-at-init c = omega arith
 
 pub returns-then-not-is_in_integer : goal.returns-then-not-is_in_integer
 returns-then-not-is_in_integer c = let e = run_stops in_integer c.args.bytes.now c.loop-at.at c.loop-at-test.true (sym c.is_in_integer.ensures ∙ c.if-not-is_in_integer.true) in omega (arith, c.loop-at.invariant)

@@ -1,8 +1,8 @@
+use Rattle.std.specs.Prelude.{Some}
 use borrow.Author.Rules.{rules}
 use mathlib.Core.Path.{ap, sym, ◌∙◌}
 use borrow.Author.Tests.{not-true, not-false}
 use Rattle.image.specs.Tables.{tables_of}
-use Rattle.type_sheets.specs.declared.Sheet.{Sheet}
 use Rattle.type_sheets.proofs.Frames.{cut, loose, over_a_limit, whole_frame}
 use Rattle.type_sheets.proofs.frame.read_sheet_tables.Goals as goal
 
@@ -24,4 +24,4 @@ pub returns : goal.returns
 unfolding tables_of
 returns c =
     let limits = rw c.tables_of-tables.ensures at c.within_sheet_limits.ensures in
-    ap Sheet.Tables c.tables_of-tables.ensures ∙ whole_frame _ c.requires (rw c.tables_of-tables.ensures at c.if-sheet-end.false) (rw c.tables_of-tables.ensures at c.if-sheet-end-2.false) (sym limits ∙ c.if-not-within_sheet_limits.false)
+    ap Some c.tables_of-tables.ensures ∙ whole_frame _ c.requires (rw c.tables_of-tables.ensures at c.if-sheet-end.false) (rw c.tables_of-tables.ensures at c.if-sheet-end-2.false) (sym limits ∙ c.if-not-within_sheet_limits.false)

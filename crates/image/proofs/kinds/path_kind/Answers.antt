@@ -1,9 +1,0 @@
-use borrow.Author.Rules.{rules}
-use mathlib.Core.Path.{sym}
-use Rattle.image.specs.declared.kinds.PathKind.{PathKind}
-use Rattle.image.specs.Kinds.{path_kinds}
-use Rattle.image.proofs.Defaults.{default}
-use Rattle.image.proofs.kinds.path_kind.Goals as goal
-
-pub returns-in_default : goal.returns-in_default
-returns-in_default c = sym (default path_kinds PathKind.Unknown c.args.kind c.in_default.in_default-own.rest)
