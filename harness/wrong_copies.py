@@ -196,8 +196,8 @@ CHANGES = (
      "    match new_local(body, counts, I128) {\n"
      "        None => Err(MirLowerError::Limit),\n"
      "        Some((c, l)) => match body_scope_tables::push_entry(body, c, l) {\n"
-     "            mir::scopes::None => Err(MirLowerError::Limit),\n"
-     "            mir::scopes::Some(c1) => Ok((c1, l)),\n"
+     "            None => Err(MirLowerError::Limit),\n"
+     "            Some(c1) => Ok((c1, l)),\n"
      "        },\n"
      "    }\n"),
     ("a half-open range takes its end", "pattern_range_ends/src/lib.rt",

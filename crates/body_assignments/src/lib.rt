@@ -11,7 +11,7 @@ use mir::rvalues::{BinOp, Constant, Left, PlaceRvalue};
 use mir::{BasicBlockId, Counts};
 use place::{LocalId, Place};
 
-// A local is what an rvalue makes of a place.
+// A local is what an rvalue makes of a place. None where the limit is passed.
 pub fn push_assignment(
     body: &mut [u16],
     counts: Counts,
@@ -33,7 +33,7 @@ pub fn push_assignment(
     )
 }
 
-// A local is a constant.
+// A local is a constant. None where the limit is passed.
 pub fn push_constant_assignment(
     body: &mut [u16],
     counts: Counts,
@@ -53,7 +53,7 @@ pub fn push_constant_assignment(
     )
 }
 
-// A local is what an operator makes of an operand and a place.
+// A local is what an operator makes of an operand and a place. None where the limit is passed.
 pub fn push_binary_assignment(
     body: &mut [u16],
     counts: Counts,

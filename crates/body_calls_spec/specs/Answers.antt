@@ -17,29 +17,29 @@ use Rattle.body_calls_spec.specs.declared.CallError.{CallError}
 
 -- `temp`: the counts, and the new local, which is the next one when the call comes
 abbrev pub temp_answer : Counts → Called State → TempCall
-temp_answer c bad_image = (Err CallError.BadImage)
-temp_answer c bad_call = (Err CallError.BadCall)
+temp_answer c bad_image = Err CallError.BadImage
+temp_answer c bad_call = Err CallError.BadCall
 temp_answer c (refused_at e p) = Err (CallError.Refused e)
 temp_answer c (accepted st) = Ok (counts_of st, record { 0 = c.locals })
 
 -- `merge_blocks`: the counts, and the block where both go on
 abbrev pub merge_answer : OptBlock → OptBlock → Counts → Called State → MergeCall
-merge_answer x y c bad_image = (Err CallError.BadImage)
-merge_answer x y c bad_call = (Err CallError.BadCall)
+merge_answer x y c bad_image = Err CallError.BadImage
+merge_answer x y c bad_call = Err CallError.BadCall
 merge_answer x y c (refused_at e p) = Err (CallError.Refused e)
 merge_answer x y c (accepted st) = Ok (counts_of st, merged_at (record { 0 = c.blocks }) x y)
 
 -- `push_drop_scope` and `pop_assume_dropped`: the counts
 abbrev pub scope_answer : Counts → Called State → ScopeCall
-scope_answer c bad_image = (Err CallError.BadImage)
-scope_answer c bad_call = (Err CallError.BadCall)
+scope_answer c bad_image = Err CallError.BadImage
+scope_answer c bad_call = Err CallError.BadCall
 scope_answer c (refused_at e p) = Err (CallError.Refused e)
 scope_answer c (accepted st) = Ok (counts_of st)
 
 -- `pop_and_drop` and `drop_until_scope`: the counts and the block that goes on
 abbrev pub drop_answer : Counts → Called At → DropCall
-drop_answer c bad_image = (Err CallError.BadImage)
-drop_answer c bad_call = (Err CallError.BadCall)
+drop_answer c bad_image = Err CallError.BadImage
+drop_answer c bad_call = Err CallError.BadCall
 drop_answer c (refused_at e p) = Err (CallError.Refused e)
 drop_answer c (accepted at) = Ok (counts_of at.state, at.block)
 

@@ -1,4 +1,4 @@
-// The public calls on a body and its scopes. Here stand the reasons of their refusals, in specs/ what they give and promise, and in proofs/ what all of them rest on.
+// The public calls. Here stand the reasons for which they are refused, in specs/ what the calls on a body and its scopes give and promise, and in proofs/ what these rest on.
 #![tactic(auto)]
 
 ghost use Rattle.std.specs.Prelude.{◌≡◌};
@@ -10,7 +10,9 @@ use refusals::MirLowerError;
 // Which of image and body, with its scopes, was not taken before a call's own step.
 #[derive(Clone, Copy)]
 pub enum Unopened {
+    // The body names nothing: number 2.
     BadCall,
+    // The image breaks a rule: number 1.
     BadImage,
 }
 

@@ -45,7 +45,7 @@ fn mark_dead(
     Ok((c1, block))
 }
 
-// A local leaves: one that is not copy is dropped, and a new block goes on; then it is dead there.
+// A local leaves: one that is not copy is dropped, and a new block goes on; then it is dead there. The counts, and the block that goes on.
 fn emit_drop_and_storage_dead(
     image: &[u8],
     tables: Tables,
@@ -67,7 +67,7 @@ fn emit_drop_and_storage_dead(
     mark_dead(body, c1, next, l)
 }
 
-// The locals of the entries from `start` on, before `end`, leave, the last first.
+// The locals of the entries from `start` on, before `end`, leave, the last first. The counts, and the block that goes on.
 pub fn emit_drop_and_storage_dead_for_scope(
     image: &[u8],
     tables: Tables,

@@ -17,7 +17,7 @@ use mir::{BasicBlockId, Counts};
 use place::LocalId;
 use refusals::MirLowerError;
 
-// A local that is held as it is, or another as the last entry of the last scope.
+// A local that is held as it is, or another as the last entry of the last scope. None where the limit is passed.
 fn record_unless(
     body: &mut [u16; BODY_WORDS],
     counts: Counts,

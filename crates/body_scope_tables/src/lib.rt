@@ -10,7 +10,7 @@ use body_tables::{BODY_WORDS, ENTRIES, SCOPES};
 use mir::Counts;
 use place::LocalId;
 
-// A new scope, with no entry.
+// A new scope, with no entry. None where the limit is passed.
 pub fn push_scope(body: &mut [u16], counts: Counts) -> Option<Counts>
     requires { length body.old ≡ body_words }
     ensures { (result ≡ new_scope counts) × (body_of body.new ≡ with_scopes (body_of body.old) (scopes_after counts (body_of body.old).scopes)) }
@@ -42,7 +42,7 @@ pub fn clear_scope(body: &mut [u16], i: u16)
     set_word(&mut body[SCOPES..ENTRIES], i, 0);
 }
 
-// A local as the last entry of the last scope.
+// A local as the last entry of the last scope. None where the limit is passed.
 pub fn push_entry(body: &mut [u16], counts: Counts, l: LocalId) -> Option<Counts>
     requires { length body.old ≡ body_words }
     ensures { (result ≡ new_entry counts) × (body_of body.new ≡ with_entries (body_of body.old) (entries_after counts (body_of body.old).entries l.0)) }

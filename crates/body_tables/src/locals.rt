@@ -7,7 +7,7 @@ use super::{LOCALS, SCOPES};
 use mir::Counts;
 use place::LocalId;
 
-// A new local of the type that the word says.
+// A new local of the type that the word says. None where the limit is passed.
 pub fn new_local(body: &mut [u16], counts: Counts, ty: u16) -> Option<(Counts, LocalId)>
     requires { length body.old ≡ body_words }
     ensures { (result ≡ new_local counts) × (body_of body.new ≡ with_locals (body_of body.old) (locals_after counts (body_of body.old).locals ty)) }

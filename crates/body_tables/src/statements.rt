@@ -8,7 +8,7 @@ use super::{LOCALS, STATEMENTS};
 use mir::{BasicBlockId, Counts};
 use place::LocalId;
 
-// StorageLive of a local.
+// StorageLive of a local. None where the limit is passed.
 pub fn push_live(
     body: &mut [u16],
     counts: Counts,
@@ -21,7 +21,7 @@ pub fn push_live(
     mir_statements::push_live(&mut body[STATEMENTS..LOCALS], counts, block, l)
 }
 
-// StorageDead of a local.
+// StorageDead of a local. None where the limit is passed.
 pub fn push_dead(
     body: &mut [u16],
     counts: Counts,

@@ -26,7 +26,7 @@ fn times_ten(half: u64, plus: u64) -> Carried
     }
 }
 
-// The value of the integer whose digits stand between two positions of a text.
+// The value of the integer whose digits stand between two positions of a text, in two halves, the low one first; none where 16 bytes do not hold it.
 pub fn integer_value(text: &[u8], from: usize, to: usize) -> Option<(u64, u64)>
     ensures { result ≡ integer_value text.now from to }
 {

@@ -17,7 +17,7 @@ use image::Tables;
 use image::rows::PatRow;
 use node_rows::MakingRow;
 
-// A Bind.
+// A Bind. None where a limit is passed.
 pub fn put_bind(
     sheet: &[u8],
     tables: Tables,

@@ -24,7 +24,7 @@ pub struct BoundWords {
     pub copy: u16,
 }
 
-// The type that a name is bound at.
+// The type that a name is bound at. None where a limit is passed.
 fn with_bound(
     sheet: &[u8],
     tables: Tables,
@@ -58,7 +58,7 @@ fn reference_flag(mode: u16) -> u16
     0
 }
 
-// The type of a binding: by value what it is bound at, else a reference to it.
+// The type of a binding: by value what it is bound at, else a reference to it. None where a limit is passed.
 fn with_mode(
     sheet: &[u8],
     tables: Tables,

@@ -14,7 +14,7 @@ use draft_tables::DraftCounts;
 use image::Tables;
 use node_rows::MakingRow;
 
-// The binding of a row's name: the one that it has, or a new one.
+// The binding of a row's name: the one that it has, or a new one. None where a limit is passed.
 pub fn with_binding(
     sheet: &[u8],
     tables: Tables,

@@ -36,7 +36,7 @@ fn making_at(makings: &[u16], i: usize) -> MakingRow
     }
 }
 
-// Kinds 5 to 7: a Range, a Bind and a Ref.
+// Kinds 5 to 7: a Range, a Bind and a Ref. None where a limit is passed.
 fn put_node(
     sheet: &[u8],
     tables: Tables,
@@ -59,7 +59,7 @@ fn put_node(
     put_reference(tables, draft, c, row.ty, row.parts)
 }
 
-// The making i, added to the draft.
+// The making i, added to the draft. None where a limit is passed.
 pub fn emit_one(
     sheet: &[u8],
     tables: Tables,

@@ -24,7 +24,7 @@ fn list_words(kind: u16, parts: u16) -> u16
     parts
 }
 
-// Kinds 8 and up: a row with a list, a Slice, and a field.
+// Kinds 8 and up: a row with a list, a Slice, and a field. None where a limit is passed.
 pub fn put_joined(
     tables: Tables,
     draft: &mut [u16],

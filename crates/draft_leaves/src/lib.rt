@@ -19,7 +19,7 @@ use image::Tables;
 use image::rows::PatRow;
 use node_rows::MakingRow;
 
-// A row without a list: its pattern kind in `a`, its words in `b` and `c`.
+// A row without a list: its pattern kind in `a`, its words in `b` and `c`. None where a limit is passed.
 fn put_row(tables: Tables, draft: &mut [u16], c: DraftCounts, row: MakingRow) -> Option<DraftCounts>
     requires { (length draft.old ≡ 40704) × (DraftRoom tables c × ((c.height < 16384) × (row.parts ≤ c.height))) }
     ensures { SheetsStepped tables draft.old c (node_step (row_made (pattern_row row.a row.ty row.derefs row.b row.c 0 0)) row.parts) result draft.new }
@@ -37,7 +37,7 @@ fn put_row(tables: Tables, draft: &mut [u16], c: DraftCounts, row: MakingRow) ->
     put_pattern(tables, draft, low, pattern)
 }
 
-// Kinds 0 to 4: nothing at all, a row, a literal, and the bounds of ranges.
+// Kinds 0 to 4: nothing at all, a row, a literal, and the bounds of ranges. None where a limit is passed.
 pub fn put_leaf(
     tables: Tables,
     text: &[u8],

@@ -33,7 +33,7 @@ fn with_list(row: PatRow, from: u16, parts: u16) -> PatRow
     }
 }
 
-// A row with the list of its parts, whose words are so many.
+// A row with the list of its parts, whose words are so many. None where a limit is passed.
 pub fn put_list(
     tables: Tables,
     draft: &mut [u16],

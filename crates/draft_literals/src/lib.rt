@@ -13,7 +13,7 @@ use draft_tables::{DraftCounts, push_stack};
 use image::Tables;
 use image::rows::PatRow;
 
-// A Lit.
+// A Lit. None where a limit is passed.
 pub fn put_literal(
     tables: Tables,
     draft: &mut [u16],
@@ -40,7 +40,7 @@ pub fn put_literal(
     put_pattern(tables, draft, at_height(added, base), row)
 }
 
-// A bound of a range: its operand's place on the stack.
+// A bound of a range: its operand's place on the stack. None where a limit is passed.
 pub fn put_operand(
     tables: Tables,
     draft: &mut [u16],

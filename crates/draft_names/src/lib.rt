@@ -30,7 +30,7 @@ fn name_bytes(names: &[u8], from: u16, to: u16) -> &[u8]
     &names[start..end]
 }
 
-// The first of so many added bindings whose name is this.
+// The first of so many added bindings whose name is this, or none.
 pub fn binding_of(names: &[u8], draft: &[u16], many: u16, from: u16, to: u16) -> Option<u16>
     requires { (length draft.now ≡ 40704) × (many ≤ 256) }
     ensures { found_binding result ≡ first_from (λ b. same_word (name_of_words names.now (row_at 2 (drop 5376 draft.now) b)) (bytes_from names.now from to)) 0 many }

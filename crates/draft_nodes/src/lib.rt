@@ -25,7 +25,7 @@ pub fn first_word(draft: &[u16], base: u16, parts: u16) -> u16
     stack_word(draft, base)
 }
 
-// A Ref.
+// A Ref. None where a limit is passed.
 pub fn put_reference(
     tables: Tables,
     draft: &mut [u16],
@@ -49,7 +49,7 @@ pub fn put_reference(
     put_pattern(tables, draft, at_height(c, base), row)
 }
 
-// A bound that is a constant: its list word.
+// A bound that is a constant: its list word. None where a limit is passed.
 pub fn put_constant(
     tables: Tables,
     draft: &mut [u16],
@@ -65,7 +65,7 @@ pub fn put_constant(
     Some(push_stack(draft, low, &words, 1))
 }
 
-// A field: its number, and its pattern's.
+// A field: its number, and its pattern's. None where a limit is passed.
 pub fn put_field(
     tables: Tables,
     draft: &mut [u16],
@@ -101,7 +101,7 @@ fn bound_word(draft: &[u16], at: u16, flag: u16) -> u16
     65535
 }
 
-// A Range: it has a lower bound, an upper one, `..`, where the word is 1.
+// A Range: it has a lower bound, an upper one, `..`, where the word is 1. None where a limit is passed.
 pub fn put_range(
     tables: Tables,
     draft: &mut [u16],

@@ -115,7 +115,7 @@ pub fn literal_bytes(text: &[u8], sort: u16, from: u16, to: u16) -> LiteralBytes
     operand_of(1, minus.low, minus.high, 16)
 }
 
-// A literal's operand behind the list words and the data that are there: its kind, where its bytes begin and how many they are.
+// A literal's operand behind the list words and the data that are there: its kind, where its bytes begin and how many they are. None where a limit is passed.
 pub fn add_operand(
     tables: Tables,
     draft: &mut [u16],

@@ -10,7 +10,7 @@ use draft_tables::{DraftCounts, push_pattern, push_stack};
 use image::Tables;
 use image::rows::PatRow;
 
-// A pattern behind those that are there, and its number on the stack.
+// A pattern behind those that are there, and its number on the stack. None where a limit is passed.
 pub fn put_pattern(
     tables: Tables,
     draft: &mut [u16],

@@ -17,7 +17,7 @@ use draft_tables::{DraftCounts, push_list, stack_word};
 use image::Tables;
 use image::rows::PatRow;
 
-// A Slice whose items have a rest behind so many of them: the others are its list, "prefix and then suffix".
+// A Slice whose items have a rest behind so many of them: the others are its list, "prefix and then suffix". None where a limit is passed.
 fn put_rest_slice(
     tables: Tables,
     draft: &mut [u16],
@@ -52,7 +52,7 @@ fn put_rest_slice(
     put_pattern(tables, draft, at_height(listed, base), row)
 }
 
-// A Slice: how many of its items stand before its rest, or 65535.
+// A Slice: how many of its items stand before its rest, or 65535. None where a limit is passed.
 pub fn put_slice(
     tables: Tables,
     draft: &mut [u16],

@@ -58,7 +58,7 @@ fn type_from(sheet: &[u8], tables: Tables, draft: &[u16], t: u16) -> TypeRow
     added_type(draft, t - tables.types.count)
 }
 
-// The first of so many types that is like a row.
+// The first of so many types that is like a row, or none.
 pub fn like_type(
     sheet: &[u8],
     tables: Tables,
@@ -77,7 +77,7 @@ pub fn like_type(
     None
 }
 
-// A type's number: that of the first one like it, or it is added.
+// A type's number: that of the first one like it, or it is added. None where a limit is passed.
 pub fn with_type(
     sheet: &[u8],
     tables: Tables,

@@ -1,2 +1,2 @@
-// Drop scopes: they are opened, their locals leave, and they are closed. Here stands the answer of locals that leave, and in specs/ what the steps do.
+// Drop scopes: they are opened, their locals leave, and they are closed. What the steps do is defined in specs/.
 #![tactic(auto)]

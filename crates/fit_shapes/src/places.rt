@@ -11,7 +11,7 @@ ghost use Rattle.fit_shapes.specs.Numbers.{type_number, names_type?, Numbers};
 use image::Tables;
 use image::rows::{PatRow, type_at};
 
-// What a reference refers to.
+// What a reference refers to; none where the type is no reference.
 pub fn referent_of(image: &[u8], tables: Tables, t: u16) -> Option<u16>
     requires { (valid image.now ≡ true) × Whole image.now tables × (t < type_count image.now) }
     ensures { Numbers image.now result (referent (ty_of image.now t).shape) }
@@ -23,7 +23,7 @@ pub fn referent_of(image: &[u8], tables: Tables, t: u16) -> Option<u16>
     Some(row.a)
 }
 
-// The type behind so many references.
+// The type behind so many references, if there are as many.
 fn type_behind(image: &[u8], tables: Tables, derefs: u16, place: Option<u16>) -> Option<u16>
     requires { (valid image.now ≡ true) × Whole image.now tables × (names_type? image.now (type_number place) ≡ true) }
     ensures { type_number result ≡ behind image.now derefs (type_number place) }
@@ -46,7 +46,7 @@ pub fn type_is_the_places(image: &[u8], tables: Tables, row: PatRow, place: Opti
     }
 }
 
-// The type of the elements of an array or a slice.
+// The type of the elements of an array or a slice; none where the type is neither.
 pub fn element_type(image: &[u8], tables: Tables, t: u16) -> Option<u16>
     requires { (valid image.now ≡ true) × Whole image.now tables × (t < type_count image.now) }
     ensures { Numbers image.now result (element_type (ty_of image.now t).shape) }

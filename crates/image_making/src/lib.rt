@@ -10,7 +10,7 @@ use draft_tables::DraftCounts;
 use image::Tables;
 use image_writing::{IMAGE_BYTES, write_image};
 
-// The first n makings, added to an empty draft.
+// The first n makings, added to an empty draft. None where a limit is passed.
 fn emit_rows(
     sheet: &[u8],
     tables: Tables,

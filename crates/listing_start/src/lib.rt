@@ -31,7 +31,7 @@ fn leads_to(image: &[u8], tables: Tables, t: u16, derefs: u16, ty: u16) -> bool
     here == ty
 }
 
-// The type of local 0.
+// The type of local 0: the lowest-numbered that leads to the last pattern's, or none.
 pub fn start_type(image: &[u8], tables: Tables) -> Option<u16>
     requires { (valid image.now ≡ true) × Whole image.now tables }
     ensures { (start_type_of result ≡ start_type image.now) × IsType image.now result }

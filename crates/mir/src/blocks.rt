@@ -19,7 +19,7 @@ pub enum Terminator {
     Drop(LocalId, BasicBlockId),
 }
 
-// A new block, open.
+// A new block, open. None where the limit is passed.
 pub fn new_basic_block(counts: Counts) -> Option<(Counts, BasicBlockId)>
     ensures { result ≡ new_block counts }
 {

@@ -13,7 +13,7 @@ pub const USIZE: u16 = 257;
 
 pub const I128: u16 = 258;
 
-// A new local of the type that the word says.
+// A new local of the type that the word says. None where the limit is passed.
 pub fn new_local(locals: &mut [u16], counts: Counts, ty: u16) -> Option<(Counts, LocalId)>
     requires { length locals.old ≡ 512 }
     ensures { (result ≡ new_local counts) × (locals.new ≡ locals_after counts locals.old ty) }

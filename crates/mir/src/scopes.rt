@@ -6,7 +6,7 @@ ghost use Rattle.mir.specs.Scopes.{new_scope, scopes_after, new_entry, entries_a
 use super::Counts;
 use place::LocalId;
 
-// A new scope, with no entry.
+// A new scope, with no entry. None where the limit is passed.
 pub fn push_scope(scopes: &mut [u16], counts: Counts) -> Option<Counts>
     requires { length scopes.old ≡ 32 }
     ensures { (result ≡ new_scope counts) × (scopes.new ≡ scopes_after counts scopes.old) }
@@ -23,7 +23,7 @@ pub fn push_scope(scopes: &mut [u16], counts: Counts) -> Option<Counts>
     })
 }
 
-// A local as the last entry of the last scope.
+// A local as the last entry of the last scope. None where the limit is passed.
 pub fn push_entry(entries: &mut [u16], counts: Counts, l: LocalId) -> Option<Counts>
     requires { length entries.old ≡ 1024 }
     ensures { (result ≡ new_entry counts) × (entries.new ≡ entries_after counts entries.old l.0) }

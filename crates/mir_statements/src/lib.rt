@@ -35,7 +35,7 @@ fn split_elems(elems: &[u32], words: &mut [u16])
     }
 }
 
-// A statement at the end of the table: its block, its kind, the local that it is about, its left operand and its place.
+// A statement at the end of the table: its block, its kind, the local that it is about, its left operand and its place. None where the limit is passed.
 pub fn push_statement(
     statements: &mut [u16],
     counts: Counts,
@@ -114,7 +114,7 @@ fn binary_kind(op: BinOp) -> u16
     }
 }
 
-// StorageLive of a local.
+// StorageLive of a local. None where the limit is passed.
 pub fn push_live(
     statements: &mut [u16],
     counts: Counts,
@@ -133,7 +133,7 @@ pub fn push_live(
     )
 }
 
-// StorageDead of a local.
+// StorageDead of a local. None where the limit is passed.
 pub fn push_dead(
     statements: &mut [u16],
     counts: Counts,
@@ -152,7 +152,7 @@ pub fn push_dead(
     )
 }
 
-// A local set to what is made of a place.
+// A local set to what is made of a place. None where the limit is passed.
 pub fn push_assignment(
     statements: &mut [u16],
     counts: Counts,
@@ -175,7 +175,7 @@ pub fn push_assignment(
     )
 }
 
-// A local set to a constant.
+// A local set to a constant. None where the limit is passed.
 pub fn push_constant_assignment(
     statements: &mut [u16],
     counts: Counts,
@@ -196,7 +196,7 @@ pub fn push_constant_assignment(
     )
 }
 
-// A local set to what an operator makes of a left operand and a copy of a place.
+// A local set to what an operator makes of a left operand and a copy of a place. None where the limit is passed.
 pub fn push_binary_assignment(
     statements: &mut [u16],
     counts: Counts,

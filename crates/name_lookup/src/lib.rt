@@ -24,7 +24,7 @@ fn row_is_named(names: &[u8], wanted: NameUse, name: &[u8], i: u16) -> bool
     is_same_word(&names[from..to], name)
 }
 
-// The first row that serves a use and has this name.
+// The first row that serves a use and has this name, or none.
 pub fn row_for(names: &[u8], wanted: NameUse, name: &[u8]) -> Option<u16>
     requires { NameBytesWithin names.now }
     ensures { found_in result ≡ row_for names.now (use_of wanted) name.now }

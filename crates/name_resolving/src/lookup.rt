@@ -26,7 +26,7 @@ fn name_bytes(spelled: &[u8], from: u16, to: u16) -> &[u8]
     &spelled[first..last]
 }
 
-// What a node's name is, for a use.
+// What a node's name is, for a use: its kind and its number, or none where the table lacks it.
 pub fn look_up(names: &[u8], wanted: NameUse, spelled: &[u8], node: NodeRow) -> Option<(u16, u16)>
     requires { NameBytesWithin names.now }
     ensures { result ≡ named_as names.now (row_for names.now (use_of wanted) (bytes_from spelled.now node.from node.to)) }

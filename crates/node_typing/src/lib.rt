@@ -23,7 +23,7 @@ pub const WAITING_WIDTH: usize = 7;
 
 pub const WAITING_WORDS: usize = WAITING_WIDTH * (TEXT_BYTES + 1);
 
-// The rows below n, the last first, with so many parents waiting.
+// The rows below n, the last first, with so many parents waiting. The first position that is refused, or none.
 fn type_rows(
     sheet: &[u8],
     tables: Tables,
@@ -51,7 +51,7 @@ fn type_rows(
     refused
 }
 
-// The rows of nodes, read at the expected type.
+// The rows of nodes, read at the expected type. The first position that is refused, or none.
 pub fn type_nodes(
     sheet: &[u8],
     tables: Tables,

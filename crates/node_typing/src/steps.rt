@@ -8,7 +8,7 @@ use image::Tables;
 use node_resolving::resolve;
 use typing_state::stack::{leave_part, next_context, wait_for};
 
-// How many parents wait, and whether the row is refused.
+// How many parents wait, and the position at which the row is refused, if it is.
 #[derive(Clone, Copy)]
 pub struct TypedRow {
     pub depth: usize,

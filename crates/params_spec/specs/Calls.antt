@@ -80,8 +80,8 @@ params_call image words self bindings b c current =
 
 -- the answer: the counts, the block to go on from and the first parameter's local, which is the next one when the call comes
 abbrev pub params_answer : Counts → Called ParamsOut → ParamsCall
-params_answer c bad_image = (Err PatternCallError.BadImage)
-params_answer c bad_call = (Err PatternCallError.BadCall)
+params_answer c bad_image = Err PatternCallError.BadImage
+params_answer c bad_call = Err PatternCallError.BadCall
 params_answer c (refused_at e p) = Err (PatternCallError.Refused e (record { 0 = p }))
 params_answer c (accepted r) = Ok (counts_of r.ctx.state, r.then, record { 0 = c.locals })
 

@@ -69,6 +69,7 @@ fn assignment_step(
 }
 
 // The pattern p, whose paths to locals are assigned to from the block `current` on, what lies at a place. `visits` counts how often each pattern was visited.
+// The answer: the counts, the block where a match goes on, and the one where a mismatch does.
 pub fn pattern_match_assignment(
     image: &[u8],
     bindings: &[u16],

@@ -45,8 +45,8 @@ match_self_param_call image bindings b c binding current l =
 
 -- the answer: the counts, then and else, or why it was refused
 abbrev pub match_answer : Counts → Called Out → MatchCall
-match_answer c bad_image = (Err PatternCallError.BadImage)
-match_answer c bad_call = (Err PatternCallError.BadCall)
+match_answer c bad_image = Err PatternCallError.BadImage
+match_answer c bad_call = Err PatternCallError.BadCall
 match_answer c (refused_at e p) = Err (PatternCallError.Refused e (record { 0 = p }))
 match_answer c (accepted r) = Ok (counts_of r.ctx.state, r.then, r.else)
 

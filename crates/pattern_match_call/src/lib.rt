@@ -58,6 +58,7 @@ fn match_step(
 }
 
 // The pattern p, tested and then bound from the block `current` on, against what lies at a place. `visits` counts how often each pattern was visited.
+// The answer: the counts, the block where a match goes on, and the one where a mismatch does.
 pub fn pattern_match(
     image: &[u8],
     bindings: &[u16],

@@ -29,7 +29,7 @@ fn fresh() -> ParseState
     }
 }
 
-// Token by token.
+// Token by token. How many nodes the text has, or the position at which it fails.
 fn parse_tokens(
     text: &[u8],
     nodes: &mut [u16; NODE_WORDS],
@@ -55,7 +55,7 @@ fn parse_tokens(
     }
 }
 
-// The rows of a text's nodes; their names are spelled in `names`.
+// The rows of a text's nodes; their names are spelled in `names`. How many there are, or the position at which the text fails.
 pub fn parse_pattern(
     text: &[u8],
     nodes: &mut [u16; NODE_WORDS],

@@ -49,7 +49,7 @@ fn needed_ty(ty: PlaceTy) -> Result<Option<u16>, MirLowerError>
     }
 }
 
-// A tuple is needed.
+// A tuple is needed: how many fields it has.
 pub fn tuple_at(image: &[u8], tables: Tables, ty: PlaceTy) -> Result<u16, MirLowerError>
     requires { (valid image.now ≡ true) × Whole image.now tables × Named image.now ty }
     ensures { tuple_result result ≡ tuple_at (shape_of image.now ty) }

@@ -21,7 +21,7 @@ use pattern_walk_spec::Lowered;
 use place::{LocalId, Place};
 use refusals::MirLowerError;
 
-// The else that there is, or a new block.
+// The else that there is, or a new block. None where the limit is passed.
 pub fn else_block(counts: Counts, els: Option<BasicBlockId>) -> Option<(Counts, BasicBlockId)>
     ensures { result ≡ else_made counts els }
 {

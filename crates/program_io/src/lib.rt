@@ -10,7 +10,7 @@ fn tell_read(rt: &impl Eprint) {
     let _ = eprintln!(rt; "standard input could not be read");
 }
 
-// Reads until the buffer is full or the input ends.
+// Reads until the buffer is full or the input ends. How many bytes stand at the start of the buffer; none where a read failed, which is told.
 pub fn read_input(rt: &impl Eprint, input: &mut impl Read, buffer: &mut [u8]) -> Option<usize>
     ensures { InputFits result (length buffer.old) }
 {

@@ -33,7 +33,7 @@ fn words_of(bytes: &[u8], words: &mut [u16], count: usize)
     }
 }
 
-// So many words, where they fit.
+// So many words, where they fit. How many; none where the list has ended, or they do not fit.
 fn read_words(
     input: &mut impl Read,
     bytes: &mut [u8],
@@ -54,7 +54,7 @@ fn read_words(
     Some(count)
 }
 
-// A number of four bytes, big-endian, and as many words of two bytes, big-endian.
+// A number of four bytes, big-endian, and as many words of two bytes, big-endian. How many; none where the list has ended, or they do not fit.
 pub fn next_words(input: &mut impl Read, words: &mut [u16]) -> Option<usize>
     requires { length words.old ≤ 4096 }
     ensures { ReadWithin result (length words.old) }
@@ -64,7 +64,7 @@ pub fn next_words(input: &mut impl Read, words: &mut [u16]) -> Option<usize>
     read_words(input, &mut bytes, words, count)
 }
 
-// An image of n bytes and z zeros.
+// An image of n bytes and z zeros. How many bytes it has; none where the list has ended, or they do not fit.
 fn read_entry(input: &mut impl Read, buffer: &mut [u8], n: usize, z: usize) -> Option<usize>
     requires { (n < 4294967296) × (z < 4294967296) }
     ensures { Fits result (length buffer.old) }
@@ -80,7 +80,7 @@ fn read_entry(input: &mut impl Read, buffer: &mut [u8], n: usize, z: usize) -> O
     Some(end)
 }
 
-// The image of the record whose sort was read.
+// The image of the record whose sort was read. How many bytes it has; none where the list has ended, or they do not fit.
 pub fn next_entry(input: &mut impl Read, buffer: &mut [u8]) -> Option<usize>
     ensures { Fits result (length buffer.old) }
 {
@@ -89,7 +89,7 @@ pub fn next_entry(input: &mut impl Read, buffer: &mut [u8]) -> Option<usize>
     read_entry(input, buffer, n, z)
 }
 
-// A number of four bytes, big-endian, and as many bytes.
+// A number of four bytes, big-endian, and as many bytes. How many bytes it has; none where the list has ended, or they do not fit.
 pub fn next_bytes(input: &mut impl Read, buffer: &mut [u8]) -> Option<usize>
     ensures { Fits result (length buffer.old) }
 {

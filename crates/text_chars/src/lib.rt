@@ -41,7 +41,7 @@ fn is_whitespace(v: u32) -> bool
     is_in(v as u64, &WHITESPACE)
 }
 
-// The scalar value with which the bytes begin.
+// The scalar value with which the bytes begin, and how many bytes it has behind its first; none where they begin with none.
 pub fn scalar_of(bytes: &[u8]) -> Option<(u32, usize)>
     ensures { result ≡ scalar_of bytes.now }
 {
@@ -67,7 +67,7 @@ fn gap_of(bytes: &[u8]) -> Gap
     }
 }
 
-// Where the next token begins.
+// Where the next token begins, or where a comment before it is broken.
 pub fn start_of(text: &[u8], at: usize) -> Result<usize, usize>
     ensures { result ≡ start_of text.now at }
 {
