@@ -65,7 +65,7 @@ fn receiver_apart(
 {
     match receiver {
         None => true,
-        Some((b, ty)) => none_binds_receiver(image, tables, b, words),
+        Some((b, _)) => none_binds_receiver(image, tables, b, words),
     }
 }
 

@@ -13,7 +13,7 @@ pub fn self_count(receiver: Option<(BindingId, u16)>) -> u16
 {
     match receiver {
         None => 0,
-        Some((b, ty)) => 1,
+        Some(_) => 1,
     }
 }
 

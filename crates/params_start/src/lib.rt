@@ -49,7 +49,7 @@ pub fn many_of(receiver: Option<(BindingId, u16)>, size: usize) -> u16
     let count = (size / 2) as u16;
     match receiver {
         None => count,
-        Some((_, _)) => count + 1,
+        Some(_) => count + 1,
     }
 }
 

@@ -57,10 +57,10 @@ pub fn pattern_match_binding(
         Ok(l) => match push_storage_live_for_local(body, counts, l, current) {
             Err(e) => Err((e, p)),
             Ok(c1) => {
-                let c2 = push_assignment(body, c1, current, l, binding_rvalue(how), place).ok_or((
-                    MirLowerError::Limit,
-                    p,
-                ))?;
+                let full = (MirLowerError::Limit, p);
+                let c2 = push_assignment(body, c1, current, l, binding_rvalue(how), place).ok_or(
+                    full,
+                )?;
                 Ok((c2, current, els))
             }
         },
@@ -88,10 +88,10 @@ pub fn local_path(
         MatchingMode::Assign => match binding_local(bindings, b) {
             Err(e) => Err((e, p)),
             Ok(l) => {
-                let c1 = push_assignment(body, counts, current, l, PlaceRvalue::Copy, place).ok_or((
-                    MirLowerError::Limit,
-                    p,
-                ))?;
+                let full = (MirLowerError::Limit, p);
+                let c1 = push_assignment(body, counts, current, l, PlaceRvalue::Copy, place).ok_or(
+                    full,
+                )?;
                 Ok((c1, current, els))
             }
         },

@@ -123,6 +123,7 @@ fn constant_compared(
     match temp(image, tables, body, counts, BOOL, current) {
         Err(e) => Err((e, p)),
         Ok((c1, test)) => {
+            let full = (MirLowerError::Limit, p);
             let c2 = push_binary_assignment(
                 body,
                 c1,
@@ -131,7 +132,7 @@ fn constant_compared(
                 BinOp::Eq,
                 Left::Local(l),
                 place,
-            ).ok_or((MirLowerError::Limit, p))?;
+            ).ok_or(full)?;
             then_switch(body, c2, p, test, 1, 0, current, els)
         }
     }
@@ -163,10 +164,8 @@ pub fn constant_path(
     match temp(image, tables, body, counts, ty, current) {
         Err(e) => Err((e, p)),
         Ok((c1, l)) => {
-            let c2 = push_constant_assignment(body, c1, current, l, constant).ok_or((
-                MirLowerError::Limit,
-                p,
-            ))?;
+            let full = (MirLowerError::Limit, p);
+            let c2 = push_constant_assignment(body, c1, current, l, constant).ok_or(full)?;
             constant_compared(image, tables, body, c2, p, l, current, els, place)
         }
     }

@@ -51,10 +51,8 @@ pub fn discriminant_test(
     match discr_temp_place(image, tables, body, counts, current) {
         Err(e) => Err((e, p)),
         Ok((c1, l)) => {
-            let c2 = push_assignment(body, c1, current, l, PlaceRvalue::Discr, place).ok_or((
-                MirLowerError::Limit,
-                p,
-            ))?;
+            let full = (MirLowerError::Limit, p);
+            let c2 = push_assignment(body, c1, current, l, PlaceRvalue::Discr, place).ok_or(full)?;
             then_switch(body, c2, p, l, low, high, current, els)
         }
     }

@@ -118,10 +118,8 @@ pub fn length_test(
     match temp(image, tables, body, counts, USIZE, current) {
         Err(e) => Err((e, p)),
         Ok((c1, l)) => {
-            let c2 = push_assignment(body, c1, current, l, PlaceRvalue::Len, place).ok_or((
-                MirLowerError::Limit,
-                p,
-            ))?;
+            let full = (MirLowerError::Limit, p);
+            let c2 = push_assignment(body, c1, current, l, PlaceRvalue::Len, place).ok_or(full)?;
             length_switch(image, tables, body, c2, p, l, n, rest, current, els)
         }
     }
