@@ -32,10 +32,7 @@ pub fn integer_value(text: &[u8], from: usize, to: usize) -> Option<(u64, u64)>
 {
     let mut low: u64 = 0;
     let mut high: u64 = 0;
-    for at in from..to {
-        if text.len() <= at {
-            return Some((low, high));
-        }
+    for at in from..to.min(text.len()) {
         let b = text[at];
         if !is_digit(b) {
             continue;

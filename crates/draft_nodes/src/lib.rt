@@ -49,7 +49,7 @@ pub fn put_reference(
     put_pattern(tables, draft, at_height(c, base), row)
 }
 
-// A bound that is a constant: its list word. None where a limit is passed.
+// A bound that is a constant: its list word. No limit can be passed: it is an `Option` as those beside it are.
 pub fn put_constant(
     tables: Tables,
     draft: &mut [u16],
@@ -65,7 +65,7 @@ pub fn put_constant(
     Some(push_stack(draft, low, &words, 1))
 }
 
-// A field: its number, and its pattern's. None where a limit is passed.
+// A field: its number, and its pattern's. No limit can be passed.
 pub fn put_field(
     tables: Tables,
     draft: &mut [u16],

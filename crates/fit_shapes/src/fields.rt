@@ -98,6 +98,7 @@ fn stands_again(image: &[u8], tables: Tables, f: u16, from: u16, count: u16) -> 
 }
 
 // The fields of a Record that are there differ.
+#[inline(never)] // its frame would stand in every turn of the fit
 pub fn record_fields_differ(image: &[u8], tables: Tables, from: u16, count: u16) -> bool
     requires { Whole image.now tables × (from + 2 * count ≤ list_count image.now) }
     ensures { result ≡ record_fields_differ (map word? (listed image.now 2 from count)) }

@@ -12,6 +12,7 @@ use image::rows::{pat_at, type_at};
 use image::{PatId, Tables};
 
 // The items of a slice pattern of the type t: as many as an array has, or no more where there is a rest. Where there is none the word `rest` is 65535.
+#[inline(never)] // its frame would stand in every turn of the fit
 pub fn items_fit(image: &[u8], tables: Tables, t: u16, rest: u16, count: u16) -> bool
     requires { (valid image.now ≡ true) × Whole image.now tables × (t < type_count image.now) }
     ensures { result ≡ items_fit (ty_of image.now t).shape (tree? (tree image.now) rest) count }

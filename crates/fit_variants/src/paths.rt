@@ -13,6 +13,7 @@ use image::Tables;
 use image::kinds::PathKind;
 
 // A path of a kind, at the type t: a variant's enum, or a constant's bytes. The word b is by the kind: a variant, a binding, or a constant's operand.
+#[inline(never)] // its frame would stand in every turn of the fit
 pub fn path_fits(image: &[u8], tables: Tables, t: u16, kind: PathKind, b: u16) -> bool
     requires { (valid image.now ≡ true) × Whole image.now tables × (t < type_count image.now) × (path_holds kind image.now b ≡ true) }
     ensures { result ≡ path_fits image.now (ty_of image.now t).shape (target kind image.now b) }

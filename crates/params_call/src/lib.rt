@@ -60,7 +60,8 @@ fn params_step(
 
 // The locals of self, of the parameters and of the other bindings are made, and the parameters are lowered from the block `current` on. `params` has two words for
 // each parameter, its pattern and its type; `visits` counts how often each pattern was visited.
-// The answer: the counts, the block that goes on, and the local of the first parameter, which the others follow in order; `self_param` is self's binding and type.
+// The answer: the counts, the block that goes on, and the local of the first parameter, self or not, which the others follow in order; `self_param` is self's binding and
+// type.
 pub fn lower_params_and_bindings(
     image: &[u8],
     bindings: &mut [u16],

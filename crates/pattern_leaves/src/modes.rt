@@ -52,6 +52,7 @@ pub fn enum_test(
 }
 
 // A Slice pattern of the type ty, which has n items besides the pattern `rest`, if there is one: in Check a slice's length is tested, an array's never; any other type is refused.
+#[inline(never)] // its frame would stand in every turn of the walk
 pub fn slice_test(
     image: &[u8],
     tables: Tables,
@@ -117,6 +118,7 @@ pub fn bind(
 
 // All alternatives can fail, and `left` is where the last of them does not match: it goes on at the else in Check, and cannot be reached beyond it. What matched
 // goes on at `join`.
+#[inline(never)] // its frame would stand in every turn of the walk
 pub fn alternatives_end(
     body: &mut [u16; BODY_WORDS],
     counts: Counts,

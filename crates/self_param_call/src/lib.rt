@@ -67,7 +67,7 @@ fn self_step(
 }
 
 // The binding b is filled with a copy of the local l at the end of the block `current`.
-// The answer: the counts, the block where a match goes on, and the one where a mismatch does.
+// The answer: the counts, the block that goes on, and no block for a mismatch: self always matches.
 pub fn match_self_param(
     image: &[u8],
     bindings: &[u16],

@@ -20,8 +20,8 @@ fn is_in_integer(b: u8) -> bool
 fn integer_run(bytes: &[u8]) -> usize
     ensures { result ≡ run in_integer bytes.now }
 {
-    for (at, b) in bytes.iter().enumerate() {
-        if !is_in_integer(*b) {
+    for at in 0..bytes.len() {
+        if !is_in_integer(bytes[at]) {
             return at;
         }
     }
