@@ -4,16 +4,9 @@
 ghost use Rattle.std.specs.Prelude.{◌≡◌};
 ghost use Rattle.pattern_words.specs.Words.{same_word};
 
-// Two words are the same: as long, and byte by byte. Eight bytes are compared before all are, since names of one length mostly differ in these.
+// Two words are the same: as long, and byte by byte.
 pub fn is_same_word(a: &[u8], b: &[u8]) -> bool
     ensures { result ≡ same_word a.now b.now }
 {
-    if a.len() != b.len() {
-        return false;
-    }
-    let early = b.len().min(8);
-    if a[..early] != b[..early] {
-        return false;
-    }
     a == b
 }
